@@ -1,0 +1,4 @@
+pub mod Search
+pub mod States
+pub mod Machines
+pub mod Theorems

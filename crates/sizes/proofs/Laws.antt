@@ -1,0 +1,74 @@
+-- What accepted sizes and sequences tell. Assumes nothing.
+use mathlib.Core.Path.{_≡_, refl, sym, ap, _∙_}
+use mathlib.Core.Bool.{Bool, true, false, not, _||_}
+use mathlib.Core.List.{List}
+use Prim.Native.Nat.{ℕ, _+_, _*_, _%_, _^_, _≤_, _<_, zero-le}
+use native.Mathlib.Nat.{one-mul}
+use native.Mathlib.Omega.{arith}
+use lib.ListN.{length, getD}
+use lib.Pow.{shl-exact}
+use lib.Dec.{ltb, leb, eqb, lit<}
+use borrow.Author.Tests.{ltb-false, leb-false, eqb-true}
+use Rattle.verdict.specs.Figures.{answer, refuse, refuseFirst}
+use Rattle.verdict.specs.declared.Figures.{Figures}
+use Rattle.verdict.proofs.Laws.{both-accept, passed, none-found}
+use Rattle.sizes.specs.Sizes.{outside, sizesChecked, wordsChecked, sequenceChecked}
+use Rattle.sizes.specs.Sized.{Sized, Fed}
+
+-- ---- limits
+
+either-false : (s t : Bool) → (s || t) ≡ false → (s ≡ false) × (t ≡ false)
+either-false true true e = (e, e)
+either-false true false e = (e, refl)
+either-false false true e = (refl, e)
+either-false false false e = (refl, refl)
+
+pub inside : (low high x : ℕ) → outside low high x ≡ false → (low ≤ x) × (x ≤ high)
+unfolding outside
+inside low high x e =
+    let s = either-false (ltb x low) (ltb high x) e in
+    (ltb-false x low (s .0), ltb-false high x (s .1))
+
+-- `1 << n`, at 64 bits
+pub power-is : (n : ℕ) → n ≤ 16 → (1 * 2 ^ n) % 2 ^ 64 ≡ 2 ^ n
+power-is n h = shl-exact {a = 1} 1 n 64 (lit< tt) (omega arith) ∙ one-mul (2 ^ n)
+
+-- ---- acceptance
+
+pub sized : (most n m T p : ℕ) → sizesChecked most n m T ≡ answer 0 p → Sized most n m T
+unfolding sizesChecked
+sized most n m T p e =
+    let e₁ = passed (outside 1 most n) 2 0 _ p refl e in
+    let e₂ = passed (outside 1 16 m) 2 2 _ p refl (e₁ .1) in
+    let e₃ = passed (outside 1 16 T) 2 4 _ p refl (e₂ .1) in
+    let e₄ = passed (ltb 16 (n * T)) 2 4 _ p refl (e₃ .1) in
+    let i₁ = inside 1 most n (e₁ .0) in
+    let i₂ = inside 1 16 m (e₂ .0) in
+    let i₃ = inside 1 16 T (e₃ .0) in
+    record {
+      inputs-from = i₁ .0;
+      inputs-to = i₁ .1;
+      outputs-from = i₂ .0;
+      outputs-to = i₂ .1;
+      frames-from = i₃ .0;
+      frames-to = i₃ .1;
+      bits-to = ltb-false 16 (n * T) (e₄ .0);
+    }
+
+not-false : (t : Bool) → not t ≡ false → t ≡ true
+not-false true e = refl
+not-false false e = sym e
+
+-- the words are T, each below 2^n, there is room for T, and T is the place
+pub fed : (n T : ℕ) (words : List ℕ) (room p : ℕ) → sequenceChecked n T words room ≡ answer 0 p → Fed n T words × (T ≤ room) × (p ≡ T)
+unfolding sequenceChecked wordsChecked
+fed n T words room p e =
+    let e₁ = passed (not (eqb (length words) T)) 12 (length words) _ p refl e in
+    let l : length words ≡ T = eqb-true _ T (not-false _ (e₁ .0)) in
+    let e₂ = both-accept (wordsChecked n words) _ p (e₁ .1) in
+    let e₃ = passed (ltb room T) 7 T _ p refl (e₂ .2) in
+    let f = none-found (λ t. leb (2 ^ n) (getD words t 0)) 9 (λ t. t) (answer 0 0) (e₂ .0) 0 (length words) refl (e₂ .1) in (
+      record { as-many = l; below = λ t h. leb-false _ _ (f .0 t zero-le (omega arith)) },
+      ltb-false room T (e₃ .0),
+      sym (ap (λ (f : Figures). f .place) (e₃ .1)),
+    )

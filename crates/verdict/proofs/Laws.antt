@@ -1,0 +1,134 @@
+-- Laws of judgements: one after the other, the first that refuses, and what acceptance tells. Assumes nothing.
+use mathlib.Core.Path.{_≡_, refl, sym, ap, _∙_}
+use mathlib.Core.Bool.{Bool, true, false}
+use mathlib.Core.List.{List, _++_}
+use Prim.Native.Nat.{ℕ, zero, suc, _+_, _-_, _≤_, _<_}
+use native.Mathlib.Numerals.{add-one}
+use native.Mathlib.Omega.{arith}
+use native.Mathlib.Decide.{decLt}
+use lib.Dec.{eqb}
+use lib.ListN.{drop}
+use borrow.Author.Tests.{eqb-true, eqb-false, ne-eqb}
+use Rattle.verdict.specs.Figures.{answer, refusalFigures, figures, pick, refuse, andThen, refuseFirst, firstRefusal, resultAfter}
+use Rattle.verdict.specs.declared.Figures.{Figures}
+use Rattle.verdict.specs.declared.Verdict.{Verdict}
+use Rattle.verdict.specs.declared.Verdict.the-variants.{Accepted, Refused}
+use Rattle.verdict.specs.declared.Refusal.{Refusal}
+use Rattle.verdict.specs.declared.Refusal.the-variants.{Length, Size, Literal, LookAhead, Entry, Scratch, Room, Gates, Word, End, Position, Count}
+
+-- ---- stages one after the other
+
+refusal-number : (r : Refusal) → eqb (refusalFigures r .number) 0 ≡ false
+refusal-number (Length p) = refl
+refusal-number (Size p) = refl
+refusal-number (Literal p) = refl
+refusal-number (LookAhead p) = refl
+refusal-number (Entry p) = refl
+refusal-number (Scratch p) = refl
+refusal-number (Room p) = refl
+refusal-number (Gates p) = refl
+refusal-number (Word p) = refl
+refusal-number (End p) = refl
+refusal-number (Position p) = refl
+refusal-number (Count p) = refl
+
+-- no refusal is an acceptance
+pub never : (r : Refusal) (p : ℕ) → refusalFigures r ≡ answer 0 p → ⊥
+never r p e = eqb-false _ 0 (refusal-number r) (ap (λ (f : Figures). f .number) e)
+
+-- a stage that refuses is the verdict
+pub stop : (x : Verdict) (f g : Figures) (r : Refusal) → figures x ≡ f → x ≡ Refused r → figures x ≡ andThen f g
+stop x f g r e q = rw (← e, q, refusal-number r)
+
+-- after a stage that accepts, the next one is
+pub go-on : (x : Verdict) (f g y : Figures) (p : ℕ) → figures x ≡ f → x ≡ Accepted p → y ≡ g → y ≡ andThen f g
+go-on x f g y p e q h = rw (← e, q) h
+
+-- what a stage's verdict tells of its definition
+pub accepts : (x : Verdict) (f : Figures) (p : ℕ) → figures x ≡ f → x ≡ Accepted p → f ≡ answer 0 p
+accepts x f p e q = sym e ∙ ap figures q
+
+-- ---- what acceptance tells
+
+-- both stages accept
+pub both-accept : (f g : Figures) (p : ℕ) → andThen f g ≡ answer 0 p → (q : ℕ) × (f ≡ answer 0 q) × (g ≡ answer 0 p)
+both-accept f g p e = go (eqb (f .number) 0) refl e
+  where
+    go : (t : Bool) → eqb (f .number) 0 ≡ t → pick t g f ≡ answer 0 p → (q : ℕ) × (f ≡ answer 0 q) × (g ≡ answer 0 p)
+    go true q h = (f .place, ap (λ (n : ℕ). answer n (f .place)) (eqb-true _ 0 q), h)
+    go false q h = absurd (eqb-false _ 0 q (ap (λ (f : Figures). f .number) h))
+
+-- the test of a judgement that accepts fails
+pub passed : (t : Bool) (k p : ℕ) (f : Figures) (q : ℕ) → eqb k 0 ≡ false → refuse t k p f ≡ answer 0 q → (t ≡ false) × (f ≡ answer 0 q)
+passed true k p f q z e = absurd (eqb-false k 0 z (ap (λ (f : Figures). f .number) e))
+passed false k p f q z e = (refl, e)
+
+-- ---- the first index at which a test holds: a loop that looks from k on, of n in all
+
+module _ (test : ℕ → Bool) (number : ℕ) (place : ℕ → ℕ) (rest : Figures) where
+  step : (k c c′ : ℕ) → c ≡ suc c′ → refuseFirst test number place rest k c ≡ refuse (test k) number (place k) (refuseFirst test number place rest (suc k) c′)
+  unfolding refuseFirst
+  step k c c′ e = rw e
+
+  pub first-here : (k n : ℕ) → k < n → test k ≡ true → refuseFirst test number place rest k (n - k) ≡ answer number (place k)
+  first-here k n h t = step k (n - k) (n - suc k) (omega arith) ∙ rw t
+
+  pub first-later : (k n : ℕ) → k < n → test k ≡ false → refuseFirst test number place rest k (n - k) ≡ refuseFirst test number place rest (k + 1) (n - (k + 1))
+  first-later k n h t = step k (n - k) (n - suc k) (omega arith) ∙ rw (t, add-one)
+
+  pub first-none : (k n : ℕ) → n ≤ k → refuseFirst test number place rest k (n - k) ≡ rest
+  unfolding refuseFirst
+  first-none k n h = let z : n - k ≡ 0 = omega arith in rw z
+
+  -- where it accepts, the test fails at each index, and the rest accepts
+  pub none-found : (p k c : ℕ) → eqb number 0 ≡ false → refuseFirst test number place rest k c ≡ answer 0 p
+      → ((j : ℕ) → k ≤ j → j < k + c → test j ≡ false) × (rest ≡ answer 0 p)
+  unfolding refuseFirst
+  none-found p k zero z e = ((λ j lo hi. absurd (omega arith)), e)
+  none-found p k (suc c) z e =
+      let s = passed (test k) number (place k) _ p z e in
+      let r = none-found p (suc k) c z (s .1) in
+      ((λ j lo hi. at j (decLt k j) lo hi (s .0) (r .0)), r .1)
+    where
+      at : (j : ℕ) → Dec (k < j) → k ≤ j → j < k + suc c → test k ≡ false → ((j : ℕ) → suc k ≤ j → j < suc k + c → test j ≡ false) → test j ≡ false
+      at j (yes l) lo hi q f = f j l (omega arith)
+      at j (no l) lo hi q f = let e : j ≡ k = omega arith in rw e q
+
+-- ---- the first judgement of a row that refuses: a loop that judges from k on, of n in all
+
+module _ (f : ℕ → Figures) where
+  turn : (k c c′ : ℕ) → c ≡ suc c′ → firstRefusal f k c ≡ andThen (f k) (firstRefusal f (suc k) c′)
+  unfolding firstRefusal
+  turn k c c′ e = rw e
+
+  pub row-stop : (x : Verdict) (r : Refusal) (k n : ℕ) → k < n → figures x ≡ f k → x ≡ Refused r → figures x ≡ firstRefusal f k (n - k)
+  row-stop x r k n h e q = stop x (f k) _ r e q ∙ sym (turn k (n - k) (n - suc k) (omega arith))
+
+  pub row-on : (x : Verdict) (p k n : ℕ) → k < n → figures x ≡ f k → x ≡ Accepted p → firstRefusal f k (n - k) ≡ firstRefusal f (k + 1) (n - (k + 1))
+  row-on x p k n h e q = turn k (n - k) (n - suc k) (omega arith) ∙ rw (← e, q, add-one)
+
+  pub row-end : (k n : ℕ) → n ≤ k → firstRefusal f k (n - k) ≡ answer 0 0
+  unfolding firstRefusal
+  row-end k n h = let z : n - k ≡ 0 = omega arith in rw z
+
+  -- where the row accepts, each judgement does
+  pub row-accepts : (p k c : ℕ) → firstRefusal f k c ≡ answer 0 p → (j : ℕ) → k ≤ j → j < k + c → (q : ℕ) × (f j ≡ answer 0 q)
+  unfolding firstRefusal
+  row-accepts p k zero e j lo hi = absurd (omega arith)
+  row-accepts p k (suc c) e j lo hi =
+      let b = both-accept (f k) (firstRefusal f (suc k) c) p e in
+      one (decLt k j) (b .0, b .1) (row-accepts p (suc k) c (b .2) j)
+    where
+      one : Dec (k < j) → (q : ℕ) × (f k ≡ answer 0 q) → (suc k ≤ j → j < suc k + c → (q : ℕ) × (f j ≡ answer 0 q)) → (q : ℕ) × (f j ≡ answer 0 q)
+      one (yes l) a g = g l (omega arith)
+      one (no l) a g = let e : j ≡ k = omega arith in rw e a
+
+-- ---- result buffers
+
+-- a refusal leaves the result as it was
+pub kept : (f : Figures) (r : Refusal) (defined before : List ℕ) → refusalFigures r ≡ f → before ≡ resultAfter f defined before
+kept f r defined before e = rw (← e, refusal-number r)
+
+-- an acceptance leaves what is defined, and the rest as it was
+pub left : (f : Figures) (p : ℕ) (defined before after : List ℕ) → answer 0 p ≡ f → after ≡ defined ++ drop p before → after ≡ resultAfter f defined before
+left f p defined before after e h = rw (← e) h

@@ -1,0 +1,62 @@
+// What every call answers: accepted with a place, or refused for one of document 01's reasons, each with its place.
+ghost use mathlib.Core.Path.{_≡_};
+ghost use Rattle.verdict.specs.Figures.{figures, refusalFigures};
+
+pub enum Verdict {
+    Accepted(usize),
+    Refused(Refusal),
+}
+
+// A case for each of document 01's numbers 1 to 12, in that order. Its value is the place.
+pub enum Refusal {
+    Length(usize),
+    Size(usize),
+    Literal(usize),
+    LookAhead(usize),
+    Entry(usize),
+    Scratch(usize),
+    Room(usize),
+    Gates(usize),
+    Word(usize),
+    End(usize),
+    Position(usize),
+    Count(usize),
+}
+
+// Document 01's number and place.
+pub struct Figures {
+    pub number: usize,
+    pub place: usize,
+}
+
+impl Refusal {
+    pub fn figures(self) -> Figures
+        ensures { λ r. ⌜ r ≡ refusalFigures self ⌝ }
+    {
+        match self {
+            Refusal::Length(place) => Figures { number: 1, place },
+            Refusal::Size(place) => Figures { number: 2, place },
+            Refusal::Literal(place) => Figures { number: 3, place },
+            Refusal::LookAhead(place) => Figures { number: 4, place },
+            Refusal::Entry(place) => Figures { number: 5, place },
+            Refusal::Scratch(place) => Figures { number: 6, place },
+            Refusal::Room(place) => Figures { number: 7, place },
+            Refusal::Gates(place) => Figures { number: 8, place },
+            Refusal::Word(place) => Figures { number: 9, place },
+            Refusal::End(place) => Figures { number: 10, place },
+            Refusal::Position(place) => Figures { number: 11, place },
+            Refusal::Count(place) => Figures { number: 12, place },
+        }
+    }
+}
+
+impl Verdict {
+    pub fn figures(self) -> Figures
+        ensures { λ r. ⌜ r ≡ figures self ⌝ }
+    {
+        match self {
+            Verdict::Accepted(place) => Figures { number: 0, place },
+            Verdict::Refused(refusal) => refusal.figures(),
+        }
+    }
+}

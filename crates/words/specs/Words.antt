@@ -1,0 +1,46 @@
+-- Numbers in byte lists, low byte first, stated once over the width in bytes. Document 01's file words are of width 2.
+use mathlib.Core.Path.{_≡_}
+use mathlib.Core.List.{List, [], _∷_, _++_}
+use Prim.Native.Nat.{ℕ, zero, suc, _+_, _*_, _/_, _%_, _^_, _<_}
+use lib.ListN.{length, getD, drop}
+use lib.Seq.{sets}
+
+-- the number whose `width` bytes stand in b from byte offset i on
+unfoldable pub numberAt : (width : ℕ) → List ℕ → ℕ → ℕ
+numberAt zero b i = 0
+numberAt (suc k) b i = getD b i 0 + 256 * numberAt k b (suc i)
+
+-- the lowest `width` bytes of x
+unfoldable pub bytesOf : (width : ℕ) → ℕ → List ℕ
+bytesOf zero x = []
+bytesOf (suc k) x = x % 256 ∷ bytesOf k (x / 256)
+
+-- the bytes of all numbers of a list, one after the other
+unfoldable pub allBytes : (width : ℕ) → List ℕ → List ℕ
+unfolding bytesOf
+allBytes width [] = []
+allBytes width (x ∷ xs) = bytesOf width x ++ allBytes width xs
+
+-- each number of the list fits in `width` bytes
+pub data Fit (width : ℕ) : List ℕ → Type 0 where
+  none : Fit width []
+  more : {x : ℕ} {xs : List ℕ} → x < 256 ^ width → Fit width xs → Fit width (x ∷ xs)
+
+-- the buffer b after the numbers xs were written to its front; the rest is as before
+unfoldable pub written : (width : ℕ) (xs b : List ℕ) → List ℕ
+unfolding allBytes
+written width xs b = allBytes width xs ++ drop (width * length xs) b
+
+-- the buffer b after x was stored at byte offset i
+unfoldable pub stored : (width : ℕ) (b : List ℕ) (i x : ℕ) → List ℕ
+unfolding bytesOf
+stored width b i x = sets b i (bytesOf width x)
+
+-- the 16-bit word at byte offset i, and the bytes of 16-bit words
+unfoldable pub wordAt : List ℕ → ℕ → ℕ
+unfolding numberAt
+wordAt b i = numberAt 2 b i
+
+unfoldable pub wordBytes : List ℕ → List ℕ
+unfolding allBytes
+wordBytes ws = allBytes 2 ws

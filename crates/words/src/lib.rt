@@ -1,0 +1,24 @@
+// Words of 16 bits in byte slices, low byte first.
+ghost use mathlib.Core.Path.{_≡_};
+ghost use Prim.Native.Nat.{_+_, _<_};
+ghost use lib.ListN.{length};
+ghost use Rattle.words.specs.Words.{wordAt, stored};
+
+// The word at byte offset `at`.
+pub fn read(bytes: &[u8], at: usize) -> usize
+    requires { ⌜ at + 1 < length (now bytes) ⌝ }
+    ensures { λ r. ⌜ (r ≡ wordAt (now (bytes .entry)) at) × (r < 65536) ⌝ }
+{
+    let low = bytes[at] as usize;
+    let high = bytes[at + 1] as usize;
+    low + 256 * high
+}
+
+// Stores a word at byte offset `at`.
+pub fn store(bytes: &mut [u8], at: usize, word: u16)
+    requires { ⌜ at + 1 < length (now bytes) ⌝ }
+    ensures { λ _. ⌜ now (bytes .exit) ≡ stored 2 (now (bytes .entry)) at word ⌝ }
+{
+    bytes[at] = (word % 256) as u8;
+    bytes[at + 1] = (word / 256 % 256) as u8;
+}
