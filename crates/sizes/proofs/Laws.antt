@@ -55,7 +55,7 @@ sized most n m T p e =
       bits-to = ltb-false 16 (n * T) (e₄ .0);
     }
 
-not-false : (t : Bool) → not t ≡ false → t ≡ true
+pub not-false : (t : Bool) → not t ≡ false → t ≡ true
 not-false true e = refl
 not-false false e = sym e
 

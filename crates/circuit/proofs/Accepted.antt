@@ -1,0 +1,74 @@
+-- What an accepted circuit is known to be. Assumes nothing.
+use mathlib.Core.Path.{_≡_, refl, sym, ap, _∙_}
+use mathlib.Core.Bool.{Bool, true, false, not}
+use mathlib.Core.List.{List}
+use Prim.Native.Nat.{ℕ, _+_, _*_, _≤_, _<_, zero-le}
+use native.Mathlib.Omega.{arith}
+use lib.ListN.{length}
+use lib.Dec.{ltb, eqb}
+use borrow.Author.Tests.{eqb-true}
+use Rattle.verdict.specs.Figures.{answer, andThen}
+use Rattle.verdict.proofs.Laws.{both-accept, passed, none-found}
+use Rattle.sizes.specs.Sizes.{inputs, outputs, frames, outside, sizesChecked}
+use Rattle.sizes.specs.Sized.{Sized}
+use Rattle.sizes.proofs.Laws.{inside, sized, not-false}
+use Rattle.circuit.specs.Circuit.{gates, leftsAt, rightsAt, circuitLength, literalAt, allInputs, allOutputs, admissible, headChecked, literalsChecked, lookAheadChecked, looksAhead, checked}
+use Rattle.circuit.specs.Legal.{Headed, Legal}
+
+-- the limits hold for a larger limit on n
+pub widen : {a c n m T : ℕ} → a ≤ c → Sized a n m T → Sized c n m T
+widen h z = record {
+  inputs-from = z .inputs-from;
+  inputs-to = omega arith;
+  outputs-from = z .outputs-from;
+  outputs-to = z .outputs-to;
+  frames-from = z .frames-from;
+  frames-to = z .frames-to;
+  bits-to = z .bits-to;
+}
+
+-- what remains of the head's judgement once the sizes are accepted
+module _ (b : List ℕ) (p : ℕ) where
+  pub headed : (most : ℕ) → most ≤ 16 → headChecked most b ≡ answer 0 p → Headed b × Sized most (inputs b) (outputs b) (frames b)
+  unfolding headChecked circuitLength allInputs
+  headed most h e =
+      let e₁ = passed (ltb (length b) 8) 1 (length b) _ p refl e in
+      let e₂ = both-accept (sizesChecked most (inputs b) (outputs b) (frames b)) _ p (e₁ .1) in
+      let e₃ = passed (outside (allOutputs b) 4096 (gates b)) 2 6 _ p refl (e₂ .2) in
+      let e₄ = passed (not (eqb (length b) (8 + 4 * gates b))) 1 (length b) _ p refl (e₃ .1) in
+      let z = sized most _ _ _ (e₂ .0) (e₂ .1) in
+      let g = inside (allOutputs b) 4096 (gates b) (e₃ .0) in (
+        record { sizes = widen h z; inputs-to = z .bits-to; outputs-to = g .0; gates-to = g .1; whole = eqb-true _ _ (not-false _ (e₄ .0)) },
+        z,
+      )
+
+-- each literal of an array that is accepted is admissible
+pub all-admissible : (b : List ℕ) (start p : ℕ) → literalsChecked b start ≡ answer 0 p → (g : ℕ) → g < gates b → admissible b g (literalAt b start g) ≡ true
+unfolding literalsChecked
+all-admissible b start p e g h =
+    not-false _
+    (none-found (λ g. not (admissible b g (literalAt b start g))) 3 (λ g. start + 2 * g) (answer 0 0) p 0 (gates b) refl e .0 g zero-le (omega arith))
+
+pub legal : (b : List ℕ) (p q : ℕ) → literalsChecked b (leftsAt b) ≡ answer 0 p → literalsChecked b (rightsAt b) ≡ answer 0 q → Legal b
+legal b p q el er = record { left = all-admissible b (leftsAt b) p el; right = all-admissible b (rightsAt b) q er }
+
+-- no output looks ahead
+pub none-ahead : (b : List ℕ) (p : ℕ) → lookAheadChecked b ≡ answer 0 p → (q : ℕ) → q < allOutputs b → looksAhead b q ≡ false
+unfolding lookAheadChecked
+none-ahead b p e q h = none-found (looksAhead b) 4 (λ q. q) (answer 0 0) p 0 (allOutputs b) refl e .0 q zero-le (omega arith)
+
+-- all that a circuit's acceptance tells
+pub record Accepted (b : List ℕ) : Type 0 where
+  pub head : Headed b
+  pub sizes : Sized 8 (inputs b) (outputs b) (frames b)
+  pub literals : Legal b
+  pub causal : (q : ℕ) → q < allOutputs b → looksAhead b q ≡ false
+
+pub accepted : (b : List ℕ) (p : ℕ) → checked b ≡ answer 0 p → Accepted b
+unfolding checked
+accepted b p e =
+    let h = both-accept (headChecked 8 b) _ p e in
+    let l = both-accept (literalsChecked b (leftsAt b)) _ p (h .2) in
+    let r = both-accept (literalsChecked b (rightsAt b)) (lookAheadChecked b) p (l .2) in
+    let k = headed b (h .0) 8 (omega arith) (h .1) in
+    record { head = k .0; sizes = k .1; literals = legal b (l .0) (r .0) (l .1) (r .1); causal = none-ahead b p (r .2) }

@@ -1,0 +1,5 @@
+pub mod Laws
+pub mod Accepted
+pub mod Stages
+pub mod Causal
+pub mod Simulation

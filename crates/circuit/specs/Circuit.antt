@@ -1,0 +1,132 @@
+-- The circuit format (document 01's chart), its judgement and its simulation. Gates, inputs and outputs are counted from 0 here, and from 1
+-- in document 01; frames are counted from 1 where a latest frame is meant, and from 0 where an output word is.
+use Prim.Native.Nat.{ℕ, zero, suc, _+_, _*_, _-_, _/_, _%_, max}
+use mathlib.Core.List.{List, [], _∷_}
+use mathlib.Core.Bool.{Bool, false, not, _&&_, cond}
+use lib.ListN.{length, getD, take, drop}
+use lib.Dec.{ltb, leb, eqb}
+use Rattle.words.specs.Words.{wordAt}
+use Rattle.verdict.specs.Figures.{answer, refuse, andThen, refuseFirst, resultAfter}
+use Rattle.verdict.specs.declared.Figures.{Figures}
+use Rattle.sizes.specs.Sizes.{inputs, outputs, frames, outside, sizesChecked, sequenceChecked}
+use Rattle.circuit.specs.Lists.{grown, listed, bit, packed}
+
+-- ---- where things stand
+
+-- G of document 01
+unfoldable pub gates : List ℕ → ℕ
+gates b = wordAt b 6
+
+-- byte offsets of the left and of the right literals, and the length of the whole
+unfoldable pub leftsAt : List ℕ → ℕ
+leftsAt b = 8
+
+unfoldable pub rightsAt : List ℕ → ℕ
+rightsAt b = 8 + 2 * gates b
+
+unfoldable pub circuitLength : List ℕ → ℕ
+circuitLength b = 8 + 4 * gates b
+
+-- gate g's literal of the array at byte offset `start`
+unfoldable pub literalAt : List ℕ → (start g : ℕ) → ℕ
+literalAt b start g = wordAt b (start + 2 * g)
+
+-- how many inputs and outputs there are over all frames
+unfoldable pub allInputs : List ℕ → ℕ
+allInputs b = inputs b * frames b
+
+unfoldable pub allOutputs : List ℕ → ℕ
+allOutputs b = outputs b * frames b
+
+-- the signal of gate g: the constant and all inputs come before the gates
+unfoldable pub gateSignal : List ℕ → (g : ℕ) → ℕ
+gateSignal b g = 1 + allInputs b + g
+
+-- the signal of output q, counted over all frames: the last gates are the outputs
+unfoldable pub outputSignal : List ℕ → (q : ℕ) → ℕ
+outputSignal b q = gateSignal b (gates b - allOutputs b + q)
+
+-- the frame, from 1, of item i of a row with so many items to a frame: of an input, or of an output
+unfoldable pub frameOf : (per i : ℕ) → ℕ
+frameOf per i = suc (i / per)
+
+-- ---- the check
+
+-- 1 (head), 2, 1; `most` is the largest n
+unfoldable pub headChecked : (most : ℕ) → List ℕ → Figures
+headChecked most b =
+    refuse (ltb (length b) 8) 1 (length b)
+    (andThen (sizesChecked most (inputs b) (outputs b) (frames b))
+    (refuse (outside (allOutputs b) 4096 (gates b)) 2 6
+    (refuse (not (eqb (length b) (circuitLength b))) 1 (length b)
+    (answer 0 0))))
+
+-- a literal of gate g is admissible: it is of an earlier signal
+unfoldable pub admissible : List ℕ → (g literal : ℕ) → Bool
+admissible b g literal = ltb literal (2 * gateSignal b g)
+
+-- 3, of the literals at `start`
+unfoldable pub literalsChecked : List ℕ → (start : ℕ) → Figures
+literalsChecked b start = refuseFirst (λ g. not (admissible b g (literalAt b start g))) 3 (λ g. start + 2 * g) (answer 0 0) 0 (gates b)
+
+-- the latest frames of the constant and the inputs
+unfoldable pub inputFrames : (n count : ℕ) → List ℕ
+inputFrames n count = listed (0 ∷ []) (frameOf n) count
+
+-- the later of the latest frames of gate g's operands, given those of the signals before it
+unfoldable pub laterFrame : List ℕ → List ℕ → (g : ℕ) → ℕ
+laterFrame b fs g = max (getD fs (literalAt b (leftsAt b) g / 2) 0) (getD fs (literalAt b (rightsAt b) g / 2) 0)
+
+-- the latest frames of the constant, the inputs and the first k gates
+unfoldable pub latestFrames : List ℕ → (k : ℕ) → List ℕ
+latestFrames b k = grown (inputFrames (inputs b) (allInputs b)) (laterFrame b) k
+
+-- output q looks ahead: its latest frame is later than its own
+unfoldable pub looksAhead : List ℕ → (q : ℕ) → Bool
+looksAhead b q = ltb (frameOf (outputs b) q) (getD (latestFrames b (gates b)) (outputSignal b q) 0)
+
+-- 4
+unfoldable pub lookAheadChecked : List ℕ → Figures
+lookAheadChecked b = refuseFirst (looksAhead b) 4 (λ q. q) (answer 0 0) 0 (allOutputs b)
+
+-- 1 (head), 2, 1, 3, 4
+unfoldable pub checked : List ℕ → Figures
+checked b =
+    andThen (headChecked 8 b)
+    (andThen (literalsChecked b (leftsAt b))
+    (andThen (literalsChecked b (rightsAt b))
+    (lookAheadChecked b)))
+
+-- ---- simulation ("playing")
+
+-- the values of the constant and of `count` inputs, n to a word
+unfoldable pub inputValues : (words : List ℕ) (n count : ℕ) → List Bool
+inputValues words n count = listed (false ∷ []) (λ i. bit (getD words (i / n) 0) (i % n)) count
+
+-- a literal's value, given the signals' values
+unfoldable pub literalValue : List Bool → (literal : ℕ) → Bool
+literalValue vs literal = cond (eqb (literal % 2) 1) (not (getD vs (literal / 2) false)) (getD vs (literal / 2) false)
+
+-- a gate is the AND of its two literals
+unfoldable pub gateValue : List ℕ → List Bool → (g : ℕ) → Bool
+gateValue b vs g = literalValue vs (literalAt b (leftsAt b) g) && literalValue vs (literalAt b (rightsAt b) g)
+
+-- the values of the constant, the inputs and the first k gates
+unfoldable pub signalValues : List ℕ → (words : List ℕ) (k : ℕ) → List Bool
+signalValues b words k = grown (inputValues words (inputs b) (allInputs b)) (gateValue b) k
+
+-- the output word of frame t, from 0
+unfoldable pub outputWord : List ℕ → (words : List ℕ) (t : ℕ) → ℕ
+outputWord b words t = packed (take (outputs b) (drop (outputSignal b (outputs b * t)) (signalValues b words (gates b))))
+
+-- the circuit's outputs on a sequence
+unfoldable pub outputWords : List ℕ → (words : List ℕ) → List ℕ
+outputWords b words = listed [] (outputWord b words) (frames b)
+
+-- the check, then 12, 9, 7
+unfoldable pub simulated : List ℕ → (words : List ℕ) (room : ℕ) → Figures
+simulated b words room = andThen (checked b) (sequenceChecked (inputs b) (frames b) words room)
+
+-- what the result holds after a simulation
+unfoldable pub simulationResult : List ℕ → (words before : List ℕ) → List ℕ
+simulationResult b words before = resultAfter (simulated b words (length before)) (outputWords b words) before

@@ -1,0 +1,4 @@
+pub mod Lists
+pub mod Circuit
+pub mod Legal
+pub mod Theorems

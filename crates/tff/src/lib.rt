@@ -1,0 +1,45 @@
+// The C interface. Slices pass as pointer and length. `answer` receives document 01's number and place in its first two numbers, then the
+// further values named; the rest of it stays as before. Where `answer` is too short for that, nothing at all is changed.
+use verdict::Verdict;
+ghost use mathlib.Core.Path.{_≡_};
+ghost use Prim.Native.Nat.{_≤_};
+ghost use lib.ListN.{length};
+ghost use Rattle.verdict.specs.Figures.{figures};
+ghost use Rattle.circuit.specs.Circuit.{checked, simulated, simulationResult};
+ghost use Rattle.tff.specs.Answer.{answered, ifRoom};
+
+// Puts the figures of a verdict into `answer`, which has room for them.
+fn put(verdict: Verdict, answer: &mut [u64])
+    requires { ⌜ 2 ≤ length (now answer) ⌝ }
+    ensures { λ _. ⌜ now (answer .exit) ≡ answered (figures verdict) (now (answer .entry)) ⌝ }
+{
+    let figures = verdict.figures();
+    answer[0] = figures.number as u64;
+    answer[1] = figures.place as u64;
+}
+
+#[no_mangle]
+pub extern "C" fn tff_check_circuit(circuit: &[u8], answer: &mut [u64])
+    ensures { λ _. ⌜ now (answer .exit) ≡ ifRoom (now (answer .entry)) 2 (answered (checked (now (circuit .entry))) (now (answer .entry))) (now (answer .entry)) ⌝ }
+{
+    if answer.len() < 2 {
+        return;
+    }
+    put(circuit::check(circuit), answer);
+}
+
+#[no_mangle]
+pub extern "C" fn tff_simulate(
+    circuit: &[u8],
+    words: &[u16],
+    result: &mut [u16],
+    answer: &mut [u64],
+)
+    ensures answer { λ _. ⌜ now (answer .exit) ≡ ifRoom (now (answer .entry)) 2 (answered (simulated (now (circuit .entry)) (now (words .entry)) (length (now (result .entry)))) (now (answer .entry))) (now (answer .entry)) ⌝ }
+    ensures result { λ _. ⌜ now (result .exit) ≡ ifRoom (now (answer .entry)) 2 (simulationResult (now (circuit .entry)) (now (words .entry)) (now (result .entry))) (now (result .entry)) ⌝ }
+{
+    if answer.len() < 2 {
+        return;
+    }
+    put(circuit::simulate(circuit, words, result), answer);
+}
