@@ -2,14 +2,14 @@
 use mathlib.Core.Path.{_≡_, refl, sym, ap, ap₂, _∙_, subst}
 use mathlib.Core.List.{List, [], _∷_, _++_, append-assoc, append-nil}
 use Prim.Native.Nat.{ℕ, zero, suc, _+_, _*_, _/_, _%_, _^_, _≤_, _<_}
-use native.Mathlib.Nat.{mul-zero, mul-suc, pow-zero, pow-suc, div-lt-iff-lt-mul, div-add-mod', mul-le-mul-left}
+use native.Mathlib.Nat.{mul-zero, mul-suc, pow-zero, pow-suc, div-lt-iff-lt-mul, div-add-mod', mul-add}
 use native.Mathlib.Numerals.{add-one}
 use native.Mathlib.Omega.{arith}
 use lib.Arith.{lt-one}
 use lib.Dec.{lit<}
-use lib.ListN.{length, getD, take, drop, length-append, length-drop, List·getD-append}
+use lib.ListN.{length, getD, take, drop, length-append, length-take, length-drop, take-append-drop}
 use lib.Seq.{sets, sets-eq, getD-drop, getD-take, getD-append-add, drop-drop, drop-append-add, take-at, drop-at}
-use Rattle.words.specs.Words.{numberAt, bytesOf, allBytes, Fit, none, more, written, stored, wordAt, wordBytes}
+use Rattle.words.specs.Words.{numberAt, bytesOf, allBytes, Fit, none, more, stored, wordAt, wordBytes}
 
 -- ---- one number
 
@@ -110,31 +110,49 @@ pub fit-at : {k : ℕ} (xs : List ℕ) → ((i : ℕ) → i < length xs → getD
 fit-at [] f = none
 fit-at (x ∷ xs) f = more (f 0 (omega arith)) (fit-at xs (λ i h. f (suc i) (omega arith)))
 
--- ---- writing to the front of a buffer
+-- ---- storing in a buffer
 
-pub written-none : (k : ℕ) (b : List ℕ) → written k [] b ≡ b
-unfolding written allBytes
-written-none k b = rw (mul-zero k)
+-- one number: its bytes, one after the other
+pub stored-one : (k : ℕ) (b : List ℕ) (i x : ℕ) → i + k ≤ length b → sets b i (bytesOf k x) ≡ stored k b i (x ∷ [])
+unfolding stored allBytes
+stored-one k b i x h =
+    let l : length (bytesOf k x) ≡ k = bytesOf-length k x in
+    let e : i + length (bytesOf k x) ≡ i + k * 1 = omega arith in
+    sets-eq (bytesOf k x) b i (omega arith)
+    ∙ append-assoc (take i b) (bytesOf k x) (drop (i + length (bytesOf k x)) b)
+    ∙ ap₂ (λ (v : List ℕ) (n : ℕ). take i b ++ (v ++ drop n b)) (sym (append-nil (bytesOf k x))) e
 
-pub written-length : (k : ℕ) (xs b : List ℕ) → k * length xs ≤ length b → length (written k xs b) ≡ length b
-unfolding written
-written-length k xs b h = rw (length-append, length-drop, allBytes-length) (omega arith)
+pub stored-none : (k : ℕ) (b : List ℕ) (i : ℕ) → stored k b i [] ≡ b
+unfolding stored allBytes
+stored-none k b i =
+    let e : i + k * 0 ≡ i = omega (arith, mul-zero k) in
+    rw e (take-append-drop i b)
 
--- one number more, stored behind those that were written
-pub written-more : (k : ℕ) (xs b : List ℕ) (i x : ℕ) → i ≡ k * length xs → i + k ≤ length b → stored k (written k xs b) i x ≡ written k (xs ++ (x ∷ [])) b
-unfolding written stored
-written-more k xs b i x e h =
+pub stored-length : (k : ℕ) (b : List ℕ) (i : ℕ) (xs : List ℕ) → i + k * length xs ≤ length b → length (stored k b i xs) ≡ length b
+unfolding stored
+stored-length k b i xs h = rw (length-append, length-append, length-take, length-drop, allBytes-length) (omega arith)
+
+-- at the front: the bytes, and then the rest as before
+pub stored-front : (k : ℕ) (b xs : List ℕ) → stored k b 0 xs ≡ allBytes k xs ++ drop (k * length xs) b
+unfolding stored
+stored-front k b xs = let e : 0 + k * length xs ≡ k * length xs = omega arith in rw e
+
+-- more numbers behind those that were stored
+pub stored-more : (k : ℕ) (b : List ℕ) (i : ℕ) (xs ys : List ℕ) (j : ℕ) → j ≡ i + k * length xs → i + k * length xs ≤ length b
+    → stored k (stored k b i xs) j ys ≡ stored k b i (xs ++ ys)
+unfolding stored
+stored-more k b i xs ys j e h =
+    let f : List ℕ = take i b in
     let a : List ℕ = allBytes k xs in
-    let d : List ℕ = drop (k * length xs) b in
-    let v : List ℕ = bytesOf k x in
-    let la : length a ≡ i = allBytes-length k xs ∙ sym e in
-    let lv : length v ≡ k = bytesOf-length k x in
-    let room : i + length v ≤ length (a ++ d) = simp (length-append, length-drop) (omega arith) in
-    let p : k * length xs + k ≡ k * length (xs ++ (x ∷ [])) = rw length-append (omega (arith, mul-suc k (length xs), add-one (length xs))) in
-    let front : take i (a ++ d) ≡ a = take-at a d i la in
-    let q : k * length xs + length v ≡ k * length (xs ++ (x ∷ [])) = omega arith in
-    let rest : drop (i + length v) (a ++ d) ≡ drop (k * length (xs ++ (x ∷ []))) b =
-    ap (λ n. drop (n + length v) (a ++ d)) (sym la) ∙ drop-append-add a d (length v) ∙ drop-drop (length v) (k * length xs) b ∙ ap (λ n. drop n b) q in
-    sets-eq v (a ++ d) i room
-    ∙ ap₂ (λ f r. f ++ v ++ r) front rest
-    ∙ ap (λ f. f ++ drop (k * length (xs ++ (x ∷ []))) b) (ap (λ w. a ++ w) (sym (append-nil v)) ∙ sym (allBytes-append k xs (x ∷ [])))
+    let n : ℕ = k * length xs in
+    let whole : f ++ (a ++ drop (i + n) b) ≡ (f ++ a) ++ drop (i + n) b = sym (append-assoc f a (drop (i + n) b)) in
+    let l : length (f ++ a) ≡ j = rw (length-append, length-take, allBytes-length) (omega arith) in
+    let m : k * length ys + n ≡ k * length (xs ++ ys) = rw length-append (omega (arith, mul-add k (length xs) (length ys))) in
+    let front : take j (f ++ (a ++ drop (i + n) b)) ≡ f ++ a = ap (take j) whole ∙ take-at (f ++ a) (drop (i + n) b) j l in
+    let p : j + k * length ys ≡ length (f ++ a) + k * length ys = omega arith in
+    let q : i + n + k * length ys ≡ i + k * length (xs ++ ys) = omega arith in
+    let rest : drop (j + k * length ys) (f ++ (a ++ drop (i + n) b)) ≡ drop (i + k * length (xs ++ ys)) b =
+    ap₂ drop p whole ∙ drop-append-add (f ++ a) (drop (i + n) b) (k * length ys) ∙ drop-drop (k * length ys) (i + n) b ∙ ap (λ (n : ℕ). drop n b) q in
+    ap₂ (λ (x y : List ℕ). x ++ (allBytes k ys ++ y)) front rest
+    ∙ append-assoc f a (allBytes k ys ++ drop (i + k * length (xs ++ ys)) b)
+    ∙ ap (λ (x : List ℕ). f ++ x) (sym (append-assoc a (allBytes k ys) (drop (i + k * length (xs ++ ys)) b)) ∙ ap (λ (x : List ℕ). x ++ drop (i + k * length (xs ++ ys)) b) (sym (allBytes-append k xs ys)))

@@ -2,8 +2,7 @@
 use mathlib.Core.Path.{_≡_}
 use mathlib.Core.List.{List, [], _∷_, _++_}
 use Prim.Native.Nat.{ℕ, zero, suc, _+_, _*_, _/_, _%_, _^_, _<_}
-use lib.ListN.{length, getD, drop}
-use lib.Seq.{sets}
+use lib.ListN.{length, getD, take, drop}
 
 -- the number whose `width` bytes stand in b from byte offset i on
 unfoldable pub numberAt : (width : ℕ) → List ℕ → ℕ → ℕ
@@ -26,15 +25,10 @@ pub data Fit (width : ℕ) : List ℕ → Type 0 where
   none : Fit width []
   more : {x : ℕ} {xs : List ℕ} → x < 256 ^ width → Fit width xs → Fit width (x ∷ xs)
 
--- the buffer b after the numbers xs were written to its front; the rest is as before
-unfoldable pub written : (width : ℕ) (xs b : List ℕ) → List ℕ
+-- the buffer b after the numbers xs were stored from byte offset i on; the rest is as before
+unfoldable pub stored : (width : ℕ) (b : List ℕ) (i : ℕ) (xs : List ℕ) → List ℕ
 unfolding allBytes
-written width xs b = allBytes width xs ++ drop (width * length xs) b
-
--- the buffer b after x was stored at byte offset i
-unfoldable pub stored : (width : ℕ) (b : List ℕ) (i x : ℕ) → List ℕ
-unfolding bytesOf
-stored width b i x = sets b i (bytesOf width x)
+stored width b i xs = take i b ++ (allBytes width xs ++ drop (i + width * length xs) b)
 
 -- the 16-bit word at byte offset i, and the bytes of 16-bit words
 unfoldable pub wordAt : List ℕ → ℕ → ℕ

@@ -1,5 +1,6 @@
 // Words of 16 bits in byte slices, low byte first.
 ghost use mathlib.Core.Path.{_≡_};
+ghost use mathlib.Core.List.{_∷_, []};
 ghost use Prim.Native.Nat.{_+_, _<_};
 ghost use lib.ListN.{length};
 ghost use Rattle.words.specs.Words.{wordAt, stored};
@@ -17,7 +18,7 @@ pub fn read(bytes: &[u8], at: usize) -> usize
 // Stores a word at byte offset `at`.
 pub fn store(bytes: &mut [u8], at: usize, word: u16)
     requires { ⌜ at + 1 < length (now bytes) ⌝ }
-    ensures { λ _. ⌜ now (bytes .exit) ≡ stored 2 (now (bytes .entry)) at word ⌝ }
+    ensures { λ _. ⌜ now (bytes .exit) ≡ stored 2 (now (bytes .entry)) at (word ∷ []) ⌝ }
 {
     bytes[at] = (word % 256) as u8;
     bytes[at + 1] = (word / 256 % 256) as u8;

@@ -2,7 +2,8 @@
 -- Assumes nothing.
 use native.Mathlib.Numerals.{add-one}
 use borrow.Author.Needs.{needs}
-use Rattle.words.specs.Words.{stored, bytesOf}
+use Rattle.words.specs.Words.{bytesOf}
+use Rattle.words.proofs.Laws.{stored-one}
 use Rattle.words.proofs.store.Statement.{statement}
 use Rattle.words.proofs.store.Tie as tie
 
@@ -25,8 +26,8 @@ same-length : tie.Need-same-length
 same-length c = search needs
 
 returns : tie.Need-returns
-unfolding stored bytesOf
-returns c = rw (add-one (c .args .at))
+unfolding bytesOf
+returns c = rw (add-one (c .args .at)) (stored-one 2 _ _ _ (search needs))
 
 pub store-spec : {M : Type 1} → statement M
 store-spec =

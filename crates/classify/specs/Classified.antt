@@ -1,0 +1,30 @@
+-- The state numbers of all histories of a circuit's response, as they lie in scratch.
+use Prim.Native.Nat.{ℕ, zero, suc, _+_, _^_, _≤_, _<_}
+use mathlib.Core.Path.{_≡_}
+use mathlib.Core.List.{List}
+use lib.ListN.{length, getD}
+use Rattle.sizes.specs.Sizes.{inputs, frames}
+use Rattle.layered.specs.States.{count, number}
+use Rattle.circuit.specs.Theorems.{response}
+use Rattle.classify.specs.declared.Plan.{Plan}
+
+-- where the numbers of the histories of t words begin: after those of shorter ones
+unfoldable pub layerAt : (K t : ℕ) → ℕ
+layerAt K zero = 0
+layerAt K (suc t) = layerAt K t + K ^ t
+
+-- the state of the circuit's history h of t words, and how many states layer t has
+abbrev pub stateOf : List ℕ → (t h : ℕ) → ℕ
+stateOf b t h = number (2 ^ inputs b) (frames b) (response b) t h
+
+abbrev pub stateCount : List ℕ → (t : ℕ) → ℕ
+stateCount b t = count (2 ^ inputs b) (frames b) (response b) t
+
+-- s holds the state of every history of layers t to T - 1
+unfoldable pub Known : (b s : List ℕ) (t : ℕ) → Type 0
+Known b s t = (u h : ℕ) → t ≤ u → u < frames b → h < (2 ^ inputs b) ^ u → getD s (layerAt (2 ^ inputs b) u + h) 0 ≡ stateOf b u h
+
+-- the plan holds the counts of layers 0 to T
+pub record Counted (b : List ℕ) (plan : Plan) : Type 0 where
+  pub places : length (plan .counts) ≡ 17
+  pub counts-are : (t : ℕ) → t ≤ frames b → getD (plan .counts) t 0 ≡ stateCount b t

@@ -1,0 +1,83 @@
+// The states of a circuit's histories, classified layer by layer from the last back, in scratch.
+use circuit::Head;
+use responses::fill;
+use rows::Layer;
+use rows::number_layer;
+ghost use mathlib.Core.Path.{_≡_};
+ghost use Prim.Native.Nat.{suc, _*_, _^_, _≤_, _<_};
+ghost use lib.ListN.{length};
+ghost use Rattle.sizes.specs.Sizes.{frames};
+ghost use Rattle.circuit.specs.Circuit.{allInputs};
+ghost use Rattle.circuit.specs.Legal.{Headed, HeadOf, Legal};
+ghost use Rattle.classify.specs.Classified.{layerAt, stateCount, Known, Counted};
+
+// What is known of a table before it is written: the counts of layers 0 to T, and 0 beyond.
+pub struct Plan {
+    pub counts: [u16; 17],
+}
+
+// How many histories of t words there are.
+pub fn histories(inputs: usize, t: usize) -> usize
+    requires { ⌜ inputs * t ≤ 16 ⌝ }
+    ensures { λ r. ⌜ r ≡ (2 ^ inputs) ^ t ⌝ }
+{
+    1 << (inputs * t)
+}
+
+// Where the numbers of the histories of t words begin.
+pub fn layer_at(inputs: usize, t: usize) -> usize
+    requires { ⌜ (1 ≤ inputs) × (inputs * t ≤ 16) ⌝ }
+    ensures { λ r. ⌜ r ≡ layerAt (2 ^ inputs) t ⌝ }
+{
+    let mut at = 0;
+    for u in 0..t {
+        at += histories(inputs, u);
+    }
+    at
+}
+
+// Numbers the histories of layer t, given those of the next, and answers how many states it has.
+fn classify_layer(circuit: &[u8], head: Head, scratch: &mut [u16], t: usize) -> usize
+    requires { ⌜ Headed (now circuit) ⌝ }
+    requires { ⌜ HeadOf (now circuit) head ⌝ }
+    requires { ⌜ Legal (now circuit) ⌝ }
+    requires { ⌜ t < frames (now circuit) ⌝ }
+    requires { ⌜ length (now scratch) ≡ 2 * 2 ^ allInputs (now circuit) ⌝ }
+    requires { ⌜ Known (now circuit) (now scratch) (suc t) ⌝ }
+    ensures { λ r. ⌜ Known (now (circuit .entry)) (now (scratch .exit)) t ⌝ }
+    ensures { λ r. ⌜ r ≡ stateCount (now (circuit .entry)) t ⌝ }
+{
+    let half = histories(head.inputs, head.frames);
+    let size = histories(head.inputs, t);
+    let at = layer_at(head.inputs, t);
+    fill(circuit, head, t + 1, &mut scratch[half..]);
+    let layer = Layer {
+        fan: histories(head.inputs, 1),
+        size,
+        at,
+        nexts: at + size,
+        responses: half,
+        last: t + 1 == head.frames,
+    };
+    number_layer(scratch, layer)
+}
+
+// Numbers the histories of all layers, and answers how many states each has.
+pub fn classify(circuit: &[u8], head: Head, scratch: &mut [u16]) -> Plan
+    requires { ⌜ Headed (now circuit) ⌝ }
+    requires { ⌜ HeadOf (now circuit) head ⌝ }
+    requires { ⌜ Legal (now circuit) ⌝ }
+    requires { ⌜ length (now scratch) ≡ 2 * 2 ^ allInputs (now circuit) ⌝ }
+    ensures { λ r. ⌜ Known (now (circuit .entry)) (now (scratch .exit)) 0 ⌝ }
+    ensures { λ r. ⌜ Counted (now (circuit .entry)) r ⌝ }
+{
+    let mut counts = [0; 17];
+    let frames = head.frames;
+    counts[frames] = 1;
+    let mut t = frames;
+    while 0 < t {
+        t -= 1;
+        counts[t] = classify_layer(circuit, head, scratch, t) as u16;
+    }
+    Plan { counts }
+}

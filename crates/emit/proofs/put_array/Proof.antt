@@ -1,0 +1,109 @@
+-- `emit::put_array` meets its contract. The invariant: the layers so far are stored.
+-- Assumes nothing.
+use mathlib.Core.Path.{_≡_, refl, sym, ap, _∙_}
+use mathlib.Core.List.{List}
+use Prim.Native.Nat.{ℕ, _+_, _*_, _-_, _≤_, _<_}
+use native.Mathlib.Omega.{arith}
+use denote.Ref.{now}
+use lib.ListN.{length}
+use Rattle.words.specs.Words.{stored}
+use Rattle.words.proofs.Laws.{stored-none, stored-length}
+use Rattle.sizes.specs.Sizes.{frames as framesOf}
+use Rattle.layered.specs.Search.{join}
+use Rattle.emit.specs.Emitted.{arrayWords}
+use Rattle.emit.proofs.Laws.{words-more, array-layer, array-more, array-most}
+use Rattle.emit.proofs.put_array.Statement.{statement}
+use Rattle.emit.proofs.put_array.Tie as tie
+
+abbrev Inv-loop : tie.InvT-loop
+Inv-loop circuit head scratch nexts result₀ at frames end₀ t₀ result end t = (t ≤ frames) × (end ≡ at + 2 * length (arrayWords circuit nexts t)) × (result ≡ stored 2 result₀ at (arrayWords circuit nexts t))
+
+abbrev μ-loop : tie.MeasureT-loop
+μ-loop circuit head scratch nexts result₀ at frames end₀ t₀ result end t = frames - t
+
+loop-holds : tie.Need-loop-holds Inv-loop μ-loop
+unfolding arrayWords join
+loop-holds c = (omega arith, omega arith, sym (stored-none 2 _ _))
+
+-- at the loop's head: the entry of the function, and that what is stored fits
+abbrev start : tie.At-loop Inv-loop μ-loop → tie.Start Inv-loop μ-loop
+start l = l .before .before .before .before
+
+room : (l : tie.At-loop Inv-loop μ-loop) → start l .args .at + 2 * length (arrayWords (now (start l .args .circuit)) (start l .args .nexts) (l .loop .t)) ≤ length (now (start l .args .result))
+room l =
+    let a = start l in
+    let b = now (a .args .circuit) in
+    omega (arith, array-most b (a .args .nexts) (l .loop .t) (framesOf b) (omega (arith, l .loop .inv .0, a .pre .1 .0)), a .pre .1 .1 .1 .1 .1)
+
+len : (l : tie.At-loop Inv-loop μ-loop) → length (l .loop .result) ≡ length (now (start l .args .result))
+len l = ap length (l .loop .inv .2) ∙ stored-length 2 _ _ _ (room l)
+
+-- in a turn: the layer is below T, and there is room for it
+below : (i : tie.In-loop Inv-loop μ-loop) → i .before .loop .t < framesOf (now (start (i .before) .args .circuit))
+below i = omega (arith, i .loop-test .taken, start (i .before) .pre .1 .0)
+
+layer-room : (i : tie.In-loop Inv-loop μ-loop)
+    → start (i .before) .args .at + 2 * length (arrayWords (now (start (i .before) .args .circuit)) (start (i .before) .args .nexts) (i .before .loop .t + 1))
+    ≤ length (now (start (i .before) .args .result))
+layer-room i =
+    let l = i .before in
+    let a = start l in
+    let b = now (a .args .circuit) in
+    omega (arith, array-most b (a .args .nexts) (l .loop .t + 1) (framesOf b) (omega (arith, below i)), a .pre .1 .1 .1 .1 .1)
+
+put-layer-requires : tie.Need-put-layer-requires Inv-loop μ-loop
+put-layer-requires c κs =
+    let i = c .before in
+    let l = i .before in
+    let a = start l in
+    (a .pre .0, (a .pre .1 .0, (a .pre .1 .1 .0, (a .pre .1 .1 .1 .0, (a .pre .1 .1 .1 .1 .0, below i, omega (arith, layer-room i, len l, l .loop .inv .1, array-more (now (a .args .circuit)) (a .args .nexts) (l .loop .t)))))))
+
+add-t : tie.Need-add-t Inv-loop μ-loop
+add-t c =
+    let i = c .before .before .before .before in
+    omega (arith, below i, start (i .before) .pre .0 .sizes)
+
+loop-less : tie.Need-loop-less Inv-loop μ-loop
+loop-less c = omega arith
+
+loop-again : tie.Need-loop-again Inv-loop μ-loop
+loop-again c =
+    let p = c .before .before in
+    let i = p .before .before in
+    let l = i .before in
+    let a = start l in
+    let b = now (a .args .circuit) in
+    let n = a .args .nexts in (
+      omega arith,
+      omega (arith, p .put-layer .ensures .1, l .loop .inv .1, array-more b n (l .loop .t)),
+      p .put-layer .ensures .0
+          ∙ words-more (now (a .args .result)) (l .loop .result) (a .args .at) (arrayWords b n (l .loop .t)) _ (l .loop .end) (l .loop .inv .2) (l .loop .inv .1) (room l)
+          ∙ ap (stored 2 (now (a .args .result)) (a .args .at)) (sym (array-layer b n (l .loop .t))),
+    )
+
+same-length : tie.Need-same-length Inv-loop μ-loop
+same-length c = len (c .before)
+
+returns : tie.Need-returns Inv-loop μ-loop
+returns c =
+    let l = c .before in
+    let a = start l in
+    let b = now (a .args .circuit) in
+    let e : l .loop .t ≡ framesOf b = omega (arith, a .pre .1 .0) in (
+      l .loop .inv .2 ∙ ap (λ (t : ℕ). stored 2 (now (a .args .result)) (a .args .at) (arrayWords b (a .args .nexts) t)) e,
+      l .loop .inv .1 ∙ ap (λ (t : ℕ). a .args .at + 2 * length (arrayWords b (a .args .nexts) t)) e,
+    )
+
+pub put-array-spec : {M : Type 1} → statement M
+put-array-spec =
+    tie.close
+    (tie.spec
+    Inv-loop
+    μ-loop
+    loop-holds
+    put-layer-requires
+    add-t
+    loop-less
+    loop-again
+    same-length
+    returns)

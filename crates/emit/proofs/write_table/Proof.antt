@@ -1,0 +1,136 @@
+-- `emit::write_table` meets its contract: head, counts, outputs and next states are stored one behind the other.
+-- Assumes nothing.
+use mathlib.Core.Path.{_≡_, refl, sym, ap, ap₂, _∙_}
+use mathlib.Core.Bool.{true, false}
+use mathlib.Core.List.{List, [], _∷_, _++_}
+use Prim.Native.Nat.{ℕ, _+_, _*_, _≤_}
+use native.Mathlib.Omega.{arith}
+use denote.Ref.{now}
+use lib.ListN.{length, take}
+use Rattle.words.specs.Words.{stored}
+use Rattle.words.proofs.Laws.{stored-length}
+use Rattle.sizes.specs.Sizes.{inputs, outputs, frames}
+use Rattle.emit.specs.Emitted.{arrayWords, headWords, allWords}
+use Rattle.emit.proofs.Laws.{head-length, all-length, head-stored, outputs-stored, nexts-stored}
+use borrow.Author.Needs.{needs}
+use Rattle.emit.proofs.write_table.Statement.{statement}
+use Rattle.emit.proofs.write_table.Tie as tie
+
+cast-t11 : tie.Need-cast-t11
+cast-t11 c = search needs
+
+cast-t12 : tie.Need-cast-t12
+cast-t12 c = search needs
+
+cast-t13 : tie.Need-cast-t13
+cast-t13 c = search needs
+
+slice-aggregate-put-words : tie.Need-slice-aggregate-put-words
+slice-aggregate-put-words c = search needs
+
+put-words-requires : tie.Need-put-words-requires
+put-words-requires c κs =
+    let a = c .before .before .before .before .before .before .before .before in
+    (omega arith, omega (arith, all-length (now (a .args .circuit)), a .pre .1 .1 .1 .1 .1))
+
+add-layers : tie.Need-add-layers
+add-layers c = search needs
+
+slice-aggregate-put-words-2 : tie.Need-slice-aggregate-put-words-2
+slice-aggregate-put-words-2 c =
+    let a = c .before .before .before .before .before .before .before .before .before .before .before .before .before .before in
+    sym (a .pre .1 .1 .0 .1 .places)
+
+-- the entry of the function, from each part
+abbrev start : tie.After-put-words → tie.Start
+start p = p .before .before .before .before .before .before .before .before .before
+
+put-words-requires-2 : tie.Need-put-words-requires-2
+put-words-requires-2 c κs =
+    let p = c .before .before .before .before .before .before in
+    let a = start p in
+    (omega (arith, a .pre .1 .1 .0 .1 .places, a .pre .1 .0, a .pre .0 .sizes), omega (arith, all-length (now (a .args .circuit)), a .pre .1 .1 .1 .1 .1, p .put-words .kept .1 .1 .0, a .pre .1 .0))
+
+mul-outputs-at : tie.Need-mul-outputs-at
+mul-outputs-at c = search needs
+
+add-outputs-at : tie.Need-add-outputs-at
+add-outputs-at c = search needs
+
+abbrev start₂ : tie.After-put-words2 → tie.Start
+start₂ p = start (p .before .before .before .before .before .before .before)
+
+-- the sizes are the circuit's
+first-words : (n m t : ℕ) (b : List ℕ) → n ≡ inputs b → m ≡ outputs b → t ≡ frames b → n ∷ m ∷ t ∷ [] ≡ inputs b ∷ outputs b ∷ frames b ∷ []
+first-words n m t b e f g = ap₂ (λ (x : ℕ) (l : List ℕ). x ∷ l) e (ap₂ (λ (x y : ℕ). x ∷ y ∷ []) f g)
+
+-- what is stored after the counts, and how long the result is
+head₂ : (p : tie.After-put-words2) → p .put-words2 .last .1 .1 .0 ≡ stored 2 (now (start₂ p .args .result)) 0 (headWords (now (start₂ p .args .circuit)))
+head₂ p =
+    let w = p .before .before .before .before .before .before .before in
+    let a = start₂ p in
+    let b = now (a .args .circuit) in
+    let h = a .pre .1 .0 in
+    head-stored b (now (a .args .result)) (a .pre .1 .1 .1 .1 .1) (a .args .plan) (a .pre .1 .1 .0 .1) (a .pre .0 .sizes .frames-to)
+    (w .put-words .last .1 .1 .0) (p .put-words2 .last .1 .1 .0) (a .args .head .frames + 1) (ap (λ (t : ℕ). t + 1) (h .frames-is))
+    (w .put-words .ensures ∙ ap (stored 2 (now (a .args .result)) 0) (first-words _ _ _ b (h .inputs-is) (h .outputs-is) (h .frames-is)))
+    (p .put-words2 .ensures)
+
+len₂ : (p : tie.After-put-words2) → length (p .put-words2 .last .1 .1 .0) ≡ length (now (start₂ p .args .result))
+len₂ p = p .put-words2 .kept .1 .1 .0 ∙ p .before .before .before .before .before .before .before .put-words .kept .1 .1 .0
+
+put-array-requires : tie.Need-put-array-requires
+put-array-requires c κs =
+    let p = c .before .before .before in
+    let a = start₂ p in
+    let b = now (a .args .circuit) in
+    (a .pre .0, (a .pre .1 .0, (a .pre .1 .1 .0 .0, (a .pre .1 .1 .1 .0, (a .pre .1 .1 .1 .1 .0, omega (arith, all-length b, a .pre .1 .1 .1 .1 .1, len₂ p, a .pre .1 .0))))))
+
+len₃ : (q : tie.After-put-array) → length (q .put-array .last .1 .1 .1 .1 .0) ≡ length (now (start₂ (q .before .before .before .before) .args .result))
+len₃ q = q .put-array .kept .1 .1 .1 .1 .0 ∙ len₂ (q .before .before .before .before)
+
+-- where the next states begin
+end₃ : (q : tie.After-put-array)
+    → q .put-array .result ≡ 8 + 2 * frames (now (start₂ (q .before .before .before .before) .args .circuit)) + 2 * length (arrayWords (now (start₂ (q .before .before .before .before) .args .circuit)) false (frames (now (start₂ (q .before .before .before .before) .args .circuit))))
+end₃ q = let a = start₂ (q .before .before .before .before) in omega (arith, q .put-array .ensures .1, a .pre .1 .0)
+
+put-array-requires-2 : tie.Need-put-array-requires-2
+put-array-requires-2 c κs =
+    let q = c .before .before .before in
+    let p = q .before .before .before .before in
+    let a = start₂ p in
+    let b = now (a .args .circuit) in
+    (a .pre .0, (a .pre .1 .0, (a .pre .1 .1 .0 .0, (a .pre .1 .1 .1 .0, (a .pre .1 .1 .1 .1 .0, omega (arith, all-length b, a .pre .1 .1 .1 .1 .1, len₃ q, end₃ q))))))
+
+same-length : tie.Need-same-length
+same-length c = search needs
+
+returns : tie.Need-returns
+returns c =
+    let s = c .before .before in
+    let q = s .before .before .before .before in
+    let p = q .before .before .before .before in
+    let a = start₂ p in
+    let b = now (a .args .circuit) in
+    nexts-stored b (now (a .args .result)) (a .pre .1 .1 .1 .1 .1) (q .put-array .last .1 .1 .1 .1 .0) (s .put-array2 .last .1 .1 .1 .1 .0) (q .put-array .result) (end₃ q)
+    (outputs-stored b (now (a .args .result)) (a .pre .1 .1 .1 .1 .1) (p .put-words2 .last .1 .1 .0) (q .put-array .last .1 .1 .1 .1 .0) _ (omega (arith, a .pre .1 .0)) (head₂ p) (q .put-array .ensures .0))
+    (s .put-array2 .ensures .0)
+
+pub write-table-spec : {M : Type 1} → statement M
+write-table-spec =
+    tie.close
+    (tie.spec
+    cast-t11
+    cast-t12
+    cast-t13
+    slice-aggregate-put-words
+    put-words-requires
+    add-layers
+    slice-aggregate-put-words-2
+    put-words-requires-2
+    mul-outputs-at
+    add-outputs-at
+    put-array-requires
+    put-array-requires-2
+    same-length
+    returns)

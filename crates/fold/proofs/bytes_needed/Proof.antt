@@ -1,0 +1,148 @@
+-- `fold::bytes_needed` meets its contract. The invariant: the sum of the counts of the layers so far.
+-- Assumes nothing.
+use mathlib.Core.Path.{_≡_, refl, sym, ap, ap₂, _∙_}
+use mathlib.Core.List.{List}
+use Prim.Native.Nat.{ℕ, suc, _+_, _*_, _-_, _^_, _≤_, _<_}
+use native.Mathlib.Nat.{le-mul-of-pos-right}
+use native.Mathlib.Numerals.{add-one}
+use native.Mathlib.Omega.{arith}
+use denote.Ref.{now}
+use lib.ListN.{length, getD}
+use Rattle.sizes.specs.Sizes.{inputs, frames as framesOf}
+use Rattle.layered.proofs.Lists.{total}
+use Rattle.circuit.specs.Legal.{Headed}
+use Rattle.circuit.specs.Theorems.{response}
+use Rattle.classify.specs.Classified.{stateCount}
+use Rattle.classify.proofs.Layers.{two-words, power-fits}
+use Rattle.classify.proofs.Step.{bits-fit}
+use Rattle.emit.proofs.Laws.{fan-is}
+use Rattle.folded.proofs.Tables.{folded-length, entries-most}
+use Rattle.fold.proofs.bytes_needed.Statement.{statement}
+use Rattle.fold.proofs.bytes_needed.Tie as tie
+
+abbrev Inv-loop : tie.InvT-loop
+Inv-loop circuit head counts frames states₀ t₀ states t = (t ≤ frames) × (states ≡ total t (stateCount circuit))
+
+abbrev μ-loop : tie.MeasureT-loop
+μ-loop circuit head counts frames states₀ t₀ states t = frames - t
+
+loop-holds : tie.Need-loop-holds Inv-loop μ-loop
+unfolding total
+loop-holds c = (omega arith, refl)
+
+-- the entry of the function, from the loop's head
+abbrev start : tie.At-loop Inv-loop μ-loop → tie.Start Inv-loop μ-loop
+start l = l .before .before .before
+
+abbrev K : tie.Start Inv-loop μ-loop → ℕ
+K a = 2 ^ inputs (now (a .args .circuit))
+
+two : (a : tie.Start Inv-loop μ-loop) → 2 ≤ K a
+two a = two-words (inputs (now (a .args .circuit))) (a .pre .0 .sizes .inputs-from)
+
+positive : (a : tie.Start Inv-loop μ-loop) → 0 < K a
+positive a = omega (arith, two a)
+
+-- the layers up to t have few entries, and so few states
+entries-small : (a : tie.Start Inv-loop μ-loop) (t : ℕ) → t ≤ framesOf (now (a .args .circuit)) → total t (stateCount (now (a .args .circuit))) * K a ≤ 131072
+entries-small a t h =
+    let b = now (a .args .circuit) in
+    omega (arith, entries-most (K a) (framesOf b) (response b) (two a) t, power-fits (inputs b) t (bits-fit b (a .pre .0) (inputs b) t refl h))
+
+within : (i : tie.In-loop Inv-loop μ-loop) → i .before .loop .t + 1 ≤ 16
+within i = omega (arith, i .loop-test .taken, start (i .before) .pre .0 .sizes, start (i .before) .pre .1 .0)
+
+sum-small : (a : tie.Start Inv-loop μ-loop) (t : ℕ) → t ≤ framesOf (now (a .args .circuit)) → total t (stateCount (now (a .args .circuit))) ≤ 131072
+sum-small a t h = omega (arith, entries-small a t h, le-mul-of-pos-right (total t (stateCount (now (a .args .circuit)))) (positive a))
+
+below : (i : tie.In-loop Inv-loop μ-loop) → i .before .loop .t + 1 ≤ framesOf (now (start (i .before) .args .circuit))
+below i = omega (arith, i .loop-test .taken, start (i .before) .pre .1 .0)
+
+sum-more : (i : tie.In-loop Inv-loop μ-loop)
+    → total (i .before .loop .t + 1) (stateCount (now (start (i .before) .args .circuit))) ≡ total (i .before .loop .t) (stateCount (now (start (i .before) .args .circuit))) + stateCount (now (start (i .before) .args .circuit)) (i .before .loop .t)
+unfolding total
+sum-more i = rw (add-one (i .before .loop .t))
+
+count-is : (i : tie.In-loop Inv-loop μ-loop) → getD (start (i .before) .args .plan .counts) (i .before .loop .t) 0 ≡ stateCount (now (start (i .before) .args .circuit)) (i .before .loop .t)
+count-is i = let a = start (i .before) in a .pre .1 .1 .counts-are (i .before .loop .t) (omega (arith, i .loop-test .taken, a .pre .1 .0))
+
+-- all states, times the fan
+product : (c : tie.After-histories Inv-loop μ-loop)
+    → c .before .before .loop .states * c .histories .result ≡ total (framesOf (now (start (c .before .before) .args .circuit))) (stateCount (now (start (c .before .before) .args .circuit))) * K (start (c .before .before))
+product c =
+    let l = c .before .before in
+    let a = start l in
+    let e : l .loop .t ≡ framesOf (now (a .args .circuit)) = omega (arith, a .pre .1 .0) in
+    ap₂ (λ (x y : ℕ). x * y) (l .loop .inv .1 ∙ ap (λ (t : ℕ). total t (stateCount (now (a .args .circuit)))) e) (fan-is _ _ (a .pre .1 .0 .inputs-is) (c .histories .ensures))
+
+product-small : (a : tie.Start Inv-loop μ-loop) → total (framesOf (now (a .args .circuit))) (stateCount (now (a .args .circuit))) * K a ≤ 131072
+product-small a = entries-small a (framesOf (now (a .args .circuit))) (omega arith)
+
+mul-states : tie.Need-mul-states Inv-loop μ-loop
+mul-states c = omega (arith, within c)
+
+array-read-states : tie.Need-array-read-states Inv-loop μ-loop
+array-read-states c = omega (arith, within c)
+
+cast-states : tie.Need-cast-states Inv-loop μ-loop
+cast-states c = omega (arith, count-is c, sum-small (start (c .before)) (c .before .loop .t + 1) (below c), sum-more c)
+
+add-states : tie.Need-add-states Inv-loop μ-loop
+add-states c = omega (arith, count-is c, c .before .loop .inv .1, sum-small (start (c .before)) (c .before .loop .t + 1) (below c), sum-more c)
+
+add-t : tie.Need-add-t Inv-loop μ-loop
+add-t c = omega (arith, within c)
+
+loop-less : tie.Need-loop-less Inv-loop μ-loop
+loop-less c = omega arith
+
+loop-again : tie.Need-loop-again Inv-loop μ-loop
+unfolding total
+loop-again c = (omega arith, omega (arith, count-is c, c .before .loop .inv .1, sum-more c))
+
+mul-result : tie.Need-mul-result Inv-loop μ-loop
+mul-result c = omega (arith, start (c .before) .pre .0 .sizes, start (c .before) .pre .1 .0)
+
+add-result : tie.Need-add-result Inv-loop μ-loop
+add-result c = omega (arith, start (c .before) .pre .0 .sizes, start (c .before) .pre .1 .0)
+
+histories-requires : tie.Need-histories-requires Inv-loop μ-loop
+histories-requires c κs =
+    let a = start (c .before) in
+    bits-fit _ (a .pre .0) _ 1 (a .pre .1 .0 .inputs-is) (a .pre .0 .sizes .frames-from)
+
+mul-result-2 : tie.Need-mul-result-2 Inv-loop μ-loop
+mul-result-2 c = omega (arith, product c, product-small (start (c .before .before)))
+
+mul-result-3 : tie.Need-mul-result-3 Inv-loop μ-loop
+mul-result-3 c = omega (arith, product c, product-small (start (c .before .before)))
+
+add-result-2 : tie.Need-add-result-2 Inv-loop μ-loop
+add-result-2 c = omega (arith, product c, product-small (start (c .before .before)), start (c .before .before) .pre .0 .sizes, start (c .before .before) .pre .1 .0)
+
+returns : tie.Need-returns Inv-loop μ-loop
+returns c =
+    let a = start (c .before .before) in
+    omega (arith, product c, folded-length (now (a .args .circuit)), a .pre .1 .0)
+
+pub bytes-needed-spec : {M : Type 1} → statement M
+bytes-needed-spec =
+    tie.close
+    (tie.spec
+    Inv-loop
+    μ-loop
+    loop-holds
+    mul-states
+    array-read-states
+    cast-states
+    add-states
+    add-t
+    loop-less
+    loop-again
+    mul-result
+    add-result
+    histories-requires
+    mul-result-2
+    mul-result-3
+    add-result-2
+    returns)

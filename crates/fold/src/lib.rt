@@ -1,0 +1,84 @@
+// Folds a circuit into its table of layered states: the fewest at every layer.
+use circuit::Head;
+use circuit::check;
+use classify::Plan;
+use classify::classify;
+use classify::histories;
+use emit::write_table;
+use verdict::Refusal;
+use verdict::Verdict;
+ghost use mathlib.Core.Path.{_≡_};
+ghost use Prim.Native.Nat.{_*_, _^_};
+ghost use lib.ListN.{length, replicate};
+ghost use Rattle.verdict.specs.Figures.{figures, resultAfter};
+ghost use Rattle.circuit.specs.Circuit.{allInputs};
+ghost use Rattle.circuit.specs.Legal.{Headed, HeadOf, Legal};
+ghost use Rattle.classify.specs.Classified.{Counted};
+ghost use Rattle.folded.specs.Folded.{foldedBytes, foldChecked, foldResult, foldScratch};
+ghost use Rattle.fold.specs.Fold.{roomChecked, Promised};
+
+// Sets all numbers to zero.
+fn clear(scratch: &mut [u16])
+    ensures { λ _. ⌜ now (scratch .exit) ≡ replicate (length (now (scratch .entry))) 0 ⌝ }
+{
+    let mut i = 0;
+    while i < scratch.len() {
+        scratch[i] = 0;
+        i += 1;
+    }
+}
+
+// How many bytes the table takes.
+fn bytes_needed(circuit: &[u8], head: Head, plan: Plan) -> usize
+    requires { ⌜ Headed (now circuit) ⌝ }
+    requires { ⌜ HeadOf (now circuit) head ⌝ }
+    requires { ⌜ Counted (now circuit) plan ⌝ }
+    ensures { λ r. ⌜ r ≡ length (foldedBytes (now (circuit .entry))) ⌝ }
+{
+    let counts = plan.counts;
+    let frames = head.frames;
+    let mut states = 0;
+    for t in 0..frames {
+        states += counts[t] as usize;
+    }
+    8 + 2 * frames + 4 * (states * histories(head.inputs, 1))
+}
+
+// Folds an accepted circuit: classifies its histories in the scratch, which is just as long as needed, and writes the table if there is room.
+fn fold_in(circuit: &[u8], head: Head, scratch: &mut [u16], result: &mut [u8]) -> Verdict
+    requires { ⌜ Headed (now circuit) ⌝ }
+    requires { ⌜ HeadOf (now circuit) head ⌝ }
+    requires { ⌜ Legal (now circuit) ⌝ }
+    requires { ⌜ length (now scratch) ≡ 2 * 2 ^ allInputs (now circuit) ⌝ }
+    ensures verdict { λ r. ⌜ figures r ≡ roomChecked (now (circuit .entry)) (length (now (result .entry))) ⌝ }
+    ensures result { λ r. ⌜ now (result .exit) ≡ resultAfter (roomChecked (now (circuit .entry)) (length (now (result .entry)))) (foldedBytes (now (circuit .entry))) (now (result .entry)) ⌝ }
+{
+    let plan = classify(circuit, head, scratch);
+    let bytes = bytes_needed(circuit, head, plan);
+    if result.len() < bytes {
+        return Verdict::Refused(Refusal::Room(bytes));
+    }
+    write_table(circuit, head, plan, scratch, result);
+    Verdict::Accepted(bytes)
+}
+
+// Folds a circuit. The scratch is lent: what is needed of it ends zero after a fold, and after a result that is too short.
+pub fn fold(circuit: &[u8], scratch: &mut [u16], result: &mut [u8]) -> Verdict
+    ensures verdict { λ r. ⌜ figures r ≡ foldChecked (now (circuit .entry)) (length (now (scratch .entry))) (length (now (result .entry))) ⌝ }
+    ensures result { λ r. ⌜ now (result .exit) ≡ foldResult (now (circuit .entry)) (length (now (scratch .entry))) (now (result .entry)) ⌝ }
+    ensures scratch { λ r. ⌜ now (scratch .exit) ≡ foldScratch (now (circuit .entry)) (now (scratch .entry)) (length (now (result .entry))) ⌝ }
+    ensures promised { λ r. ⌜ Promised (now (circuit .entry)) (figures r) (now (result .exit)) ⌝ }
+{
+    let judged = check(circuit);
+    let Verdict::Accepted(_) = judged else {
+        return judged;
+    };
+    let head = Head::read(circuit);
+    let needed = 2 * histories(head.inputs, head.frames);
+    if scratch.len() < needed {
+        return Verdict::Refused(Refusal::Scratch(needed));
+    }
+    let folded = fold_in(circuit, head, &mut scratch[..needed], result);
+    clear(&mut scratch[..needed]);
+    folded
+}

@@ -1,0 +1,85 @@
+-- Machines that agree wherever a machine is defined, and machines renumbered: what carries over from one to the other.
+use mathlib.Core.Path.{_≡_, refl, sym, ap, _∙_}
+use mathlib.Core.Logic.{_↔_}
+use mathlib.Core.List.{List}
+use Prim.Native.Nat.{ℕ, suc, _+_, _-_, _≤_, _<_}
+use native.Mathlib.Omega.{arith}
+use Rattle.layered.specs.States.{Words, none, more}
+use Rattle.layered.specs.Machines.{Machine, Legal, feed, Gives, Renumbered}
+use Rattle.layered.proofs.Machines.{renumbered-feed}
+use Rattle.table.specs.Theorems.{reached}
+
+-- M and N are the same machine: states of layers 0 to T, start, and all entries of layers below T
+pub record Agree (K T : ℕ) (M N : Machine) : Type 0 where
+  pub states-are : (t : ℕ) → t ≤ T → M .states t ≡ N .states t
+  pub start-is : M .start ≡ N .start
+  pub outs-are : (t s w : ℕ) → t < T → s < M .states t → w < K → M .out t s w ≡ N .out t s w
+  pub nexts-are : (t s w : ℕ) → t < T → s < M .states t → w < K → M .next t s w ≡ N .next t s w
+
+pub agree-sym : {K T : ℕ} (M N : Machine) → Agree K T M N → Agree K T N M
+agree-sym M N A = record {
+  states-are = λ t b. sym (A .states-are t b);
+  start-is = sym (A .start-is);
+  outs-are = λ t s w b l k. sym (A .outs-are t s w b (omega (arith, A .states-are t (omega arith))) k);
+  nexts-are = λ t s w b l k. sym (A .nexts-are t s w b (omega (arith, A .states-are t (omega arith))) k);
+}
+
+-- it is renumbered by the identity
+pub agree-renumbered : {K T : ℕ} (M N : Machine) → Agree K T M N → Renumbered K T M N
+agree-renumbered M N A = record {
+  there = λ t s. s;
+  back = λ t s. s;
+  there-is = λ t s b l. omega (arith, A .states-are t b);
+  back-is = λ t s b l. omega (arith, A .states-are t b);
+  back-there = λ t s b l. refl;
+  there-back = λ t s b l. refl;
+  starts = A .start-is;
+  outs = λ t s w b l k. sym (A .outs-are t s w b l k);
+  nexts = λ t s w b l k. sym (A .nexts-are t s w b l k);
+}
+
+-- one renumbering after another
+pub renumbered-trans : {K T : ℕ} (L M N : Machine) → Renumbered K T L M → Renumbered K T M N → Renumbered K T L N
+renumbered-trans L M N R S = record {
+  there = λ t s. S .there t (R .there t s);
+  back = λ t s. R .back t (S .back t s);
+  there-is = λ t s b l. S .there-is t _ b (R .there-is t s b l);
+  back-is = λ t s b l. R .back-is t _ b (S .back-is t s b l);
+  back-there = λ t s b l. ap (R .back t) (S .back-there t _ b (R .there-is t s b l)) ∙ R .back-there t s b l;
+  there-back = λ t s b l. ap (S .there t) (R .there-back t _ b (S .back-is t s b l)) ∙ S .there-back t s b l;
+  starts = ap (S .there 0) (R .starts) ∙ S .starts;
+  outs = λ t s w b l k. S .outs t _ w b (R .there-is t s (omega arith) l) k ∙ R .outs t s w b l k;
+  nexts = λ t s w b l k. S .nexts t _ w b (R .there-is t s (omega arith) l) k ∙ ap (S .there (suc t)) (R .nexts t s w b l k);
+}
+
+-- renumberings of one are renumberings of the other
+pub agree-renumberings : {K T : ℕ} (M N P : Machine) → Agree K T M N → Renumbered K T M P ↔ Renumbered K T N P
+agree-renumberings M N P A =
+    ((λ R. renumbered-trans N M P (agree-renumbered N M (agree-sym M N A)) R), (λ R. renumbered-trans M N P (agree-renumbered M N A) R))
+
+module _ {K m T : ℕ} (M N : Machine) (L : Legal K m T M) (A : Agree K T M N) where
+  pub agree-feed : {r : ℕ} {c : List ℕ} (t s : ℕ) → r ≡ T - t → s < M .states t → Words K r c → feed N t s c ≡ feed M t s c
+  unfolding agree-renumbered
+  agree-feed t s e l W = renumbered-feed M N L (agree-renumbered M N A) t s e l W
+
+  pub agree-reached : {r : ℕ} {c : List ℕ} (t s : ℕ) → t + r ≤ T → s < M .states t → Words K r c → reached N t s c ≡ reached M t s c
+  unfolding reached
+  agree-reached t s e l none = refl
+  agree-reached t s e l (more {w = w} {c = c} k W) =
+      let b : t < T = omega arith in
+      ap (λ q. reached N (suc t) q c) (sym (A .nexts-are t s w b l k)) ∙ agree-reached (suc t) _ (omega arith) (L .next-is t s w b l k) W
+
+  pub agree-gives : (given : List ℕ → List ℕ) → Gives K T M given → Gives K T N given
+  unfolding Gives
+  agree-gives given G c W = ap (λ s. feed N 0 s c) (sym (A .start-is)) ∙ agree-feed 0 _ (omega arith) (L .start-is) W ∙ G c W
+
+  pub agree-legal : Legal K m T N
+  agree-legal = record {
+    start-is = omega (arith, A .start-is, A .states-are 0 (omega arith), L .start-is);
+    out-is = λ t s w b l k.
+        let l′ : s < M .states t = omega (arith, A .states-are t (omega arith)) in
+        rw (← A .outs-are t s w b l′ k) (L .out-is t s w b l′ k);
+    next-is = λ t s w b l k.
+        let l′ : s < M .states t = omega (arith, A .states-are t (omega arith)) in
+        rw (← A .nexts-are t s w b l′ k, ← A .states-are (suc t) b) (L .next-is t s w b l′ k);
+  }

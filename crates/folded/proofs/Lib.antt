@@ -1,0 +1,13 @@
+-- The proofs of what specs/ states, by subject, lowest first.
+pub mod Histories
+pub mod Agreement
+pub mod Places
+pub mod Checked
+pub mod Written
+pub mod Read
+pub mod Response
+pub mod Tables
+pub mod Outcomes
+pub mod Theorems
+pub mod Determined
+pub mod Wrong

@@ -1,0 +1,92 @@
+-- The table of a circuit as machine, words and bytes: it is within the limits, its words fit, and how many bytes there are.
+use mathlib.Core.Path.{_∙_, _≡_, refl, sym, ap}
+use mathlib.Core.Logic.{⊎-elim}
+use mathlib.Core.List.{List, _++_}
+use Prim.Native.Nat.{ℕ, zero, suc, _+_, _*_, _^_, _≤_, _<_}
+use native.Mathlib.Nat.{add-mul, mul-le-mul-left, mul-le-mul-right, one-le-pow, pow-suc, eq-or-lt-of-le}
+use native.Mathlib.Omega.{arith}
+use lib.Pow.{pow-pos, pow-mono}
+use lib.ListN.{length, drop}
+use Rattle.words.specs.Words.{wordBytes, allBytes, Fit, stored}
+use Rattle.words.proofs.Laws.{allBytes-length, stored-front}
+use Rattle.sizes.specs.Sizes.{inputs, outputs, frames}
+use Rattle.sizes.specs.Sized.{Sized}
+use Rattle.layered.specs.States.{count}
+use Rattle.layered.specs.Machines.{Machine, tableWords, folded}
+use Rattle.layered.proofs.Lists.{total}
+use Rattle.layered.proofs.States.{number-below, count-at-most, count-first, count-last}
+use Rattle.layered.proofs.Machines.{legal}
+use Rattle.layered.proofs.Rows.{pow-mul, rows}
+use Rattle.circuit.specs.Theorems.{response, Causal}
+use Rattle.folded.specs.Folded.{foldedBytes}
+use Rattle.folded.proofs.Checked.{Writable}
+use Rattle.folded.proofs.Written.{Below, tableBytes, fits, bytes-length, bytes-below}
+
+-- ---- of a response
+
+pub folded-writable : (n m T : ℕ) (y : ℕ → ℕ → ℕ) → Sized 8 n m T → ((t h : ℕ) → y t h < 2 ^ m) → Writable n m T (folded (2 ^ n) T y)
+folded-writable n m T y Z B = record {
+  sizes = Z;
+  is-legal = legal (2 ^ n) m T y B;
+  counts-from = λ t h. omega (arith, number-below (2 ^ n) T y t 0 (one-le-pow t (2 ^ n) (pow-pos n)));
+  counts-to = λ t h. ⊎-elim (λ e. omega (arith, ap (count (2 ^ n) T y) e, last)) (λ l. rows (2 ^ n) T y .in-word n t refl (Z .bits-to) l) (eq-or-lt-of-le h);
+  one-first = count-first (2 ^ n) T y;
+  one-last = last;
+}
+  where
+    last : count (2 ^ n) T y T ≡ 1
+    last = count-last (2 ^ n) T y (pow-pos n)
+
+-- ---- of a circuit
+
+-- as a machine, and its words
+abbrev pub foldedMachine : List ℕ → Machine
+foldedMachine b = folded (2 ^ inputs b) (frames b) (response b)
+
+abbrev pub foldedWords : List ℕ → List ℕ
+foldedWords b = tableWords (inputs b) (outputs b) (2 ^ inputs b) (frames b) (foldedMachine b)
+
+-- it is within the limits, and its words fit
+pub table-writable : (b : List ℕ) → Causal b → Sized 8 (inputs b) (outputs b) (frames b) → Writable (inputs b) (outputs b) (frames b) (foldedMachine b)
+table-writable b C Z = folded-writable (inputs b) (outputs b) (frames b) (response b) Z (C .below)
+
+pub table-fits : (b : List ℕ) → Causal b → Sized 8 (inputs b) (outputs b) (frames b) → Fit 2 (foldedWords b)
+table-fits b C Z = fits (table-writable b C Z)
+
+-- its bytes are bytes
+pub folded-below : (b : List ℕ) → Below 256 (foldedBytes b)
+unfolding foldedBytes wordBytes
+folded-below b = bytes-below 2 (foldedWords b)
+
+-- 8 + 2·T + 4·E of them
+pub folded-length : (b : List ℕ) → length (foldedBytes b) ≡ 8 + 2 * frames b + 4 * (total (frames b) (foldedMachine b .states) * 2 ^ inputs b)
+unfolding foldedBytes tableBytes
+folded-length b = bytes-length (inputs b) (outputs b) (frames b) (foldedMachine b)
+
+-- the layers below t have at most twice as many entries as there are histories of t words
+pub entries-most : (K T : ℕ) (y : ℕ → ℕ → ℕ) → 2 ≤ K → (t : ℕ) → total t (count K T y) * K ≤ 2 * K ^ t
+unfolding total
+entries-most K T y h zero = omega arith
+entries-most K T y h (suc t) =
+    omega (
+      arith,
+      add-mul (total t (count K T y)) (count K T y t) K,
+      entries-most K T y h t,
+      mul-le-mul-right K (count-at-most K T y t),
+      mul-le-mul-left (K ^ t) h,
+      pow-suc K t,
+    )
+
+-- so a table has at most 2 · 65,536 entries
+pub length-most : (b : List ℕ) → Sized 8 (inputs b) (outputs b) (frames b) → length (foldedBytes b) ≤ 524328
+length-most b Z =
+    let n : ℕ = inputs b in
+    let T : ℕ = frames b in
+    let k : 2 ≤ 2 ^ n = pow-mono (Z .inputs-from) in
+    let p : (2 ^ n) ^ T ≤ 65536 = rw (← pow-mul 2 n T) (pow-mono {j = 16} (Z .bits-to)) in
+    omega (arith, folded-length b, entries-most (2 ^ n) T (response b) k T, Z .frames-to)
+
+-- written word by word to the front of a result
+pub folded-written : (b result : List ℕ) → stored 2 result 0 (foldedWords b) ≡ foldedBytes b ++ drop (length (foldedBytes b)) result
+unfolding foldedBytes wordBytes
+folded-written b result = stored-front 2 result (foldedWords b) ∙ ap (λ n. allBytes 2 (foldedWords b) ++ drop n result) (sym (allBytes-length 2 (foldedWords b)))

@@ -1,0 +1,234 @@
+-- The bytes of a machine's table, read back: sizes, counts, entries and length are what was written.
+use mathlib.Core.Path.{_≡_, refl, sym, ap, ap₂, _∙_, subst₃}
+use mathlib.Core.List.{List, [], _∷_, _++_, append-nil}
+use Prim.Native.Nat.{ℕ, zero, suc, _+_, _*_, _/_, _^_, _≤_, _<_, zero-le}
+use native.Mathlib.Nat.{le-refl, le-suc, le-trans, mod-lt}
+use native.Mathlib.Omega.{arith}
+use lib.Dec.{lit<}
+use lib.Pow.{pow-mono}
+use lib.ListN.{length, getD, length-append, List·getD-append}
+use lib.Seq.{getD-append-add}
+use Rattle.words.specs.Words.{wordAt, wordBytes, numberAt, bytesOf, allBytes, Fit, more}
+use Rattle.words.proofs.Laws.{allBytes-length, read-back, fit-append, fit-at}
+use Rattle.verdict.specs.Figures.{answer}
+use Rattle.sizes.specs.Sizes.{inputs, outputs, frames}
+use Rattle.layered.specs.Search.{join, tabulate}
+use Rattle.layered.specs.Machines.{Machine, entries, tableWords}
+use Rattle.layered.proofs.Lists.{total, total-mul, tabulate-length, tabulate-at}
+use Rattle.layered.proofs.Entries.{entries-length, entries-at}
+use Rattle.table.specs.Table.{countAt, states, headLength, entriesBelow, entryCount, outputsAt, nextsAt, tableLength, entryAt, machine, checked}
+use Rattle.folded.proofs.Agreement.{Agree, agree-legal}
+use Rattle.folded.proofs.Places.{before, place-below}
+use Rattle.folded.proofs.Checked.{Writable, passes}
+
+-- ---- the words
+
+module _ (n m K T : ℕ) (M : Machine) where
+  counts : List ℕ
+  counts = tabulate (suc T) (M .states)
+
+  outs : List ℕ
+  outs = entries K T (M .states) (M .out)
+
+  nexts : List ℕ
+  nexts = entries K T (M .states) (M .next)
+
+  words-are : tableWords n m K T M ≡ n ∷ m ∷ T ∷ (counts ++ (outs ++ nexts))
+  unfolding tableWords counts outs nexts
+  words-are = refl
+
+  counts-length : length counts ≡ suc T
+  unfolding counts
+  counts-length = tabulate-length (suc T) (M .states)
+
+  outs-length : length outs ≡ before K M T
+  unfolding outs
+  outs-length = entries-length K T (M .states) (M .out)
+
+  nexts-length : length nexts ≡ before K M T
+  unfolding nexts
+  nexts-length = entries-length K T (M .states) (M .next)
+
+  pub word-count : length (tableWords n m K T M) ≡ 4 + T + 2 * before K M T
+  word-count =
+      ap length words-are
+      ∙ omega (arith, counts-length, outs-length, nexts-length, length-append counts (outs ++ nexts), length-append outs nexts)
+
+  count-word : (t : ℕ) → t ≤ T → getD (tableWords n m K T M) (3 + t) 0 ≡ M .states t
+  unfolding counts
+  count-word t b =
+      let p : 3 + t ≡ suc (suc (suc t)) = omega arith in
+      ap₂ (λ l i. getD l i 0) words-are p
+      ∙ List·getD-append counts (outs ++ nexts) 0 t (omega (arith, counts-length))
+      ∙ tabulate-at (suc T) t (M .states) (omega arith)
+
+  -- what stands behind the counts
+  after-counts : (i : ℕ) → getD (tableWords n m K T M) (4 + T + i) 0 ≡ getD (outs ++ nexts) i 0
+  after-counts i =
+      let p : 4 + T + i ≡ suc (suc (suc (length counts + i))) = omega (arith, counts-length) in
+      ap₂ (λ l i. getD l i 0) words-are p ∙ getD-append-add counts (outs ++ nexts) i 0
+
+  module _ (t s w : ℕ) (b : t < T) (l : s < M .states t) (k : w < K) where
+    out-word : getD (tableWords n m K T M) (4 + T + (before K M t + (s * K + w))) 0 ≡ M .out t s w
+    unfolding outs
+    out-word =
+        after-counts _
+        ∙ List·getD-append outs nexts 0 _ (omega (arith, place-below K T M t s w b l k, outs-length))
+        ∙ entries-at K T (M .states) (M .out) t s w b l k
+
+    next-word : getD (tableWords n m K T M) (4 + T + (before K M T + (before K M t + (s * K + w)))) 0 ≡ M .next t s w
+    unfolding outs nexts
+    next-word =
+        after-counts _
+        ∙ ap (λ i. getD (outs ++ nexts) (i + (before K M t + (s * K + w))) 0) (sym outs-length)
+        ∙ getD-append-add outs nexts _ 0
+        ∙ entries-at K T (M .states) (M .next) t s w b l k
+
+-- ---- the words fit
+
+-- every number of a list is below x
+abbrev pub Below : (x : ℕ) → List ℕ → Type 0
+Below x l = (i : ℕ) → i < length l → getD l i 0 < x
+
+pub below-append : {x : ℕ} (k l : List ℕ) → Below x k → Below x l → Below x (k ++ l)
+below-append [] l B C i h = C i h
+below-append (a ∷ k) l B C zero h = B zero (omega arith)
+below-append (a ∷ k) l B C (suc i) h = below-append k l (λ j g. B (suc j) (omega arith)) C i (omega arith)
+
+pub below-join : {x : ℕ} (n : ℕ) (f : ℕ → List ℕ) → ((i : ℕ) → i < n → Below x (f i)) → Below x (join n f)
+unfolding join
+below-join zero f B = λ i h. absurd (omega arith)
+below-join (suc n) f B = below-append (join n f) (f n) (below-join n f (λ i h. B i (le-trans h (le-suc n)))) (B n (le-refl _))
+
+pub below-tabulate : {x : ℕ} (n : ℕ) (f : ℕ → ℕ) → ((i : ℕ) → i < n → f i < x) → Below x (tabulate n f)
+below-tabulate {x} n f B i h = let l : i < n = omega (arith, tabulate-length n f) in rw (tabulate-at n i f l) (B i l)
+
+pub below-entries : {x : ℕ} (K T : ℕ) (S : ℕ → ℕ) (e : ℕ → ℕ → ℕ → ℕ) → ((t s w : ℕ) → t < T → s < S t → w < K → e t s w < x) → Below x (entries K T S e)
+unfolding entries
+below-entries K T S e B = below-join T _ (λ t b. below-join (S t) _ (λ s l. below-tabulate K _ (λ w h. B t s w b l h)))
+
+-- the words of a machine within the limits do
+pub fits : {n m T : ℕ} {M : Machine} → Writable n m T M → Fit 2 (tableWords n m (2 ^ n) T M)
+unfolding tableWords
+fits {n} {m} {T} {M} W =
+    let c : Fit 2 (tabulate (suc T) (M .states)) = fit-at _ (below-tabulate (suc T) (M .states) (λ t b. omega (arith, W .counts-to t (omega arith)))) in
+    let o : Fit 2 (entries (2 ^ n) T (M .states) (M .out)) =
+    fit-at _ (below-entries (2 ^ n) T (M .states) (M .out) (λ t s w b l k. le-trans (W .is-legal .out-is t s w b l k) (pow-mono (W .sizes .outputs-to)))) in
+    let x : Fit 2 (entries (2 ^ n) T (M .states) (M .next)) =
+    fit-at _ (below-entries (2 ^ n) T (M .states) (M .next) (λ t s w b l k. omega (arith, W .is-legal .next-is t s w b l k, W .counts-to (suc t) b))) in
+    more {x = n} (omega (arith, W .sizes .inputs-to)) (more {x = m} (omega (arith, W .sizes .outputs-to)) (more {x = T} (omega (arith, W .sizes .frames-to))
+    (fit-append c (fit-append o x))))
+
+-- ---- the bytes
+
+-- the bytes of the table of a machine
+unfoldable pub tableBytes : (n m T : ℕ) → Machine → List ℕ
+tableBytes n m T M = wordBytes (tableWords n m (2 ^ n) T M)
+
+-- 8 + 2·T + 4·E bytes
+pub bytes-length : (n m T : ℕ) (M : Machine) → length (tableBytes n m T M) ≡ 8 + 2 * T + 4 * (total T (M .states) * 2 ^ n)
+unfolding tableBytes wordBytes
+bytes-length n m T M = allBytes-length 2 (tableWords n m (2 ^ n) T M) ∙ omega (arith, word-count n m (2 ^ n) T M, total-mul T (2 ^ n) (M .states))
+
+-- each is a byte
+byte-below : (k x : ℕ) → Below 256 (bytesOf k x)
+unfolding bytesOf
+byte-below zero x i h = absurd (omega arith)
+byte-below (suc k) x zero h = mod-lt x (lit< tt)
+byte-below (suc k) x (suc i) h = byte-below k (x / 256) i (omega arith)
+
+pub bytes-below : (k : ℕ) (xs : List ℕ) → Below 256 (allBytes k xs)
+unfolding allBytes
+bytes-below k [] = λ i h. absurd (omega arith)
+bytes-below k (x ∷ xs) = below-append (bytesOf k x) (allBytes k xs) (byte-below k x) (bytes-below k xs)
+
+-- word i of the bytes of words that fit
+pub word-back : (ws : List ℕ) (i : ℕ) → Fit 2 ws → i < length ws → wordAt (wordBytes ws) (2 * i) ≡ getD ws i 0
+unfolding wordAt wordBytes
+word-back ws i F h = ap (λ b. numberAt 2 b (2 * i)) (sym (append-nil (allBytes 2 ws))) ∙ read-back 2 ws [] i F h
+
+module _ {n m T : ℕ} {M : Machine} (W : Writable n m T M) where
+  -- word i of the bytes, at byte offset p
+  byte-back : (i p : ℕ) → p ≡ 2 * i → i < 4 + T + 2 * before (2 ^ n) M T → wordAt (tableBytes n m T M) p ≡ getD (tableWords n m (2 ^ n) T M) i 0
+  unfolding tableBytes
+  byte-back i p e h =
+      ap (wordAt (tableBytes n m T M)) e ∙ word-back (tableWords n m (2 ^ n) T M) i (fits W) (omega (arith, word-count n m (2 ^ n) T M))
+
+  pub inputs-back : inputs (tableBytes n m T M) ≡ n
+  unfolding inputs tableWords
+  inputs-back = byte-back 0 0 refl (omega arith)
+
+  pub outputs-back : outputs (tableBytes n m T M) ≡ m
+  unfolding outputs tableWords
+  outputs-back = byte-back 1 2 refl (omega arith)
+
+  pub frames-back : frames (tableBytes n m T M) ≡ T
+  unfolding frames tableWords
+  frames-back = byte-back 2 4 refl (omega arith)
+
+  pub states-back : (t : ℕ) → t ≤ T → states (tableBytes n m T M) t ≡ M .states t
+  unfolding states countAt
+  states-back t b = byte-back (3 + t) (6 + 2 * t) (omega arith) (omega arith) ∙ count-word n m (2 ^ n) T M t b
+
+  pub below-back : (t : ℕ) → t ≤ T → entriesBelow (tableBytes n m T M) t ≡ before (2 ^ n) M t
+  unfolding entriesBelow total
+  below-back zero b = refl
+  below-back (suc t) b = ap₂ _+_ (below-back t (omega arith)) (ap₂ _*_ (states-back t (omega arith)) (ap (λ k. 2 ^ k) inputs-back))
+
+  pub count-back : entryCount (tableBytes n m T M) ≡ before (2 ^ n) M T
+  unfolding entryCount
+  count-back = ap (entriesBelow (tableBytes n m T M)) frames-back ∙ below-back T (le-refl T)
+
+  pub outputs-at : outputsAt (tableBytes n m T M) ≡ 8 + 2 * T
+  unfolding outputsAt headLength countAt
+  outputs-at = omega (arith, frames-back)
+
+  pub nexts-at : nextsAt (tableBytes n m T M) ≡ 8 + 2 * T + 2 * before (2 ^ n) M T
+  unfolding nextsAt
+  nexts-at = omega (arith, outputs-at, count-back)
+
+  pub length-back : length (tableBytes n m T M) ≡ tableLength (tableBytes n m T M)
+  unfolding tableLength
+  length-back = bytes-length n m T M ∙ omega (arith, nexts-at, count-back, total-mul T (2 ^ n) (M .states))
+
+  -- where an entry stands
+  entry-back : (start t s w : ℕ) → t < T → entryAt (tableBytes n m T M) start t s w ≡ start + 2 * (before (2 ^ n) M t + (s * 2 ^ n + w))
+  unfolding entryAt
+  entry-back start t s w b =
+      ap₂ (λ e k. start + 2 * (e + (s * k + w))) (below-back t (omega arith)) (ap (λ k. 2 ^ k) inputs-back)
+
+  -- the table is the machine that was written
+  pub machine-back : Agree (2 ^ n) T M (machine (tableBytes n m T M))
+  machine-back = record {
+    states-are = λ t b. sym (states-back t b);
+    start-is = omega (arith, W .is-legal .start-is, W .one-first);
+    outs-are = λ t s w b l k.
+        sym (byte-back (4 + T + (before (2 ^ n) M t + (s * 2 ^ n + w))) _
+        (entry-back _ t s w b ∙ omega (arith, outputs-at))
+        (omega (arith, place-below (2 ^ n) T M t s w b l k))
+        ∙ out-word n m (2 ^ n) T M t s w b l k);
+    nexts-are = λ t s w b l k.
+        sym (byte-back (4 + T + (before (2 ^ n) M T + (before (2 ^ n) M t + (s * 2 ^ n + w)))) _
+        (entry-back _ t s w b ∙ omega (arith, nexts-at))
+        (omega (arith, place-below (2 ^ n) T M t s w b l k))
+        ∙ next-word n m (2 ^ n) T M t s w b l k);
+  }
+
+  -- and so it is within the limits
+  pub machine-writable : Writable n m T (machine (tableBytes n m T M))
+  machine-writable =
+      let A = machine-back in
+      record {
+        sizes = W .sizes;
+        is-legal = agree-legal M (machine (tableBytes n m T M)) (W .is-legal) A;
+        counts-from = λ t b. rw (states-back t b) (W .counts-from t b);
+        counts-to = λ t b. rw (states-back t b) (W .counts-to t b);
+        one-first = states-back 0 zero-le ∙ W .one-first;
+        one-last = states-back T (le-refl T) ∙ W .one-last;
+      }
+
+  -- and passes the check
+  pub bytes-pass : checked (tableBytes n m T M) ≡ answer 0 0
+  bytes-pass =
+      let b : List ℕ = tableBytes n m T M in
+      passes b length-back (subst₃ (λ n m T. Writable n m T (machine b)) (sym inputs-back) (sym outputs-back) (sym frames-back) machine-writable)

@@ -1,0 +1,64 @@
+-- Demands 2 and 3, of the bytes. b is a circuit; t are the bytes that folding it wrote. The table is the machine that the bytes are, with
+-- start 0; its states are those that it reaches when fed; the outputs of a circuit are what its simulation gives.
+use Prim.Native.Nat.{ℕ, suc, _+_, _*_, _-_, _^_, _≤_, _<_}
+use mathlib.Core.Path.{_≡_}
+use mathlib.Core.Logic.{_↔_}
+use mathlib.Core.List.{List, [], _∷_, _++_}
+use lib.ListN.{length, take, drop}
+use Rattle.verdict.specs.Figures.{answer}
+use Rattle.sizes.specs.Sizes.{inputs, outputs, frames}
+use Rattle.layered.specs.States.{Words}
+use Rattle.layered.specs.Machines.{Machine, Legal, Gives, Renumbered}
+use Rattle.circuit.specs.Circuit.{outputWords}
+use Rattle.table.specs.Table.{states, machine, checked}
+use Rattle.table.specs.Theorems.{reached}
+use Rattle.folded.specs.Folded.{foldChecked, foldResult}
+
+-- the number of the history h followed by the words c: first word highest
+unfoldable pub numbered : (K h : ℕ) → List ℕ → ℕ
+numbered K h [] = h
+numbered K h (w ∷ c) = numbered K (h * K + w) c
+
+-- the state of the table that the history c comes to
+unfoldable pub stateOf : List ℕ → List ℕ → ℕ
+stateOf t c = reached (machine t) 0 0 c
+
+-- c is the smallest of the histories of its length that come to the same state
+unfoldable pub Smallest : (K : ℕ) (t c : List ℕ) → Type 0
+Smallest K t c = (d : List ℕ) → Words K (length c) d → stateOf t d ≡ stateOf t c → numbered K 0 c ≤ numbered K 0 d
+
+module _ (K m T : ℕ) (b t : List ℕ) where
+  -- of the circuit b with 2^n = K, m outputs and T frames
+  pub record Folding : Type 0 where
+    -- the sizes are the circuit's
+    pub same-inputs : inputs t ≡ inputs b
+    pub same-outputs : outputs t ≡ outputs b
+    pub same-frames : frames t ≡ frames b
+    -- two histories of equal length reach the same state exactly when no continuation tells them apart
+    pub apart : (k : ℕ) (c d : List ℕ) → k ≤ T → Words K k c → Words K k d
+        → (stateOf t c ≡ stateOf t d) ↔ ((e : List ℕ) → Words K (T - k) e → drop k (outputWords b (c ++ e)) ≡ drop k (outputWords b (d ++ e)))
+    -- every state is reached
+    pub every-state : (k s : ℕ) → k ≤ T → s < states t k → (c : List ℕ) × Words K k c × (stateOf t c ≡ s)
+    -- a layer's states are numbered by their smallest history
+    pub in-order : (k : ℕ) (c d : List ℕ) → k ≤ T → Words K k c → Words K k d → Smallest K t c → Smallest K t d → numbered K 0 c < numbered K 0 d
+        → stateOf t c < stateOf t d
+    -- the bytes pass every check, and run from the start they give the circuit's outputs on every sequence
+    pub legal : checked t ≡ answer 0 0
+    pub gives : Gives K T (machine t) (outputWords b)
+    -- fewest: every layered machine that gives the outputs has at each layer at least as many states
+    pub fewest : (M : Machine) → Legal K m T M → Gives K T M (outputWords b) → (k : ℕ) → k ≤ T → states t k ≤ M .states k
+    -- unique: the counts are equal at all layers exactly when the machine is the table renumbered within layers
+    pub unique : (M : Machine) → Legal K m T M → Gives K T M (outputWords b)
+        → ((k : ℕ) → k ≤ T → states t k ≡ M .states k) ↔ Renumbered K T (machine t) M
+
+  -- canonical: for another circuit of equal sizes that is accepted and folded, the same bytes exactly when the two agree on every sequence
+  unfoldable pub Canonical : Type 0
+  Canonical = (d before : List ℕ) (room p : ℕ) → inputs d ≡ inputs b → outputs d ≡ outputs b → frames d ≡ frames b
+      → foldChecked d room (length before) ≡ answer 0 p
+      → (t ≡ take p (foldResult d room before)) ↔ ((c : List ℕ) → Words K T c → outputWords b c ≡ outputWords d c)
+
+-- whatever folding accepts
+unfoldable pub Foldings : Type 0
+Foldings = (b before : List ℕ) (room p : ℕ) → foldChecked b room (length before) ≡ answer 0 p
+    → Folding (2 ^ inputs b) (outputs b) (frames b) b (take p (foldResult b room before))
+    × Canonical (2 ^ inputs b) (outputs b) (frames b) b (take p (foldResult b room before))

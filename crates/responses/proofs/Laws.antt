@@ -1,0 +1,117 @@
+-- Laws of the words of a history, of the response that is packed from signals, and of a list that is filled with responses. Assumes nothing.
+use mathlib.Core.Path.{_≡_, refl, sym, ap, ap₂, _∙_}
+use mathlib.Core.Bool.{Bool}
+use mathlib.Core.List.{List, [], _∷_, _++_, append-assoc}
+use Prim.Native.Nat.{ℕ, zero, suc, _+_, _*_, _-_, _/_, _%_, _^_, _≤_, _<_}
+use native.Mathlib.Nat.{mod-lt, lt-of-lt-of-le, le-trans, mul-le-mul-left}
+use native.Mathlib.Numerals.{add-one}
+use native.Mathlib.Omega.{arith}
+use lib.ListN.{length, take, drop, set, replicate, length-append, length-replicate, take-append-drop, replicate-append-replicate}
+use lib.Pow.{pow-pos, pow-mono}
+use lib.Seq.{lt-length-set, drop-cons, append-snoc, take-append-add, getD-set-same, drop-set-lt, take-suc-set, take-at, drop-at}
+use Rattle.sizes.specs.Sizes.{inputs, outputs, frames}
+use Rattle.sizes.proofs.Laws.{power-is}
+use Rattle.layered.specs.Search.{join, tabulate}
+use Rattle.layered.proofs.Rows.{pow-mul}
+use Rattle.circuit.specs.Lists.{packed}
+use Rattle.circuit.specs.Circuit.{gates, gateSignal, outputSignal, signalValues, outputWord}
+use Rattle.circuit.specs.Legal.{Headed, HeadOf}
+use Rattle.circuit.specs.declared.Head.{Head}
+use Rattle.circuit.specs.Theorems.{historyWords, response}
+use Rattle.circuit.proofs.Laws.{signals-fit, output-at, output-room, word-is}
+use Rattle.responses.specs.Responses.{filled}
+
+-- ---- the words of a history
+
+module _ {A : Type 0} (a : A) (k n : ℕ) (h : k ≤ n) where
+  parts : replicate n a ≡ replicate k a ++ replicate (n - k) a
+  parts = let e : n ≡ k + (n - k) = omega arith in ap (λ i. replicate i a) e ∙ sym (replicate-append-replicate k (n - k) a)
+
+  take-replicate : take k (replicate n a) ≡ replicate k a
+  take-replicate = ap (take k) parts ∙ take-at (replicate k a) _ k (length-replicate k a)
+
+  drop-replicate : drop k (replicate n a) ≡ replicate (n - k) a
+  drop-replicate = ap (drop k) parts ∙ drop-at (replicate k a) _ k (length-replicate k a)
+
+module _ (K : ℕ) where
+  history-length : (t h : ℕ) → length (historyWords K t h) ≡ t
+  unfolding historyWords
+  history-length zero h = refl
+  history-length (suc t) h = length-append (historyWords K t (h / K)) _ ∙ add-one _ ∙ ap suc (history-length t (h / K))
+
+  -- the words are stored from the last to the first: at first none is, and the list holds zeros
+  pub words-none : (t h : ℕ) → t ≤ 16 → historyWords K (t - 0) h ++ drop (t - 0) (replicate 16 0) ≡ historyWords K t h ++ replicate (16 - t) 0
+  words-none t h l =
+      let e : t - 0 ≡ t = omega arith in
+      rw e (ap (λ s. historyWords K t h ++ s) (drop-replicate 0 t 16 l))
+
+  -- the last of the j words that are left is stored
+  pub words-more : (v w : List ℕ) (j i q L : ℕ) → i < length v → j ≡ suc i → L ≡ K → historyWords K j q ++ drop j v ≡ w
+      → (j′ : ℕ) → j′ ≡ i → historyWords K j′ (q / L) ++ drop j′ (set v i (q % L)) ≡ w
+  unfolding historyWords
+  words-more v w j i q L h ej eL e j′ e′ =
+      let tail : drop i (set v i (q % K)) ≡ q % K ∷ drop (suc i) v =
+      drop-cons (set v i (q % K)) i 0 (lt-length-set v i (q % K) h)
+      ∙ ap₂ _∷_ (getD-set-same v i (q % K) 0 h) (drop-set-lt (suc i) v i (q % K) (omega arith)) in
+      rw (e′, eL, tail)
+      (sym (append-snoc (historyWords K i (q / K)) (q % K) (drop (suc i) v)) ∙ (rw ej at e))
+
+  -- all are stored
+  pub words-all : (v w : List ℕ) (j q : ℕ) → j ≡ 0 → historyWords K j q ++ drop j v ≡ w → v ≡ w
+  unfolding historyWords
+  words-all v w j q ej e = rw ej at e
+
+  -- the words of T frames, of which t are the history's
+  pub words-of : (t h T : ℕ) → t ≤ T → T ≤ 16 → take T (historyWords K t h ++ replicate (16 - t) 0) ≡ historyWords K t h ++ replicate (T - t) 0
+  words-of t h T l m =
+      let e : T ≡ length (historyWords K t h) + (T - t) = omega (arith, history-length t h) in
+      ap (λ k. take k (historyWords K t h ++ replicate (16 - t) 0)) e
+      ∙ take-append-add (historyWords K t h) (replicate (16 - t) 0) (T - t)
+      ∙ ap (λ s. historyWords K t h ++ s) (take-replicate 0 (T - t) (16 - t) (omega arith))
+
+-- a word of n bits, by `1 << n`
+pub word-fits : (n q : ℕ) → n ≤ 16 → (0 < (1 * 2 ^ n) % 2 ^ 64) × (q % ((1 * 2 ^ n) % 2 ^ 64) < 65536)
+word-fits n q h = rw (power-is n h) (pow-pos n, lt-of-lt-of-le (mod-lt q (pow-pos n)) (pow-mono {j = 16} h))
+
+-- ---- the response
+
+-- the signal of the first output of frame t, from 1, as the code has it
+abbrev pub firstOutput : Head → (t : ℕ) → ℕ
+firstOutput head t = head .base + (head .gates - head .total) + head .outputs * (t - 1)
+
+module _ (b : List ℕ) (head : Head) (H : Headed b) (O : HeadOf b head) (t : ℕ) (t≥ : 1 ≤ t) (t≤ : t ≤ frames b) where
+  first-is : firstOutput head t ≡ outputSignal b (outputs b * (t - 1))
+  first-is = rw (O .outputs-is) (output-at b (head .base) (head .gates) (head .total) (outputs b * (t - 1)) (O .base-is) (O .gates-is) (O .total-is))
+
+  -- the outputs of frame t are signals, and there is room for every signal
+  pub outputs-fit : (firstOutput head t + head .outputs ≤ gateSignal b (gates b)) × (gateSignal b (gates b) ≤ 4113)
+  outputs-fit = (omega (arith, first-is, O .outputs-is, output-room b (t - 1) (H .outputs-to) (omega arith)), signals-fit b H)
+
+  -- the outputs of frame t, of the values v of all signals on the words of the history h, followed by zeros
+  pub response-is : (v : List Bool) (words : List ℕ) (h : ℕ) → words ≡ historyWords (2 ^ head .inputs) t h ++ replicate (16 - t) 0
+      → take (gateSignal b (gates b)) v ≡ signalValues b (take (head .frames) words) (gates b)
+      → packed (take (head .outputs) (drop (firstOutput head t) v)) ≡ response b t h
+  unfolding response
+  response-is v words h ew ev =
+      let fed : take (head .frames) words ≡ historyWords (2 ^ inputs b) t h ++ replicate (frames b - t) 0 =
+      rw (ew, O .inputs-is, O .frames-is) (words-of (2 ^ inputs b) t h (frames b) t≤ (H .sizes .frames-to)) in
+      word-is b (take (head .frames) words) v (head .outputs) (firstOutput head t) (t - 1) ev (O .outputs-is) first-is (outputs-fit .0)
+      ∙ ap (λ (s : List ℕ). outputWord b s (t - 1)) fed
+
+-- ---- all histories
+
+-- how many histories of t words there are
+module _ (b : List ℕ) (H : Headed b) (n t : ℕ) (en : n ≡ inputs b) (l : t ≤ frames b) where
+  pub bits-to : n * t ≤ 16
+  bits-to = rw en (omega (arith, mul-le-mul-left (inputs b) l, H .sizes .bits-to))
+
+  pub count-is : (1 * 2 ^ (n * t)) % 2 ^ 64 ≡ (2 ^ inputs b) ^ t
+  count-is = power-is (n * t) bits-to ∙ pow-mul 2 n t ∙ ap (λ k. (2 ^ k) ^ t) en
+
+pub fill-more : (f : ℕ → ℕ) (v : List ℕ) (k x : ℕ) → k < length v → take k v ≡ tabulate k f → x ≡ f k → take (k + 1) (set v k x) ≡ tabulate (k + 1) f
+unfolding tabulate join
+fill-more f v k x h e q = rw (add-one k, take-suc-set v k x h) (ap₂ (λ (l : List ℕ) (a : ℕ). l ++ (a ∷ [])) e q)
+
+pub all-filled : (b v v₀ : List ℕ) (t k : ℕ) → k ≡ (2 ^ inputs b) ^ t → take k v ≡ tabulate k (response b t) → drop k v ≡ drop k v₀ → v ≡ filled b t v₀
+unfolding filled
+all-filled b v v₀ t k ek e₁ e₂ = rw (← ek, ← e₁, ← e₂) (sym (take-append-drop k v))

@@ -1,0 +1,147 @@
+-- What acceptance tells of a table. Assumes nothing.
+use mathlib.Core.Path.{_≡_, refl, sym, ap, _∙_}
+use mathlib.Core.Bool.{Bool, true, false, not, _||_, or-true}
+use mathlib.Core.List.{List}
+use Prim.Native.Nat.{ℕ, zero, suc, _+_, _*_, _/_, _^_, _≤_, _<_, zero-le}
+use native.Mathlib.Omega.{arith}
+use lib.Dec.{ltb, leb, eqb, lit≤}
+use lib.ListN.{length, take, drop, length-take, length-drop}
+use borrow.Author.Tests.{ltb-false, leb-false, eqb-true, eqb-false, eq-eqb, not-false}
+use Rattle.words.specs.Words.{wordAt}
+use Rattle.verdict.specs.Figures.{answer, pick, refuse, firstRefusal}
+use Rattle.verdict.specs.declared.Figures.{Figures}
+use Rattle.verdict.proofs.Laws.{both-accept, passed, none-found, row-accepts}
+use Rattle.sizes.specs.Sizes.{inputs, outputs, frames, outside, sizesChecked}
+use Rattle.sizes.proofs.Laws.{inside, sized}
+use Rattle.table.specs.Table.{countAt, states, headLength, entriesBelow, entryCount, outputsAt, nextsAt, tableLength, entryAt, layerPart, machine, countsChecked, headChecked, partChecked, outputsChecked, nextsChecked, checked, positionChecked}
+use Rattle.table.specs.Headed.{Headed, Sound}
+use Rattle.table.specs.Theorems.{LegalTable}
+use Rattle.table.proofs.Offsets.{part-word, row-in, layer-in, arrays-stand}
+
+-- ---- the head
+
+-- each count is within its limits
+module _ (b : List ℕ) (p : ℕ) (e : countsChecked b ≡ answer 0 p) where
+  counted : (t : ℕ) → t ≤ frames b → (1 ≤ states b t) × (states b t ≤ pick (eqb t 0 || eqb t (frames b)) 1 32768)
+  unfolding countsChecked
+  counted t h =
+      inside 1 _ (states b t)
+      (none-found (λ t. outside 1 (pick (eqb t 0 || eqb t (frames b)) 1 32768) (states b t)) 2 countAt (answer 0 0) p 0 (suc (frames b)) refl e .0 t zero-le (omega arith))
+
+-- the limits of a count are at most 32,768, and 1 for layer T
+either-most : (s : Bool) → pick s 1 32768 ≤ 32768
+either-most true = lit≤ tt
+either-most false = lit≤ tt
+
+last-most : (s t : Bool) → t ≡ true → pick (s || t) 1 32768 ≤ 1
+last-most s t e = rw (e, or-true) (lit≤ tt)
+
+-- a head that is accepted
+pub headed : (b : List ℕ) (p : ℕ) → headChecked b ≡ answer 0 p → Headed b
+unfolding headChecked
+headed b p e =
+    let e₁ = passed (ltb (length b) 6) 1 (length b) _ p refl e in
+    let e₂ = both-accept (sizesChecked 8 (inputs b) (outputs b) (frames b)) _ p (e₁ .1) in
+    let e₃ = passed (ltb (length b) (headLength (frames b))) 1 (length b) _ p refl (e₂ .2) in
+    let e₄ = both-accept (countsChecked b) _ p (e₃ .1) in
+    let e₅ = passed (not (eqb (length b) (tableLength b))) 1 (length b) _ p refl (e₄ .2) in
+    let count = counted b (e₄ .0) (e₄ .1) in
+    let most = last-most (eqb (frames b) 0) (eqb (frames b) (frames b)) (eq-eqb (frames b) (frames b) refl) in
+    record {
+      sized = sized 8 (inputs b) (outputs b) (frames b) (e₂ .0) (e₂ .1);
+      one-first = omega (arith, count 0 zero-le);
+      one-last = omega (arith, count (frames b) (omega arith), most);
+      states-from = λ t h. count t h .0;
+      states-to = λ t h. omega (arith, count t h .1, either-most (eqb t 0 || eqb t (frames b)));
+      whole = eqb-true (length b) (tableLength b) (not-false _ (e₅ .0));
+    }
+
+-- ---- the entries
+
+-- each word of a part that is accepted is below the limit
+part-below : (limit at : ℕ) (part : List ℕ) (p : ℕ) → partChecked limit at part ≡ answer 0 p → (i : ℕ) → i < length part / 2 → wordAt part (2 * i) < limit
+unfolding partChecked
+part-below limit at part p e i h =
+    leb-false limit _
+    (none-found (λ i. leb limit (wordAt part (2 * i))) 5 (λ i. at + 2 * i) (answer 0 0) p 0 (length part / 2) refl e .0 i zero-le (omega arith))
+
+-- so each of the k words of b that a part holds is
+words-below : (limit at : ℕ) (b : List ℕ) (start k p : ℕ) → start + 2 * k ≤ length b → partChecked limit at (take (2 * k) (drop start b)) ≡ answer 0 p
+    → (i : ℕ) → i < k → wordAt b (start + 2 * i) < limit
+words-below limit at b start k p l e i h =
+    let n : length (take (2 * k) (drop start b)) ≡ 2 * k = simp (length-take, length-drop) (omega arith) in
+    let r : 2 * i + 2 ≤ 2 * k = omega arith in
+    rw (part-word b start (2 * k) (2 * i) r) at (part-below limit at _ p e i (omega arith))
+
+-- so the outputs and the next states of the machine are
+module _ (b : List ℕ) (p : ℕ) (h : Headed b) where
+  below-outputs : outputsChecked b ≡ answer 0 p → (t s w : ℕ) → t < frames b → s < states b t → w < 2 ^ inputs b → machine b .out t s w < 2 ^ outputs b
+  unfolding outputsChecked entryAt
+  below-outputs e t s w ht hs hw =
+      words-below (2 ^ outputs b) (outputsAt b) b (outputsAt b) (entryCount b) p (omega (arith, arrays-stand b, h .whole)) e
+      (entriesBelow b t + (s * 2 ^ inputs b + w))
+      (omega (arith, layer-in b t ht, row-in s (states b t) w (2 ^ inputs b) hs hw))
+
+  below-nexts : nextsChecked b ≡ answer 0 p → (t s w : ℕ) → t < frames b → s < states b t → w < 2 ^ inputs b → machine b .next t s w < states b (suc t)
+  unfolding nextsChecked entryAt layerPart
+  below-nexts e t s w ht hs hw =
+      let a = row-accepts (λ t. partChecked (states b (suc t)) (nextsAt b + 2 * entriesBelow b t) (layerPart b (nextsAt b) t)) p 0 (frames b) e t zero-le (omega arith) in
+      let q : nextsAt b + 2 * (entriesBelow b t + (s * 2 ^ inputs b + w)) ≡ nextsAt b + 2 * entriesBelow b t + 2 * (s * 2 ^ inputs b + w) = omega arith in
+      rw q
+      (words-below (states b (suc t)) _ b (nextsAt b + 2 * entriesBelow b t) (states b t * 2 ^ inputs b) (a .0) (omega (arith, layer-in b t ht, arrays-stand b, h .whole)) (a .1)
+      (s * 2 ^ inputs b + w)
+      (row-in s (states b t) w (2 ^ inputs b) hs hw))
+
+-- ---- the table
+
+-- its head is accepted
+pub head-accepts : (b : List ℕ) (p : ℕ) → checked b ≡ answer 0 p → (q : ℕ) × (headChecked b ≡ answer 0 q)
+unfolding checked
+head-accepts b p e = let s = both-accept (headChecked b) _ p e in (s .0, s .1)
+
+-- a row of judgements that accepts has place 0
+row-place : (f : ℕ → Figures) (p k c : ℕ) → firstRefusal f k c ≡ answer 0 p → p ≡ 0
+unfolding firstRefusal
+row-place f p k zero e = sym (ap (λ (f : Figures). f .place) e)
+row-place f p k (suc c) e = row-place f p (suc k) c (both-accept (f k) (firstRefusal f (suc k) c) p e .2)
+
+-- the theorem
+pub legal-table : (b : List ℕ) → LegalTable b
+unfolding LegalTable checked nextsChecked
+legal-table b p e =
+    let e₁ = both-accept (headChecked b) _ p e in
+    let e₂ = both-accept (outputsChecked b) (nextsChecked b) p (e₁ .2) in
+    let h = headed b (e₁ .0) (e₁ .1) in (
+      record {
+        headed = h;
+        legal = record {
+          start-is = omega (arith, h .one-first);
+          out-is = below-outputs b (e₂ .0) h (e₂ .1);
+          next-is = below-nexts b p h (e₂ .2);
+        };
+      },
+      row-place _ p 0 (frames b) (e₂ .2),
+    )
+
+-- sizes, counts, length and machine of an accepted table
+pub sound : (b : List ℕ) (p : ℕ) → checked b ≡ answer 0 p → Sound b
+unfolding LegalTable
+sound b p e = legal-table b p e .0
+
+-- ---- a position
+
+-- two tests of one judgement are two judgements
+apart : (s t : Bool) (k p : ℕ) (f : Figures) → refuse (s || t) k p f ≡ refuse s k p (refuse t k p f)
+apart true t k p f = refl
+apart false t k p f = refl
+
+-- a position and a word that are accepted are those of an entry
+pub placed : (b : List ℕ) (t s w p : ℕ) → positionChecked b t s w ≡ answer 0 p → (t < frames b) × (s < states b t) × (w < 2 ^ inputs b)
+unfolding positionChecked
+placed b t s w p e =
+    let e₁ = passed (ltb (frames b) t) 11 t _ p refl (sym (apart (ltb (frames b) t) (leb (states b t) s) 11 t _) ∙ e) in
+    let e₂ = passed (leb (states b t) s) 11 t _ p refl (e₁ .1) in
+    let e₃ = passed (eqb t (frames b)) 10 (frames b) _ p refl (e₂ .1) in
+    let e₄ = passed (leb (2 ^ inputs b) w) 9 0 _ p refl (e₃ .1) in
+    let n = eqb-false t (frames b) (e₃ .0) in
+    (omega (arith, ltb-false (frames b) t (e₁ .0)), leb-false (states b t) s (e₂ .0), leb-false (2 ^ inputs b) w (e₄ .0))

@@ -1,0 +1,4 @@
+pub mod Offsets
+pub mod Accepted
+pub mod Steps
+pub mod Runs

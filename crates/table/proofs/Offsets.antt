@@ -1,0 +1,93 @@
+-- Where things stand in a table: the head, the entries below a layer, and the layout as the code holds it. Assumes nothing.
+use mathlib.Core.Path.{_≡_, refl, ap, _∙_}
+use mathlib.Core.Logic.{⊎-elim}
+use mathlib.Core.List.{List}
+use Prim.Native.Nat.{ℕ, zero, suc, _+_, _*_, _^_, _≤_, _<_}
+use native.Mathlib.Nat.{suc-mul, mul-le-mul, mul-le-mul-right, le-trans, le-of-lt, eq-or-lt-of-le}
+use native.Mathlib.Omega.{arith}
+use lib.Dec.{lit≤}
+use lib.Pow.{pow-mono}
+use lib.ListN.{length, take, drop}
+use Rattle.words.specs.Words.{wordAt}
+use Rattle.words.proofs.Laws.{number-take, number-drop}
+use Rattle.sizes.specs.Sizes.{inputs, outputs, frames}
+use Rattle.table.specs.Table.{countAt, states, headLength, entriesBelow, entryCount, outputsAt, nextsAt, tableLength}
+use Rattle.table.specs.Headed.{Headed, layoutOf}
+use Rattle.table.specs.declared.Layout.{Layout}
+
+-- the length of the head
+pub head-length : (T : ℕ) → headLength T ≡ 8 + 2 * T
+unfolding headLength countAt
+head-length T = omega arith
+
+-- a word of a part of b that has k bytes
+pub part-word : (b : List ℕ) (start k i : ℕ) → i + 2 ≤ k → wordAt (take k (drop start b)) i ≡ wordAt b (start + i)
+unfolding wordAt
+part-word b start k i h = number-take 2 k (drop start b) i h ∙ number-drop 2 start b i
+
+-- the entry of state s and word w is one of those of S states, each with K words
+pub row-in : (s S w K : ℕ) → s < S → w < K → s * K + w < S * K
+row-in s S w K hs hw = omega (arith, suc-mul s K, mul-le-mul-right K hs)
+
+-- the entries of a layer are few, whatever its count is
+pub row-small : (S K : ℕ) → S < 65536 → K ≤ 256 → S * K ≤ 16777216
+row-small S K hs hk = le-trans (mul-le-mul (le-of-lt hs) hk) (lit≤ tt)
+
+module _ (b : List ℕ) where
+  -- layer t's entries follow those below it
+  pub below-next : (t : ℕ) → entriesBelow b (suc t) ≡ entriesBelow b t + states b t * 2 ^ inputs b
+  unfolding entriesBelow
+  below-next t = refl
+
+  -- so more layers have more
+  pub below-mono : (t u : ℕ) → t ≤ u → entriesBelow b t ≤ entriesBelow b u
+  below-mono t zero h = let e : t ≡ 0 = omega arith in rw e (omega arith)
+  below-mono t (suc u) h = ⊎-elim (λ e. rw e (omega arith)) (λ l. omega (arith, below-mono t u (omega arith), below-next u)) (eq-or-lt-of-le h)
+
+  -- a layer's entries are among all
+  pub layer-in : (t : ℕ) → t < frames b → entriesBelow b t + states b t * 2 ^ inputs b ≤ entryCount b
+  unfolding entryCount
+  layer-in t h = omega (arith, below-next t, below-mono (suc t) (frames b) h)
+
+-- the words of a frame are at most 256
+pub words-most : (n : ℕ) → n ≤ 8 → 2 ^ n ≤ 256
+words-most n h = pow-mono {j = 8} h
+
+-- the arrays follow the head and each other
+pub arrays-stand : (b : List ℕ) → (outputsAt b ≡ 8 + 2 * frames b) × (nextsAt b ≡ outputsAt b + 2 * entryCount b) × (tableLength b ≡ nextsAt b + 2 * entryCount b)
+unfolding outputsAt nextsAt tableLength
+arrays-stand b = (head-length (frames b), refl, refl)
+
+-- a layout that was read: its fields, and what bounds them
+pub record Laid (b : List ℕ) (l : Layout) : Type 0 where
+  pub words-is : l .words ≡ 2 ^ inputs b
+  pub frames-is : l .frames ≡ frames b
+  pub limit-is : l .limit ≡ 2 ^ outputs b
+  pub outputs-is : l .outputs ≡ outputsAt b
+  pub nexts-is : l .nexts ≡ nextsAt b
+  pub words-to : l .words ≤ 256
+  pub frames-to : l .frames ≤ 16
+  pub outputs-at : l .outputs ≡ 8 + 2 * l .frames
+  pub nexts-at : l .nexts ≡ l .outputs + 2 * entryCount b
+  pub end-at : length b ≡ l .nexts + 2 * entryCount b
+
+-- of a table whose head is accepted
+pub laid : (b : List ℕ) (l : Layout) → Headed b → l ≡ layoutOf b → Laid b l
+laid b l h e =
+    let a = arrays-stand b in
+    let f : l .frames ≡ frames b = ap (λ (l : Layout). l .frames) e in
+    let w : l .words ≡ 2 ^ inputs b = ap (λ (l : Layout). l .words) e in
+    let o : l .outputs ≡ outputsAt b = ap (λ (l : Layout). l .outputs) e in
+    let n : l .nexts ≡ nextsAt b = ap (λ (l : Layout). l .nexts) e in
+    record {
+      words-is = w;
+      frames-is = f;
+      limit-is = ap (λ (l : Layout). l .limit) e;
+      outputs-is = o;
+      nexts-is = n;
+      words-to = omega (arith, words-most (inputs b) (h .sized .inputs-to));
+      frames-to = omega (arith, h .sized);
+      outputs-at = omega arith;
+      nexts-at = omega arith;
+      end-at = omega (arith, h .whole);
+    }

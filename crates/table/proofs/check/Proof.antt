@@ -1,0 +1,88 @@
+-- `table::check` meets its contract: each stage is the definition's, and an accepted head gives the others what they require.
+-- Assumes nothing.
+use denote.Ref.{now}
+use Rattle.verdict.proofs.Laws.{stop, go-on, accepts}
+use Rattle.table.specs.Table.{checked}
+use Rattle.table.specs.Headed.{Headed}
+use Rattle.table.proofs.Accepted.{headed, legal-table}
+use borrow.Author.Needs.{needs}
+use Rattle.table.proofs.check.Statement.{statement}
+use Rattle.table.proofs.check.Tie as tie
+
+-- the head is accepted
+headed₁ : (c : tie.After-enum-told) → Headed (now (c .before .before .before .before .args .table))
+headed₁ c =
+    let k = c .before .before in
+    let p = c .enum-told .given .0 .0 in
+    headed _ p (accepts (k .check-head .result) _ p (k .check-head .ensures) (c .enum-told .given .1))
+
+check-head-requires : tie.Need-check-head-requires
+check-head-requires c κs = search needs
+
+enum-told : tie.Need-enum-told
+enum-told c = search needs
+
+enum-told-2 : tie.Need-enum-told-2
+enum-told-2 c = search needs
+
+returns : tie.Need-returns
+unfolding checked
+returns c =
+    let k = c .before .before in
+    (stop (k .check-head .result) _ _ (c .enum-told2 .given .0 .0) (k .check-head .ensures) (c .enum-told2 .given .1), legal-table _)
+
+read-requires : tie.Need-read-requires
+read-requires c κs = headed₁ c
+
+check-outputs-requires : tie.Need-check-outputs-requires
+check-outputs-requires c κs = (headed₁ (c .before), c .read .ensures)
+
+enum-told-3 : tie.Need-enum-told-3
+enum-told-3 c = search needs
+
+enum-told-4 : tie.Need-enum-told-4
+enum-told-4 c = search needs
+
+returns-2 : tie.Need-returns-2
+unfolding checked
+returns-2 c =
+    let o = c .before .before in
+    let e = o .before .before in
+    let k = e .before .before in (
+      go-on (k .check-head .result) _ _ _ (e .enum-told .given .0 .0) (k .check-head .ensures) (e .enum-told .given .1)
+          (stop (o .check-outputs .result) _ _ (c .enum-told4 .given .0 .0) (o .check-outputs .ensures) (c .enum-told4 .given .1)),
+      legal-table _,
+    )
+
+check-nexts-requires : tie.Need-check-nexts-requires
+check-nexts-requires c κs =
+    let r = c .before .before .before in
+    (headed₁ (r .before), r .read .ensures)
+
+returns-3 : tie.Need-returns-3
+unfolding checked
+returns-3 c =
+    let d = c .before in
+    let o = d .before .before in
+    let e = o .before .before in
+    let k = e .before .before in (
+      go-on (k .check-head .result) _ _ _ (e .enum-told .given .0 .0) (k .check-head .ensures) (e .enum-told .given .1)
+          (go-on (o .check-outputs .result) _ _ _ (d .enum-told3 .given .0 .0) (o .check-outputs .ensures) (d .enum-told3 .given .1) (c .check-nexts .ensures)),
+      legal-table _,
+    )
+
+pub check-spec : {M : Type 1} → statement M
+check-spec =
+    tie.close
+    (tie.spec
+    check-head-requires
+    enum-told
+    enum-told-2
+    returns
+    read-requires
+    check-outputs-requires
+    enum-told-3
+    enum-told-4
+    returns-2
+    check-nexts-requires
+    returns-3)

@@ -1,0 +1,128 @@
+// The head of a table: the sizes and the counts of states, their judgement, and where the arrays stand.
+use super::Layout;
+use super::Limits;
+use sizes::Sizes;
+use sizes::is_outside;
+use verdict::Refusal;
+use verdict::Verdict;
+use words::read;
+ghost use mathlib.Core.Path.{_≡_};
+ghost use mathlib.Core.Bool.{_||_};
+ghost use Prim.Native.Nat.{_+_, _*_, _^_, _≤_, _<_};
+ghost use lib.Dec.{eqb};
+ghost use lib.ListN.{length};
+ghost use Rattle.verdict.specs.Figures.{figures, pick};
+ghost use Rattle.sizes.specs.Sizes.{inputs, frames};
+ghost use Rattle.table.specs.Table.{states, headLength, entriesBelow, countsChecked, headChecked};
+ghost use Rattle.table.specs.Headed.{Headed, layoutOf};
+
+// 2 to the power of `bits`.
+fn power(bits: usize) -> usize
+    requires { ⌜ bits ≤ 16 ⌝ }
+    ensures { λ r. ⌜ r ≡ 2 ^ bits ⌝ }
+{
+    1 << bits
+}
+
+// The length of the head of a table of so many frames.
+pub fn head_length(frames: usize) -> usize
+    requires { ⌜ frames ≤ 16 ⌝ }
+    ensures { λ r. ⌜ r ≡ headLength frames ⌝ }
+{
+    8 + 2 * frames
+}
+
+// How many states layer t has.
+pub fn states_of(table: &[u8], t: usize) -> usize
+    requires { ⌜ 7 + 2 * t < length (now table) ⌝ }
+    ensures { λ r. ⌜ (r ≡ states (now (table .entry)) t) × (r < 65536) ⌝ }
+{
+    read(table, 6 + 2 * t)
+}
+
+// How many states layer t can have.
+fn most_states(t: usize, frames: usize) -> usize
+    ensures { λ r. ⌜ r ≡ pick (eqb t 0 || eqb t frames) 1 32768 ⌝ }
+{
+    if t == 0 || t == frames {
+        Limits::ENDS
+    } else {
+        Limits::STATES
+    }
+}
+
+// Number 2, of the counts.
+fn check_counts(table: &[u8], last: usize) -> Verdict
+    requires { ⌜ last ≡ frames (now table) ⌝ }
+    requires { ⌜ 7 + 2 * last < length (now table) ⌝ }
+    ensures { λ r. ⌜ figures r ≡ countsChecked (now (table .entry)) ⌝ }
+{
+    let count = last + 1;
+    for t in 0..count {
+        if is_outside(1, most_states(t, last), states_of(table, t)) {
+            return Verdict::Refused(Refusal::Size(6 + 2 * t));
+        }
+    }
+    Verdict::Accepted(0)
+}
+
+// How many entries the layers below `layer` have, where each state has one for each of `words`.
+pub fn entries_below(table: &[u8], words: usize, layer: usize) -> usize
+    requires { ⌜ (words ≡ 2 ^ inputs (now table)) × (words ≤ 256) ⌝ }
+    requires { ⌜ (layer ≤ 16) × (6 + 2 * layer ≤ length (now table)) ⌝ }
+    ensures { λ r. ⌜ (r ≡ entriesBelow (now (table .entry)) layer) × (r ≤ 268435456) ⌝ }
+{
+    let mut entries = 0;
+    for t in 0..layer {
+        entries += states_of(table, t) * words;
+    }
+    entries
+}
+
+// All that is judged before number 5: 1 (six bytes), 2 (n, m, T), 1 (head), 2 (counts), 1 (length).
+pub fn check_head(table: &[u8]) -> Verdict
+    ensures { λ r. ⌜ figures r ≡ headChecked (now (table .entry)) ⌝ }
+{
+    let length = table.len();
+    if length < Limits::SIZES {
+        return Verdict::Refused(Refusal::Length(length));
+    }
+    let sizes = Sizes::read(table);
+    let sized = sizes.check(sizes::Limits::INPUTS);
+    let Verdict::Accepted(_) = sized else {
+        return sized;
+    };
+    let head = head_length(sizes.frames);
+    if length < head {
+        return Verdict::Refused(Refusal::Length(length));
+    }
+    let counted = check_counts(table, sizes.frames);
+    let Verdict::Accepted(_) = counted else {
+        return counted;
+    };
+    let entries = entries_below(table, power(sizes.inputs), sizes.frames);
+    if length != head + 4 * entries {
+        return Verdict::Refused(Refusal::Length(length));
+    }
+    Verdict::Accepted(0)
+}
+
+impl Layout {
+    pub fn read(table: &[u8]) -> Layout
+        requires { ⌜ Headed (now table) ⌝ }
+        ensures { λ r. ⌜ r ≡ layoutOf (now (table .entry)) ⌝ }
+    {
+        let sizes = Sizes::read(table);
+        let words = power(sizes.inputs);
+        let limit = power(sizes.outputs);
+        let outputs = head_length(sizes.frames);
+        let entries = entries_below(table, words, sizes.frames);
+        Layout {
+            words,
+            frames: sizes.frames,
+            limit,
+            outputs,
+            nexts: outputs + 2 * entries,
+        }
+    }
+}
