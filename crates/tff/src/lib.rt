@@ -1,12 +1,16 @@
 // The C interface. Slices pass as pointer and length. `answer` receives document 01's number and place in its first two numbers, then the
 // further values named; the rest of it stays as before. Where `answer` is too short for that, nothing at all is changed.
+use table::Position;
+use table::StepFigures;
 use verdict::Verdict;
 ghost use mathlib.Core.Path.{_≡_};
 ghost use Prim.Native.Nat.{_≤_};
 ghost use lib.ListN.{length};
 ghost use Rattle.verdict.specs.Figures.{figures};
 ghost use Rattle.circuit.specs.Circuit.{checked, simulated, simulationResult};
-ghost use Rattle.tff.specs.Answer.{answered, ifRoom};
+ghost use Rattle.table.specs.Table.{checked as tableChecked, ran, runResult, stepped};
+ghost use Rattle.folded.specs.Folded.{foldChecked, foldResult, foldScratch};
+ghost use Rattle.tff.specs.Answer.{answered, stepAnswered, ifRoom};
 
 // Puts the figures of a verdict into `answer`, which has room for them.
 fn put(verdict: Verdict, answer: &mut [u64])
@@ -42,4 +46,69 @@ pub extern "C" fn tff_simulate(
         return;
     }
     put(circuit::simulate(circuit, words, result), answer);
+}
+
+#[no_mangle]
+pub extern "C" fn tff_check_table(table: &[u8], answer: &mut [u64])
+    ensures { λ _. ⌜ now (answer .exit) ≡ ifRoom (now (answer .entry)) 2 (answered (tableChecked (now (table .entry))) (now (answer .entry))) (now (answer .entry)) ⌝ }
+{
+    if answer.len() < 2 {
+        return;
+    }
+    put(table::check(table), answer);
+}
+
+#[no_mangle]
+pub extern "C" fn tff_run(table: &[u8], words: &[u16], result: &mut [u16], answer: &mut [u64])
+    ensures answer { λ _. ⌜ now (answer .exit) ≡ ifRoom (now (answer .entry)) 2 (answered (ran (now (table .entry)) (now (words .entry)) (length (now (result .entry)))) (now (answer .entry))) (now (answer .entry)) ⌝ }
+    ensures result { λ _. ⌜ now (result .exit) ≡ ifRoom (now (answer .entry)) 2 (runResult (now (table .entry)) (now (words .entry)) (now (result .entry))) (now (result .entry)) ⌝ }
+{
+    if answer.len() < 2 {
+        return;
+    }
+    put(table::run(table, words, result), answer);
+}
+
+// Puts all figures of a step into `answer`, which has room for them.
+fn put_step(figures: StepFigures, answer: &mut [u64])
+    requires { ⌜ 5 ≤ length (now answer) ⌝ }
+    ensures { λ _. ⌜ now (answer .exit) ≡ stepAnswered figures (now (answer .entry)) ⌝ }
+{
+    answer[0] = figures.number as u64;
+    answer[1] = figures.place as u64;
+    answer[2] = figures.output as u64;
+    answer[3] = figures.layer as u64;
+    answer[4] = figures.state as u64;
+}
+
+#[no_mangle]
+pub extern "C" fn tff_step(table: &[u8], layer: u16, state: u16, word: u16, answer: &mut [u64])
+    ensures { λ _. ⌜ now (answer .exit) ≡ ifRoom (now (answer .entry)) 5 (stepAnswered (stepped (now (table .entry)) layer state word) (now (answer .entry))) (now (answer .entry)) ⌝ }
+{
+    if answer.len() < 5 {
+        return;
+    }
+    let position = Position {
+        layer: layer as usize,
+        state: state as usize,
+    };
+    let step = table::step(table, position, word);
+    put_step(step.figures(), answer);
+}
+
+#[no_mangle]
+pub extern "C" fn tff_fold(
+    circuit: &[u8],
+    scratch: &mut [u16],
+    result: &mut [u8],
+    answer: &mut [u64],
+)
+    ensures answer { λ _. ⌜ now (answer .exit) ≡ ifRoom (now (answer .entry)) 2 (answered (foldChecked (now (circuit .entry)) (length (now (scratch .entry))) (length (now (result .entry)))) (now (answer .entry))) (now (answer .entry)) ⌝ }
+    ensures result { λ _. ⌜ now (result .exit) ≡ ifRoom (now (answer .entry)) 2 (foldResult (now (circuit .entry)) (length (now (scratch .entry))) (now (result .entry))) (now (result .entry)) ⌝ }
+    ensures scratch { λ _. ⌜ now (scratch .exit) ≡ ifRoom (now (answer .entry)) 2 (foldScratch (now (circuit .entry)) (now (scratch .entry)) (length (now (result .entry)))) (now (scratch .entry)) ⌝ }
+{
+    if answer.len() < 2 {
+        return;
+    }
+    put(fold::fold(circuit, scratch, result), answer);
 }

@@ -1,0 +1,34 @@
+//! Time-frame folding: a circuit of AND gates over frames becomes a layered state table.
+//!
+//! Safe calls of the proved library. Every call takes its memory from the caller and answers with a
+//! number, 0 where it accepts and otherwise the reason of its refusal, and a place. The meaning of
+//! both, and of every byte written, is that of `include/tff.h`.
+
+mod circuit;
+mod fold;
+mod table;
+mod unfold;
+
+pub mod raw;
+
+pub use circuit::{check_circuit, simulate};
+pub use fold::fold;
+pub use table::{check_table, run, step, Stepped};
+pub use unfold::unfold;
+
+/// What a call answers: 0 or the reason of its refusal, and a place.
+#[derive(Clone, Copy, Debug, PartialEq, Eq)]
+pub struct Answer {
+    pub number: u64,
+    pub place: u64,
+}
+
+impl Answer {
+    /// The answer that `call` writes into the numbers it is given.
+    fn of(call: impl FnOnce(&mut [u64; 2])) -> Answer {
+        let mut answer = [0; 2];
+        call(&mut answer);
+        let [number, place] = answer;
+        Answer { number, place }
+    }
+}

@@ -1,0 +1,69 @@
+//! The C functions as they are; each slice is a pointer and a length.
+//!
+//! # Safety
+//!
+//! A pointer is that of a slice of the length that follows it, and a slice that is written to
+//! shares no element with another.
+
+extern "C" {
+    pub fn tff_check_circuit(
+        circuit: *const u8,
+        circuit_len: usize,
+        answer: *mut u64,
+        answer_len: usize,
+    );
+
+    pub fn tff_simulate(
+        circuit: *const u8,
+        circuit_len: usize,
+        words: *const u16,
+        words_len: usize,
+        result: *mut u16,
+        result_len: usize,
+        answer: *mut u64,
+        answer_len: usize,
+    );
+
+    pub fn tff_fold(
+        circuit: *const u8,
+        circuit_len: usize,
+        scratch: *mut u16,
+        scratch_len: usize,
+        result: *mut u8,
+        result_len: usize,
+        answer: *mut u64,
+        answer_len: usize,
+    );
+
+    pub fn tff_check_table(table: *const u8, table_len: usize, answer: *mut u64, answer_len: usize);
+
+    pub fn tff_run(
+        table: *const u8,
+        table_len: usize,
+        words: *const u16,
+        words_len: usize,
+        result: *mut u16,
+        result_len: usize,
+        answer: *mut u64,
+        answer_len: usize,
+    );
+
+    pub fn tff_step(
+        table: *const u8,
+        table_len: usize,
+        layer: u16,
+        state: u16,
+        word: u16,
+        answer: *mut u64,
+        answer_len: usize,
+    );
+
+    pub fn tff_unfold(
+        table: *const u8,
+        table_len: usize,
+        result: *mut u8,
+        result_len: usize,
+        answer: *mut u64,
+        answer_len: usize,
+    );
+}

@@ -1,0 +1,33 @@
+-- `tff::tff_check_table` meets its contract.
+-- Assumes nothing.
+use mathlib.Core.Path.{_≡_, ap, _∙_}
+use denote.Ref.{now}
+use Rattle.verdict.specs.declared.Figures.{Figures}
+use Rattle.tff.specs.Answer.{answered}
+use Rattle.tff.proofs.Laws.{no-room, has-room}
+use borrow.Author.Needs.{needs}
+use Rattle.tff.proofs.tff_check_table.Statement.{statement}
+use Rattle.tff.proofs.tff_check_table.Tie as tie
+
+returns : tie.Need-returns
+returns c = no-room _ 2 _ _ (c .if1 .taken)
+
+check-requires : tie.Need-check-requires
+check-requires c κs = search needs
+
+put-requires : tie.Need-put-requires
+put-requires c κs = search needs
+
+same-length : tie.Need-same-length
+same-length c = search needs
+
+returns-2 : tie.Need-returns-2
+returns-2 c =
+    let p = c .before .before in
+    let k = p .before .before in
+    let s = k .before .before .before .before in
+    has-room _ 2 _ _ _ (k .before .if1 .left) (p .put .ensures ∙ ap (λ (f : Figures). answered f (now (s .args .answer))) (k .check .ensures .0))
+
+pub tff-check-table-spec : {M : Type 1} → statement M
+tff-check-table-spec =
+    tie.close (tie.spec returns check-requires put-requires same-length returns-2)

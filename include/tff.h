@@ -1,0 +1,94 @@
+/* Time-frame folding: the C interface of the static library tff.
+ *
+ * A circuit and a table are bytes, made of 16-bit words with the low byte first:
+ *
+ *   circuit: n inputs per frame (1 to 8), m outputs per frame (1 to 16), T frames (1 to 16, n*T at
+ *            most 16), G gates (m*T to 4,096); G left literals; G right literals.
+ *            Signal 0 is false, input i of frame t is signal (t-1)*n + i, gate g is signal n*T + g.
+ *            A literal is twice a signal, plus 1 if inverted. The last m*T gates are the outputs.
+ *   table:   n, m, T; T+1 state counts; all output words; all next states, by layer, state, word.
+ *
+ * A slice is passed as a pointer and a number of elements. The pointer is aligned and not null, also
+ * where there are no elements. A slice that a call may write to shares no element with another.
+ *
+ * Each call puts a number and a place into answer[0] and answer[1], tff_step three values more; the
+ * rest of answer stays as it was. Where answer is too short for them, nothing at all is changed.
+ *
+ *   number  place                       when
+ *   0       values written, or 0        accepted; what follows the result stays as it was
+ *   1       length given                not the length that the format asks for
+ *   2       byte offset                 first size or count out of limits
+ *   3       byte offset                 first literal that is too high
+ *   4       output index from 0         first output that depends on a later frame
+ *   5       byte offset                 first output word, else first next state, out of range
+ *   6       numbers needed              scratch too short
+ *   7       bytes or numbers needed     result too short
+ *   8       gates needed                unfolding takes above 4,096 gates
+ *   9       index of the word           first input word of 2^n or more
+ *   10      T                           step from the last layer
+ *   11      layer given                 position that the table does not have
+ *   12      length of the list          list of input words not T long
+ *
+ * A refused call changes nothing but answer, save that a fold refused with 7 clears its scratch.
+ */
+
+#ifndef TFF_H
+#define TFF_H
+
+#include <stddef.h>
+#include <stdint.h>
+
+#ifdef __cplusplus
+extern "C" {
+#endif
+
+/* Judges a circuit: 1, 2, 1, 3, 4. Accepted: place 0. */
+void tff_check_circuit(const uint8_t *circuit, size_t circuit_len,
+                       uint64_t *answer, size_t answer_len);
+
+/* Puts the circuit's T output words on the T input words into result.
+ * Refuses as the check, then 12, 9, 7. Accepted: place T. */
+void tff_simulate(const uint8_t *circuit, size_t circuit_len,
+                  const uint16_t *words, size_t words_len,
+                  uint16_t *result, size_t result_len,
+                  uint64_t *answer, size_t answer_len);
+
+/* Puts into result the table of the circuit, with the fewest states at every layer.
+ * Refuses as the check, then 6, 7. Accepted: place is the bytes written.
+ * Scratch takes 2 * 2^(n*T) numbers; these end as zeros where the call is accepted or refused
+ * with 7, and scratch beyond them is never changed. */
+void tff_fold(const uint8_t *circuit, size_t circuit_len,
+              uint16_t *scratch, size_t scratch_len,
+              uint8_t *result, size_t result_len,
+              uint64_t *answer, size_t answer_len);
+
+/* Judges a table: 1, 2, 1, 2, 1, 5. Accepted: place 0. */
+void tff_check_table(const uint8_t *table, size_t table_len,
+                     uint64_t *answer, size_t answer_len);
+
+/* Puts the table's T output words on the T input words into result.
+ * Refuses as the check, then 12, 9, 7. Accepted: place T. */
+void tff_run(const uint8_t *table, size_t table_len,
+             const uint16_t *words, size_t words_len,
+             uint16_t *result, size_t result_len,
+             uint64_t *answer, size_t answer_len);
+
+/* One step from a position, a layer and a state, on an input word; the start is layer 0, state 0.
+ * Answers five values: number, place, output word, layer, state. Refuses as the check without 5,
+ * then 11, 10, 9, then 5 for the one entry read; a refused step gives the position back and
+ * output 0. Accepted: place 0. */
+void tff_step(const uint8_t *table, size_t table_len,
+              uint16_t layer, uint16_t state, uint16_t word,
+              uint64_t *answer, size_t answer_len);
+
+/* Puts into result a circuit whose outputs are the table's.
+ * Refuses as the check, then 8, 7. Accepted: place is the bytes written. */
+void tff_unfold(const uint8_t *table, size_t table_len,
+                uint8_t *result, size_t result_len,
+                uint64_t *answer, size_t answer_len);
+
+#ifdef __cplusplus
+}
+#endif
+
+#endif

@@ -1,0 +1,120 @@
+//! Times of the proved library beside those of the plain implementation, one line a case.
+//!
+//! The two take turns in one run; a line gives their median times and the ratio of these.
+
+use std::hint::black_box;
+use std::time::Instant;
+
+use reference::gen::{any_sequence, circuits, tables, Rng};
+use reference::{Circuit, Sizes};
+
+fn main() {
+    println!(
+        "{:<40} {:>13} {:>13} {:>7}",
+        "case", "proved", "plain", "ratio"
+    );
+    circuit_level();
+    table_level();
+    fold_level();
+}
+
+/// Simulating a circuit with the most gates.
+fn circuit_level() {
+    let sizes = Sizes::new(2, 4, 8);
+    let mut rng = Rng::new(1);
+    let circuit = circuits::legal(&mut rng, sizes, Circuit::MOST_GATES).to_bytes();
+    let words = any_sequence(&mut rng, &sizes);
+    // One call is too short to be measured alone.
+    let often = Runs {
+        runs: 21,
+        calls: 500,
+    };
+    let mut result = vec![0; sizes.frames];
+    often.measure(
+        "simulate 4096 gates",
+        &mut result,
+        |result| tff::simulate(black_box(&circuit), &words, result),
+        |result| reference::simulate(black_box(&circuit), &words, result),
+    );
+}
+
+/// Checking a table of a million entries.
+fn table_level() {
+    let sizes = Sizes::new(6, 9, 2);
+    let table = tables::legal(&mut Rng::new(1), sizes, vec![1, 15_624, 1]);
+    assert_eq!(table.head.entries(), 1_000_000);
+    let table = table.to_bytes();
+    let often = Runs { runs: 21, calls: 5 };
+    often.measure(
+        "check a table of 1000000 entries",
+        &mut (),
+        |_| tff::check_table(black_box(&table)),
+        |_| reference::check_table(black_box(&table)),
+    );
+}
+
+/// Folding with the most sequences, to few and to many states.
+fn fold_level() {
+    for (inputs, frames) in [(1, 16), (2, 8), (4, 4), (8, 2)] {
+        // With 200 gates there is no room for 16 outputs in each of 16 frames.
+        for (gates, outputs) in [(200, 11), (Circuit::MOST_GATES, 16)] {
+            let sizes = Sizes::new(inputs, outputs, frames);
+            fold_line("few", &circuits::few_states(inputs, frames, gates));
+            fold_line("many", &circuits::many_states(sizes, gates));
+        }
+    }
+}
+
+fn fold_line(states: &str, circuit: &Circuit) {
+    let Sizes { inputs, frames, .. } = circuit.sizes;
+    let gates = circuit.gates();
+    let circuit = circuit.to_bytes();
+    let few = Runs { runs: 3, calls: 1 };
+    let mut memory = (vec![0; 1 << 17], vec![0; 1 << 20]);
+    few.measure(
+        &format!("fold {inputs}x{frames}, {gates} gates, {states} states"),
+        &mut memory,
+        |(scratch, result)| tff::fold(black_box(&circuit), scratch, result),
+        |(scratch, result)| reference::plain_fold(black_box(&circuit), scratch, result),
+    );
+}
+
+/// How often to measure, and how many calls at a time.
+struct Runs {
+    runs: usize,
+    calls: u32,
+}
+
+impl Runs {
+    /// Prints a line on two calls that work in the same memory.
+    fn measure<Memory, A, B>(
+        &self,
+        case: &str,
+        memory: &mut Memory,
+        proved: impl Fn(&mut Memory) -> A,
+        plain: impl Fn(&mut Memory) -> B,
+    ) {
+        let (mut proved_times, mut plain_times) = (Vec::new(), Vec::new());
+        for _ in 0..self.runs {
+            proved_times.push(self.time(memory, &proved));
+            plain_times.push(self.time(memory, &plain));
+        }
+        let [proved, plain] = [proved_times, plain_times].map(median);
+        let ratio = proved / plain;
+        println!("{case:<40} {proved:>10.4} ms {plain:>10.4} ms {ratio:>7.3}");
+    }
+
+    /// Milliseconds that a call takes.
+    fn time<Memory, A>(&self, memory: &mut Memory, call: impl Fn(&mut Memory) -> A) -> f64 {
+        let start = Instant::now();
+        for _ in 0..self.calls {
+            black_box(call(memory));
+        }
+        start.elapsed().as_secs_f64() * 1e3 / f64::from(self.calls)
+    }
+}
+
+fn median(mut times: Vec<f64>) -> f64 {
+    times.sort_by(f64::total_cmp);
+    times[times.len() / 2]
+}

@@ -1,0 +1,46 @@
+//! Numbers and places that the calls return.
+
+/// A number, 0 for an accepted call, and a place.
+pub type Answer = (u64, u64);
+
+/// A length under the head's, or not the exact one; place: the length given.
+pub const LENGTH: u64 = 1;
+/// A size or count out of limits; place: its byte offset.
+pub const SIZE: u64 = 2;
+/// A literal that is too high; place: its byte offset.
+pub const LITERAL: u64 = 3;
+/// An output that looks ahead; place: its index from 0.
+pub const LOOKS_AHEAD: u64 = 4;
+/// An output word or next state out of range; place: its byte offset.
+pub const ENTRY: u64 = 5;
+/// Scratch too short; place: the numbers needed.
+pub const SCRATCH: u64 = 6;
+/// Result too short; place: the bytes or numbers needed.
+pub const RESULT: u64 = 7;
+/// Too many gates to unfold into; place: the gates needed.
+pub const GATES: u64 = 8;
+/// An input word out of range; place: its index.
+pub const WORD: u64 = 9;
+/// A step from the last layer; place: the number of frames.
+pub const LAST_LAYER: u64 = 10;
+/// A position that the table does not have; place: the layer given.
+pub const POSITION: u64 = 11;
+/// A list of words that is not one word a frame; place: its length.
+pub const WORD_COUNT: u64 = 12;
+
+pub fn accepted(place: usize) -> Answer {
+    (0, place as u64)
+}
+
+pub fn refused(number: u64, place: usize) -> Answer {
+    (number, place as u64)
+}
+
+/// Puts `values` at the front of `result`, or refuses where there is no room for all of them.
+pub fn deliver<T: Copy>(values: &[T], result: &mut [T]) -> Answer {
+    if result.len() < values.len() {
+        return refused(RESULT, values.len());
+    }
+    result[..values.len()].copy_from_slice(values);
+    accepted(values.len())
+}

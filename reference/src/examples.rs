@@ -1,0 +1,72 @@
+//! Small circuits that the papers name.
+
+use crate::circuit::Circuit;
+use crate::gates::{not, Gates, FALSE};
+use crate::sizes::Sizes;
+
+/// Each output word is the parity of the inputs so far, over two frames.
+pub fn parity() -> Circuit {
+    Circuit {
+        sizes: Sizes::new(1, 1, 2),
+        left: vec![2, 3, 7, 2, 11],
+        right: vec![5, 4, 9, 1, 1],
+    }
+}
+
+/// One frame whose output is its input.
+pub fn identity() -> Circuit {
+    let gates = Gates::new(Sizes::new(1, 1, 1));
+    let input = gates.input(0, 0);
+    gates.finish(&[input])
+}
+
+/// Two frames with outputs that are always false.
+pub fn silent() -> Circuit {
+    Gates::new(Sizes::new(1, 1, 2)).finish(&[FALSE; 2])
+}
+
+/// Three frames; the last output is the first input, the others are false.
+pub fn delayed() -> Circuit {
+    let gates = Gates::new(Sizes::new(1, 1, 3));
+    let input = gates.input(0, 0);
+    gates.finish(&[FALSE, FALSE, input])
+}
+
+/// Three-bit adder, one bit of both numbers a frame: sum bits, and in the last frame the carry.
+pub fn adder() -> Circuit {
+    let mut gates = Gates::new(Sizes::new(2, 2, 3));
+    let mut carry = FALSE;
+    let mut outputs = Vec::new();
+    for frame in 0..3 {
+        let [a, b] = [0, 1].map(|input| gates.input(frame, input));
+        let half = gates.xor(a, b);
+        let sum = gates.xor(half, carry);
+        let both = gates.and(a, b);
+        let passed = gates.and(half, carry);
+        carry = gates.or(both, passed);
+        outputs.extend([sum, if frame == 2 { carry } else { FALSE }]);
+    }
+    gates.finish(&outputs)
+}
+
+/// ISCAS-89 circuit s27 over three frames, its flip-flops false at first. Signals are named as there.
+pub fn s27() -> Circuit {
+    let mut gates = Gates::new(Sizes::new(4, 1, 3));
+    let [mut g5, mut g6, mut g7] = [FALSE; 3];
+    let mut outputs = Vec::new();
+    for frame in 0..3 {
+        let [g0, g1, g2, g3] = [0, 1, 2, 3].map(|input| gates.input(frame, input));
+        let g14 = not(g0);
+        let g8 = gates.and(g14, g6);
+        let g12 = not(gates.or(g1, g7));
+        let g15 = gates.or(g12, g8);
+        let g16 = gates.or(g3, g8);
+        let g9 = not(gates.and(g16, g15));
+        let g11 = not(gates.or(g5, g9));
+        outputs.push(not(g11));
+        g5 = not(gates.or(g14, g11));
+        g6 = g11;
+        g7 = not(gates.or(g2, g12));
+    }
+    gates.finish(&outputs)
+}

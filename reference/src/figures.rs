@@ -1,0 +1,214 @@
+//! The figures that the description gives.
+
+use crate::answer::Answer;
+use crate::circuit::Circuit;
+use crate::examples;
+use crate::words::{set_word, to_bytes};
+
+/// Words of the table that parity folds to.
+pub const PARITY_TABLE: [u16; 18] = [1, 1, 2, 1, 2, 1, 0, 1, 0, 1, 1, 0, 0, 1, 0, 0, 0, 0];
+
+/// Left and right literals of the circuit that parity's table unfolds to.
+pub const PARITY_UNFOLDED: [[u16; 17]; 2] = [
+    [1, 1, 1, 1, 1, 1, 1, 1, 1, 15, 15, 17, 17, 1, 32, 19, 35],
+    [3, 2, 6, 8, 11, 13, 13, 5, 4, 20, 22, 20, 22, 27, 29, 1, 1],
+];
+
+/// Folding parity: numbers of scratch, bytes of result, answer.
+pub const PARITY_FOLDED: [(usize, usize, Answer); 3] =
+    [(7, 36, (6, 8)), (8, 35, (7, 36)), (8, 36, (0, 36))];
+
+/// Circuits and what checking them answers.
+pub fn checked() -> Vec<(Vec<u8>, Answer)> {
+    let parity = examples::parity().to_bytes();
+    let parity_with = |at, word| {
+        let mut changed = parity.clone();
+        set_word(&mut changed, at, word);
+        changed
+    };
+    vec![
+        (parity.clone(), (0, 0)),
+        (parity[..27].to_vec(), (1, 27)),
+        (parity_with(0, 0), (2, 0)),
+        (to_bytes(&[8, 1, 3, 16]), (2, 4)),
+        // Within limits, so that the missing gates are found.
+        (to_bytes(&[8, 1, 2, 16]), (1, 8)),
+        (parity_with(8, 6), (3, 8)),
+        (parity_with(8, 5), (0, 0)),
+        (parity_with(14, 4), (4, 0)),
+    ]
+}
+
+/// Circuits and the counts of states that they fold to.
+pub fn counts() -> Vec<(Circuit, Vec<u16>)> {
+    vec![
+        (examples::parity(), vec![1, 2, 1]),
+        (examples::identity(), vec![1, 1]),
+        (examples::silent(), vec![1, 1, 1]),
+        (examples::delayed(), vec![1, 2, 2, 1]),
+        (examples::adder(), vec![1, 2, 2, 1]),
+        (examples::s27(), vec![1, 4, 4, 1]),
+    ]
+}
+
+#[cfg(test)]
+mod tests {
+    use super::*;
+    use crate::gen::{circuits, Rng};
+    use crate::program::printed;
+    use crate::{check_circuit, fold, plain_fold, run, simulate, step, unfold, Sizes, Table};
+
+    /// The table that a circuit folds to; both ways to fold must find the same.
+    fn folded(circuit: &Circuit) -> Vec<u8> {
+        let circuit = circuit.to_bytes();
+        let [by_definition, by_search] = [fold, plain_fold].map(|fold| {
+            let mut result = vec![0xee; 1 << 14];
+            let (number, length) = fold(&circuit, &mut vec![7; 1 << 13], &mut result);
+            assert_eq!(number, 0);
+            assert!(result[length as usize..].iter().all(|&byte| byte == 0xee));
+            result.truncate(length as usize);
+            result
+        });
+        assert!(by_definition == by_search);
+        by_definition
+    }
+
+    fn unfolded(table: &[u8]) -> Circuit {
+        let mut result = vec![0; 1 << 15];
+        let (number, length) = unfold(table, &mut result);
+        assert_eq!(number, 0);
+        Circuit::read(&result[..length as usize]).unwrap()
+    }
+
+    #[test]
+    fn parity_is_the_given_words() {
+        let words = [1, 1, 2, 5, 2, 3, 7, 2, 11, 5, 4, 9, 1, 1];
+        assert_eq!(examples::parity().to_bytes(), to_bytes(&words));
+    }
+
+    #[test]
+    fn circuits_are_checked_as_given() {
+        for (circuit, answer) in checked() {
+            assert_eq!(check_circuit(&circuit), answer);
+        }
+    }
+
+    #[test]
+    fn parity_folds_to_the_given_36_bytes() {
+        let table = folded(&examples::parity());
+        assert_eq!(table, to_bytes(&PARITY_TABLE));
+        assert_eq!(table.len(), 36);
+    }
+
+    #[test]
+    fn parity_unfolds_to_the_given_17_gates() {
+        let circuit = unfolded(&to_bytes(&PARITY_TABLE));
+        assert_eq!(circuit.sizes, examples::parity().sizes);
+        assert_eq!([&circuit.left[..], &circuit.right], PARITY_UNFOLDED);
+    }
+
+    #[test]
+    fn circuits_fold_to_the_given_counts() {
+        for (circuit, expected) in counts() {
+            assert_eq!(
+                Table::read(&folded(&circuit)).unwrap().head.counts,
+                expected
+            );
+        }
+    }
+
+    #[test]
+    fn states_add_up_as_in_the_sources() {
+        let [adder, s27] = [examples::adder(), examples::s27()]
+            .map(|circuit| Table::read(&folded(&circuit)).unwrap().head.counts)
+            .map(|counts| counts.into_iter().sum::<u16>());
+        assert_eq!((adder, s27), (6, 10));
+    }
+
+    #[test]
+    fn adder_adds() {
+        let circuit = examples::adder().to_bytes();
+        for (a, b) in (0..64).map(|both| (both / 8, both % 8)) {
+            let words = [0, 1, 2].map(|bit| (a >> bit & 1) + 2 * (b >> bit & 1));
+            let mut outputs = [9; 3];
+            assert_eq!(simulate(&circuit, &words, &mut outputs), (0, 3));
+            let sum = a + b;
+            let expected = [sum & 1, sum >> 1 & 1, (sum >> 2 & 1) + 2 * (sum >> 3)];
+            assert_eq!(outputs, expected);
+        }
+    }
+
+    #[test]
+    fn scratch_and_result_are_judged_as_given() {
+        for (numbers, bytes, answer) in PARITY_FOLDED {
+            let (mut scratch, mut result) = (vec![7; numbers + 1], vec![0xee; bytes]);
+            let circuit = examples::parity().to_bytes();
+            let found = fold(&circuit, &mut scratch[..numbers], &mut result);
+            assert_eq!(found, answer);
+            // Enough scratch is cleared and no more of it; a refusal leaves the result.
+            let cleared = if answer.0 == 6 { 0 } else { 8 };
+            assert!(scratch[..cleared].iter().all(|&number| number == 0));
+            assert!(scratch[cleared..].iter().all(|&number| number == 7));
+            assert_eq!(answer.0 != 0, result.iter().all(|&byte| byte == 0xee));
+        }
+    }
+
+    #[test]
+    fn a_step_from_the_last_layer_is_refused() {
+        let stepped = step(&to_bytes(&PARITY_TABLE), 2, 0, 0);
+        assert_eq!((stepped.number, stepped.place), (10, 2));
+        assert_eq!((stepped.output, stepped.layer, stepped.state), (0, 2, 0));
+    }
+
+    #[test]
+    fn the_program_prints_the_counts() {
+        let lines = "layer states\n0 1\n1 2\n2 1\ntotal 4\n";
+        assert_eq!(printed(&examples::parity().to_bytes()), lines);
+    }
+
+    #[test]
+    fn the_program_prints_a_refusal() {
+        let bytes = examples::parity().to_bytes();
+        assert_eq!(printed(&bytes[..27]), "refused 1 27\n");
+        let long = [bytes, vec![0; 20_000]].concat();
+        assert_eq!(printed(&long), "refused 1 16393\n");
+    }
+
+    #[test]
+    fn both_ways_to_fold_agree() {
+        let mut rng = Rng::new(1);
+        for _ in 0..300 {
+            folded(&circuits::any_legal(&mut rng, 8, 60));
+        }
+    }
+
+    #[test]
+    fn tables_and_unfolded_circuits_give_the_outputs_of_the_circuit() {
+        let mut rng = Rng::new(2);
+        for _ in 0..100 {
+            let circuit = circuits::any_legal(&mut rng, 6, 40);
+            let table = folded(&circuit);
+            let back = unfolded(&table);
+            let sizes = circuit.sizes;
+            for sequence in 0..sizes.histories(sizes.frames) {
+                let words = sizes.history_words(sizes.frames, sequence);
+                let mut outputs = vec![0; sizes.frames];
+                assert_eq!(run(&table, &words, &mut outputs).0, 0);
+                assert_eq!(outputs, circuit.outputs_on(&words));
+                assert_eq!(outputs, back.outputs_on(&words));
+            }
+            assert!(folded(&back) == table);
+        }
+    }
+
+    #[test]
+    fn every_history_can_have_a_state_of_its_own() {
+        let sizes = Sizes::new(1, 11, 16);
+        let circuit = circuits::many_states(sizes, 200).to_bytes();
+        let mut result = vec![0; 1 << 20];
+        assert_eq!(fold(&circuit, &mut vec![0; 1 << 17], &mut result).0, 0);
+        let mut counts: Vec<u16> = (0..16).map(|layer| 1 << layer).collect();
+        counts.push(1);
+        assert_eq!(result[6..40], to_bytes(&counts));
+    }
+}

@@ -1,0 +1,103 @@
+//! Folding a circuit into a table, by the definition of states.
+
+use std::collections::HashMap;
+use std::ops::Range;
+
+use crate::answer::{deliver, refused, Answer, SCRATCH};
+use crate::circuit::Circuit;
+use crate::sizes::Sizes;
+use crate::table::{Head, Table};
+
+/// Puts the circuit's table at the front of `result`.
+pub fn fold(circuit: &[u8], scratch: &mut [u16], result: &mut [u8]) -> Answer {
+    fold_by(table_by_definition, circuit, scratch, result)
+}
+
+/// Folding with any way to find the table: what is judged, and what becomes of the slices.
+pub fn fold_by(
+    table_of: fn(&Circuit) -> Table,
+    circuit: &[u8],
+    scratch: &mut [u16],
+    result: &mut [u8],
+) -> Answer {
+    let circuit = match Circuit::read(circuit) {
+        Ok(circuit) => circuit,
+        Err(refusal) => return refusal,
+    };
+    let needed = 2 * circuit.sizes.histories(circuit.sizes.frames);
+    if scratch.len() < needed {
+        return refused(SCRATCH, needed);
+    }
+    scratch[..needed].fill(0);
+    deliver(&table_of(&circuit).to_bytes(), result)
+}
+
+/// The histories one word longer than `history`, by that word.
+pub fn successors(sizes: &Sizes, history: usize) -> Range<usize> {
+    history * sizes.input_words()..(history + 1) * sizes.input_words()
+}
+
+/// The table whose states are the classes of equivalent histories.
+pub fn table_by_definition(circuit: &Circuit) -> Table {
+    let sizes = circuit.sizes;
+    let sequences = outputs_on_all_sequences(circuit);
+    let states: Vec<Vec<u16>> = (0..=sizes.frames)
+        .map(|layer| states_of_layer(&sizes, &sequences, layer))
+        .collect();
+    let smallest: Vec<Vec<usize>> = states.iter().map(|of| smallest_histories(of)).collect();
+    let mut table = Table {
+        head: Head {
+            sizes,
+            counts: smallest.iter().map(|of| of.len() as u16).collect(),
+        },
+        output_words: Vec::new(),
+        next_states: Vec::new(),
+    };
+    for layer in 0..sizes.frames {
+        // Any sequence that begins with a history shows the history's last output word.
+        let apart = sizes.histories(sizes.frames - layer - 1);
+        for &history in &smallest[layer] {
+            for longer in successors(&sizes, history) {
+                table.output_words.push(sequences[longer * apart][layer]);
+                table.next_states.push(states[layer + 1][longer]);
+            }
+        }
+    }
+    table
+}
+
+/// The output words on every sequence, by the sequence's number.
+fn outputs_on_all_sequences(circuit: &Circuit) -> Vec<Vec<u16>> {
+    let sizes = circuit.sizes;
+    (0..sizes.histories(sizes.frames))
+        .map(|sequence| circuit.outputs_on(&sizes.history_words(sizes.frames, sequence)))
+        .collect()
+}
+
+/// The state of each history of `layer` words. Two histories have one state when all their
+/// continuations give the same later outputs; states are numbered by their smallest history.
+fn states_of_layer(sizes: &Sizes, sequences: &[Vec<u16>], layer: usize) -> Vec<u16> {
+    let continuations = sizes.histories(sizes.frames - layer);
+    let mut numbers = HashMap::new();
+    let mut states = Vec::new();
+    for with_history in sequences.chunks(continuations) {
+        let mut later = Vec::new();
+        for outputs in with_history {
+            later.extend_from_slice(&outputs[layer..]);
+        }
+        let fresh = numbers.len() as u16;
+        states.push(*numbers.entry(later).or_insert(fresh));
+    }
+    states
+}
+
+/// The smallest history of each state, by state: the first one with the next fresh number.
+fn smallest_histories(states: &[u16]) -> Vec<usize> {
+    let mut smallest = Vec::new();
+    for (history, &state) in states.iter().enumerate() {
+        if usize::from(state) == smallest.len() {
+            smallest.push(history);
+        }
+    }
+    smallest
+}

@@ -1,0 +1,245 @@
+//! Circuits to try the implementations on.
+
+use super::{any_sizes, Rng};
+use crate::circuit::Circuit;
+use crate::gates::{not, Gates, FALSE, TRUE};
+use crate::sizes::Sizes;
+
+/// A random legal circuit.
+pub fn legal(rng: &mut Rng, sizes: Sizes, gates: usize) -> Circuit {
+    let mut growing = Growing::new(sizes);
+    let inner = gates - sizes.output_gates();
+    while growing.gates.count() < inner {
+        let frame = rng.between(0, sizes.frames);
+        // Random ANDs alone soon become constant; exclusive ors, of three gates, do not.
+        if growing.gates.count() + 3 <= inner && rng.one_in(3) {
+            growing.add(rng, frame, Gates::xor);
+        } else {
+            growing.add(rng, frame, Gates::and);
+        }
+    }
+    for output in 0..sizes.output_gates() {
+        growing.add(rng, output / sizes.outputs + 1, Gates::and);
+    }
+    growing.gates.into_circuit()
+}
+
+/// A random legal circuit of random sizes.
+pub fn any_legal(rng: &mut Rng, most_signals: usize, most_inner: usize) -> Circuit {
+    let sizes = any_sizes(rng, most_signals);
+    let gates = sizes.output_gates() + rng.between(0, most_inner);
+    legal(rng, sizes, gates)
+}
+
+/// Gates that are added with a bound on their latest frame.
+struct Growing {
+    gates: Gates,
+    /// By frame: the signals whose latest frame is at most that one.
+    up_to: Vec<Vec<u16>>,
+}
+
+impl Growing {
+    fn new(sizes: Sizes) -> Growing {
+        let inputs_up_to = |frame| frame * sizes.inputs;
+        Growing {
+            gates: Gates::new(sizes),
+            up_to: (0..=sizes.frames)
+                .map(|frame| (0..=inputs_up_to(frame)).map(|s| s as u16).collect())
+                .collect(),
+        }
+    }
+
+    /// A literal of latest frame `frame` or earlier, more often of one of the last signals.
+    fn literal(&self, rng: &mut Rng, frame: usize) -> u16 {
+        let signals = &self.up_to[frame];
+        let last = &signals[signals.len().saturating_sub(12)..];
+        let signal = if rng.one_in(2) {
+            rng.pick(last)
+        } else {
+            rng.pick(signals)
+        };
+        2 * signal + rng.below(2) as u16
+    }
+
+    /// Adds a function of two literals of latest frame `frame` or earlier.
+    fn add(&mut self, rng: &mut Rng, frame: usize, function: fn(&mut Gates, u16, u16) -> u16) {
+        let [left, right] = [0; 2].map(|_| self.literal(rng, frame));
+        let signal = function(&mut self.gates, left, right) / 2;
+        for later in &mut self.up_to[frame..] {
+            later.push(signal);
+        }
+    }
+}
+
+/// A random machine with `memory` flip-flops, false at first, unrolled over all frames: it folds
+/// to few states.
+pub fn unrolled(rng: &mut Rng, sizes: Sizes, memory: usize) -> Circuit {
+    let mut gates = Gates::new(sizes);
+    let mut held = vec![FALSE; memory];
+    let mut outputs = Vec::new();
+    for frame in 0..sizes.frames {
+        let mut literals: Vec<u16> = (0..sizes.inputs).map(|i| gates.input(frame, i)).collect();
+        literals.append(&mut held);
+        held = (0..memory)
+            .map(|_| any_function(rng, &mut gates, &literals))
+            .collect();
+        for _ in 0..sizes.outputs {
+            outputs.push(any_function(rng, &mut gates, &literals));
+        }
+    }
+    gates.finish(&outputs)
+}
+
+/// A random function of two or three of `literals`.
+fn any_function(rng: &mut Rng, gates: &mut Gates, literals: &[u16]) -> u16 {
+    let mut value = rng.pick(literals);
+    for _ in 0..rng.between(1, 2) {
+        let other = rng.pick(literals) ^ rng.below(2) as u16;
+        value = match rng.below(3) {
+            0 => gates.and(value, other),
+            1 => gates.or(value, other),
+            _ => gates.xor(value, other),
+        };
+    }
+    value
+}
+
+/// A circuit that gives any outputs: `output(frame, history)` is the output word of `frame`, from 0,
+/// after the history of `frame + 1` words.
+pub fn with_outputs(sizes: Sizes, output: impl Fn(usize, usize) -> u16) -> Circuit {
+    let mut gates = Gates::new(sizes);
+    let mut outputs = Vec::new();
+    for frame in 0..sizes.frames {
+        let matches: Vec<u16> = (0..sizes.histories(frame + 1))
+            .map(|history| match_history(&mut gates, &sizes, frame + 1, history))
+            .collect();
+        for bit in 0..sizes.outputs {
+            let set = (0..matches.len()).filter(|&history| output(frame, history) >> bit & 1 == 1);
+            let unmatched = gates.chain(set.map(|history| not(matches[history])));
+            outputs.push(unmatched.map_or(FALSE, not));
+        }
+    }
+    gates.finish(&outputs)
+}
+
+/// True when the first `length` words are those of `history`.
+fn match_history(gates: &mut Gates, sizes: &Sizes, length: usize, history: usize) -> u16 {
+    let words = sizes.history_words(length, history);
+    let mut literals = Vec::new();
+    for (frame, word) in words.into_iter().enumerate() {
+        for input in 0..sizes.inputs {
+            let literal = gates.input(frame, input);
+            literals.push(if word >> input & 1 == 1 {
+                literal
+            } else {
+                not(literal)
+            });
+        }
+    }
+    gates.chain(literals).expect("a history has a word")
+}
+
+/// A legal circuit with up to three literals changed, so that it may refer to later signals or frames.
+pub fn careless(rng: &mut Rng, sizes: Sizes, gates: usize) -> Circuit {
+    let mut circuit = legal(rng, sizes, gates);
+    for _ in 0..rng.between(0, 3) {
+        let any_gate = rng.below(gates);
+        let any_output = rng.between(circuit.first_output(), gates - 1);
+        let gate = rng.pick(&[any_gate, any_output]);
+        let limit = circuit.literal_limit(gate);
+        let legal = rng.below(limit);
+        let high = rng.pick(&[limit - 1, limit, limit + 1, usize::from(u16::MAX)]);
+        let literal = rng.pick(&[legal, legal, high]) as u16;
+        if rng.one_in(2) {
+            circuit.left[gate] = literal;
+        } else {
+            circuit.right[gate] = literal;
+        }
+    }
+    circuit
+}
+
+/// Sizes and gate counts at their limits.
+pub fn limits() -> Vec<(Sizes, usize)> {
+    let shapes = [
+        (1, 16),
+        (2, 8),
+        (4, 4),
+        (8, 2),
+        (3, 5),
+        (5, 3),
+        (8, 1),
+        (1, 1),
+    ];
+    let mut limits = Vec::new();
+    for (inputs, frames) in shapes {
+        for outputs in [1, Sizes::MOST_OUTPUTS] {
+            let sizes = Sizes::new(inputs, outputs, frames);
+            limits.push((sizes, sizes.output_gates()));
+            limits.push((sizes, Circuit::MOST_GATES));
+        }
+    }
+    limits
+}
+
+/// Counts the inputs that are set, modulo 4, in two outputs per frame: at most four states a layer.
+pub fn few_states(inputs: usize, frames: usize, gates: usize) -> Circuit {
+    let sizes = Sizes::new(inputs, 2, frames);
+    let spare = gates - 7 * sizes.input_signals() - sizes.output_gates();
+    let mut made = Gates::new(sizes);
+    let mut low = lengthened(&mut made, FALSE, spare);
+    let mut high = FALSE;
+    let mut outputs = Vec::new();
+    for frame in 0..frames {
+        for input in 0..inputs {
+            let input = made.input(frame, input);
+            let carry = made.and(low, input);
+            low = made.xor(low, input);
+            high = made.xor(high, carry);
+        }
+        outputs.extend([low, high]);
+    }
+    made.finish(&outputs)
+}
+
+/// Shows the whole history in the last frame alone, so that every history has a state of its own.
+/// Where there are too few outputs, some show one of two inputs, as the last frame's input says:
+/// two outputs serve for three inputs or four.
+pub fn many_states(sizes: Sizes, gates: usize) -> Circuit {
+    let bits = sizes.inputs * (sizes.frames - 1);
+    let shared = bits.saturating_sub(sizes.outputs);
+    let spare = gates - 3 * shared - sizes.output_gates();
+    let mut made = Gates::new(sizes);
+    let mut history: Vec<u16> = (0..bits).map(|bit| made.input(0, bit)).collect();
+    history[0] = lengthened(&mut made, history[0], spare);
+    let choice = made.input(sizes.frames - 1, 0);
+    for bit in bits - shared..bits {
+        let other = bit - shared;
+        history[other] = choose(&mut made, choice, history[other], history[bit]);
+    }
+    history.truncate(bits - shared);
+    let mut outputs = vec![FALSE; sizes.output_gates() - sizes.outputs];
+    outputs.append(&mut history);
+    outputs.resize(sizes.output_gates(), FALSE);
+    made.finish(&outputs)
+}
+
+fn choose(gates: &mut Gates, choice: u16, first: u16, second: u16) -> u16 {
+    let first = gates.and(choice, first);
+    let second = gates.and(not(choice), second);
+    gates.or(first, second)
+}
+
+/// The same value behind `count` further gates, which all count for it by the circuit's structure.
+fn lengthened(gates: &mut Gates, literal: u16, count: usize) -> u16 {
+    let other = gates.input(0, 0);
+    let mut same = literal;
+    for _ in 0..count / 6 {
+        let changed = gates.xor(same, other);
+        same = gates.xor(changed, other);
+    }
+    for _ in 0..count % 6 {
+        same = gates.and(same, TRUE);
+    }
+    same
+}

@@ -1,0 +1,79 @@
+//! Tables to try the implementations on.
+
+use super::{any_sizes, Rng};
+use crate::sizes::Sizes;
+use crate::table::{Head, Table};
+use crate::unfold::gates_needed;
+
+/// A random legal table. Some layers have states that nothing enters, some have equal states.
+pub fn legal(rng: &mut Rng, sizes: Sizes, counts: Vec<u16>) -> Table {
+    let head = Head { sizes, counts };
+    let bits = rng.between(0, sizes.outputs);
+    let mut table = Table {
+        output_words: (0..head.entries())
+            .map(|_| rng.below(1 << bits) as u16)
+            .collect(),
+        next_states: Vec::new(),
+        head,
+    };
+    for layer in 0..sizes.frames {
+        let entered = rng.between(1, usize::from(table.head.counts[layer + 1]));
+        for _ in table.head.entries_of(layer) {
+            table.next_states.push(rng.below(entered) as u16);
+        }
+        if rng.one_in(2) {
+            repeat_states(rng, &mut table, layer);
+        }
+    }
+    table
+}
+
+/// A random legal table of random sizes, with up to `most_states` states a layer.
+pub fn any_legal(rng: &mut Rng, most_signals: usize, most_states: usize) -> Table {
+    let sizes = any_sizes(rng, most_signals);
+    let counts = any_counts(rng, &sizes, most_states);
+    legal(rng, sizes, counts)
+}
+
+/// Legal counts of states, up to `most` a layer.
+pub fn any_counts(rng: &mut Rng, sizes: &Sizes, most: usize) -> Vec<u16> {
+    (0..=sizes.frames)
+        .map(|layer| layer == 0 || layer == sizes.frames)
+        .map(|at_end| {
+            if at_end {
+                1
+            } else {
+                rng.between(1, most) as u16
+            }
+        })
+        .collect()
+}
+
+/// Gives some states of a layer the entries of an earlier one.
+fn repeat_states(rng: &mut Rng, table: &mut Table, layer: usize) {
+    let entries = table.head.entries_of(layer);
+    let words = table.head.sizes.input_words();
+    for state in 1..usize::from(table.head.counts[layer]) {
+        if rng.one_in(2) {
+            let from = entries.start + rng.below(state) * words;
+            let to = entries.start + state * words;
+            table.output_words.copy_within(from..from + words, to);
+            table.next_states.copy_within(from..from + words, to);
+        }
+    }
+}
+
+/// A random legal table that unfolds to exactly `gates` gates, which the counts must allow.
+pub fn with_gates(rng: &mut Rng, sizes: Sizes, counts: Vec<u16>, gates: usize) -> Table {
+    let mut table = legal(rng, sizes, counts);
+    table.output_words.fill(0);
+    let bits = gates - gates_needed(&table);
+    let places = table.output_words.len() * sizes.outputs;
+    assert!(bits <= places);
+    // The chosen bits run on from a random place, so that they differ among words and outputs.
+    let first = rng.below(places);
+    for place in (first..first + bits).map(|place| place % places) {
+        table.output_words[place / sizes.outputs] |= 1 << (place % sizes.outputs);
+    }
+    table
+}

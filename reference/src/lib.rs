@@ -1,0 +1,33 @@
+//! Plain second implementation of time-frame folding, written from the format's description alone.
+//!
+//! It is meant to be read and believed, not to be fast: each function follows the words of the
+//! description, and the comparison tests hold the proved library to it. It never calls that library.
+//!
+//! Every call models the caller's memory: it changes the slices it is given exactly as described
+//! and returns a number and a place.
+//!
+//! The tests and benchmarks link the proved library, see `bindings/rust/build.rs`. A comparison that
+//! fails names its seed, and `TFF_SEED=<seed> cargo test --release` runs that seed alone.
+
+pub mod answer;
+pub mod circuit;
+pub mod examples;
+pub mod figures;
+pub mod fold;
+pub mod gates;
+pub mod gen;
+pub mod plain_fold;
+pub mod program;
+pub mod sizes;
+pub mod table;
+pub mod unfold;
+pub mod words;
+
+pub use answer::Answer;
+pub use circuit::{check_circuit, simulate, Circuit};
+pub use fold::fold;
+pub use gates::Gates;
+pub use plain_fold::plain_fold;
+pub use sizes::Sizes;
+pub use table::{check_table, run, step, Stepped, Table};
+pub use unfold::unfold;

@@ -1,0 +1,218 @@
+//! Layered state tables: format, check, run, step.
+
+use crate::answer::{
+    accepted, deliver, refused, Answer, ENTRY, LAST_LAYER, LENGTH, POSITION, SIZE, WORD,
+};
+use crate::sizes::Sizes;
+use crate::words::{to_bytes, word_at, words_at};
+
+/// A table (the papers' sheet). Entries go by layer, state, word.
+#[derive(Clone, Debug, PartialEq, Eq)]
+pub struct Table {
+    pub head: Head,
+    pub output_words: Vec<u16>,
+    pub next_states: Vec<u16>,
+}
+
+/// What stands before a table's entries.
+#[derive(Clone, Debug, PartialEq, Eq)]
+pub struct Head {
+    pub sizes: Sizes,
+    /// States of each layer, 0 to T.
+    pub counts: Vec<u16>,
+}
+
+/// What a step answers. A refused one gives the position back and output 0.
+#[derive(Clone, Copy, Debug, PartialEq, Eq)]
+pub struct Stepped {
+    pub number: u64,
+    pub place: u64,
+    pub output: u16,
+    pub layer: u16,
+    pub state: u16,
+}
+
+/// Judges a table; place 0 where it is accepted.
+pub fn check_table(table: &[u8]) -> Answer {
+    match Head::read(table).and_then(|head| head.judge_entries(table)) {
+        Ok(()) => accepted(0),
+        Err(refusal) => refusal,
+    }
+}
+
+/// Puts the table's output words on `words` at the front of `result`.
+pub fn run(table: &[u8], words: &[u16], result: &mut [u16]) -> Answer {
+    match outputs_of_run(table, words) {
+        Ok(outputs) => deliver(&outputs, result),
+        Err(refusal) => refusal,
+    }
+}
+
+fn outputs_of_run(table: &[u8], words: &[u16]) -> Result<Vec<u16>, Answer> {
+    let head = Head::read(table)?;
+    head.judge_entries(table)?;
+    head.sizes.judge_words(words)?;
+    let mut state = 0;
+    let mut outputs = Vec::new();
+    for (layer, &word) in words.iter().enumerate() {
+        let entry = head.entry(layer, state, word);
+        outputs.push(word_at(table, head.output_at(entry)));
+        state = word_at(table, head.next_at(entry));
+    }
+    Ok(outputs)
+}
+
+/// One step from the position `layer`, `state` on `word`.
+pub fn step(table: &[u8], layer: u16, state: u16, word: u16) -> Stepped {
+    match entry_of_step(table, layer, state, word) {
+        Ok((output, next)) => Stepped {
+            number: 0,
+            place: 0,
+            output,
+            layer: layer + 1,
+            state: next,
+        },
+        Err((number, place)) => Stepped {
+            number,
+            place,
+            output: 0,
+            layer,
+            state,
+        },
+    }
+}
+
+/// The output word and next state that a step reads.
+fn entry_of_step(table: &[u8], layer: u16, state: u16, word: u16) -> Result<(u16, u16), Answer> {
+    let head = Head::read(table)?;
+    let layer = usize::from(layer);
+    if layer > head.sizes.frames || state >= head.counts[layer] {
+        return Err(refused(POSITION, layer));
+    }
+    if layer == head.sizes.frames {
+        return Err(refused(LAST_LAYER, layer));
+    }
+    if !head.sizes.has_word(word) {
+        return Err(refused(WORD, 0));
+    }
+    let entry = head.entry(layer, state, word);
+    let output = head.judge_output(table, head.output_at(entry))?;
+    let next = head.judge_next(table, head.next_at(entry), layer)?;
+    Ok((output, next))
+}
+
+impl Head {
+    /// Judges sizes, counts and length: all but the entries.
+    pub fn read(bytes: &[u8]) -> Result<Head, Answer> {
+        if bytes.len() < 6 {
+            return Err(refused(LENGTH, bytes.len()));
+        }
+        let sizes = Sizes::read(bytes)?;
+        if bytes.len() < 8 + 2 * sizes.frames {
+            return Err(refused(LENGTH, bytes.len()));
+        }
+        let counts = words_at(bytes, 6, sizes.frames + 1);
+        let head = Head { sizes, counts };
+        head.judge_counts()?;
+        if bytes.len() != head.next_at(head.entries()) {
+            return Err(refused(LENGTH, bytes.len()));
+        }
+        Ok(head)
+    }
+
+    fn judge_counts(&self) -> Result<(), Answer> {
+        for (layer, count) in self.counts.iter().enumerate() {
+            let at_end = layer == 0 || layer == self.sizes.frames;
+            let most = if at_end { 1 } else { Table::MOST_STATES };
+            if !(1..=most).contains(count) {
+                return Err(refused(SIZE, 6 + 2 * layer));
+            }
+        }
+        Ok(())
+    }
+
+    /// All output words are judged before all next states.
+    fn judge_entries(&self, bytes: &[u8]) -> Result<(), Answer> {
+        for entry in 0..self.entries() {
+            self.judge_output(bytes, self.output_at(entry))?;
+        }
+        let first_next = self.next_at(0);
+        for layer in 0..self.sizes.frames {
+            for entry in self.entries_of(layer) {
+                self.judge_next(bytes, first_next + 2 * entry, layer)?;
+            }
+        }
+        Ok(())
+    }
+
+    /// The output word at byte offset `at`, if it is in range.
+    fn judge_output(&self, bytes: &[u8], at: usize) -> Result<u16, Answer> {
+        let output = word_at(bytes, at);
+        if usize::from(output) >= 1 << self.sizes.outputs {
+            return Err(refused(ENTRY, at));
+        }
+        Ok(output)
+    }
+
+    /// The next state of an entry of `layer` at byte offset `at`, if it is in range.
+    fn judge_next(&self, bytes: &[u8], at: usize, layer: usize) -> Result<u16, Answer> {
+        let next = word_at(bytes, at);
+        if next >= self.counts[layer + 1] {
+            return Err(refused(ENTRY, at));
+        }
+        Ok(next)
+    }
+
+    /// The number of entries: one for each state before layer T and each word.
+    pub fn entries(&self) -> usize {
+        self.entries_of(self.sizes.frames - 1).end
+    }
+
+    /// The entries of a layer before T.
+    pub fn entries_of(&self, layer: usize) -> std::ops::Range<usize> {
+        let counts = self.counts.iter().map(|&count| usize::from(count));
+        let before: usize = counts.clone().take(layer).sum();
+        let through: usize = counts.take(layer + 1).sum();
+        before * self.sizes.input_words()..through * self.sizes.input_words()
+    }
+
+    /// The entry of a position before layer T and a word.
+    pub fn entry(&self, layer: usize, state: u16, word: u16) -> usize {
+        let of_state = usize::from(state) * self.sizes.input_words();
+        self.entries_of(layer).start + of_state + usize::from(word)
+    }
+
+    /// Byte offset of an entry's output word.
+    pub fn output_at(&self, entry: usize) -> usize {
+        8 + 2 * self.sizes.frames + 2 * entry
+    }
+
+    /// Byte offset of an entry's next state.
+    pub fn next_at(&self, entry: usize) -> usize {
+        self.output_at(self.entries() + entry)
+    }
+}
+
+impl Table {
+    /// Most states of a layer between the first and the last.
+    pub const MOST_STATES: u16 = 32768;
+
+    /// The table in `bytes`, if it passes every check.
+    pub fn read(bytes: &[u8]) -> Result<Table, Answer> {
+        let head = Head::read(bytes)?;
+        head.judge_entries(bytes)?;
+        Ok(Table {
+            output_words: words_at(bytes, head.output_at(0), head.entries()),
+            next_states: words_at(bytes, head.next_at(0), head.entries()),
+            head,
+        })
+    }
+
+    pub fn to_bytes(&self) -> Vec<u8> {
+        let mut words = self.head.sizes.words().to_vec();
+        words.extend_from_slice(&self.head.counts);
+        words.extend_from_slice(&self.output_words);
+        words.extend_from_slice(&self.next_states);
+        to_bytes(&words)
+    }
+}

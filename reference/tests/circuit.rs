@@ -1,0 +1,247 @@
+//! The proved check and simulation of circuits against the plain ones.
+
+mod common;
+#[path = "common/evaluator.rs"]
+mod evaluator;
+
+use common::{seeds, Seen};
+use evaluator::{sizes_around_the_limits, Evaluator};
+use reference::gen::{all_sizes, any_sizes, circuits, damaged, sizes_with, Rng};
+use reference::words::{set_word, to_bytes, word_at};
+use reference::{examples, figures, Circuit, Gates, Sizes};
+
+const CIRCUIT: Evaluator = Evaluator {
+    plain_check: reference::check_circuit,
+    plain_evaluate: reference::simulate,
+    proved_check: tff::raw::tff_check_circuit,
+    proved_evaluate: tff::raw::tff_simulate,
+};
+
+#[test]
+fn the_given_figures_hold() {
+    for (circuit, expected) in figures::checked() {
+        let answer = tff::check_circuit(&circuit);
+        assert_eq!((answer.number, answer.place), expected);
+        assert_eq!(CIRCUIT.check(0, &circuit), [expected.0, expected.1]);
+    }
+}
+
+#[test]
+fn parity_simulates_to_its_truth_table() {
+    let file = examples::parity().to_bytes();
+    for (words, outputs) in [
+        ([0, 0], [0, 0, 9]),
+        ([0, 1], [0, 1, 9]),
+        ([1, 0], [1, 1, 9]),
+        ([1, 1], [1, 0, 9]),
+    ] {
+        let mut result = [9; 3];
+        let answer = tff::simulate(&file, &words, &mut result);
+        assert_eq!((answer.number, answer.place), (0, 2));
+        assert_eq!(result, outputs);
+    }
+}
+
+#[test]
+fn legal_circuits_of_all_shapes_are_simulated() {
+    for seed in seeds(40) {
+        let mut rng = Rng::new(seed);
+        for sizes in all_sizes() {
+            let gates = sizes.output_gates() + rng.below(60);
+            let file = circuits::legal(&mut rng, sizes, gates).to_bytes();
+            CIRCUIT.accepts(seed, &file, &sizes, 3);
+        }
+    }
+}
+
+#[test]
+fn every_sequence_of_small_circuits_is_simulated() {
+    for seed in seeds(1_000) {
+        let circuit = circuits::any_legal(&mut Rng::new(seed), 7, 40);
+        CIRCUIT.accepts_every_sequence(seed, &circuit.to_bytes(), &circuit.sizes);
+    }
+}
+
+#[test]
+fn circuits_at_the_limits_are_simulated() {
+    for seed in seeds(6) {
+        for (sizes, gates) in circuits::limits() {
+            let file = circuits::legal(&mut Rng::new(seed), sizes, gates).to_bytes();
+            CIRCUIT.accepts(seed, &file, &sizes, 12);
+        }
+    }
+}
+
+#[test]
+fn unrolled_machines_are_simulated() {
+    for seed in seeds(6_000) {
+        let mut rng = Rng::new(seed);
+        let sizes = any_sizes(&mut rng, Sizes::MOST_SIGNALS);
+        let memory = rng.below(5);
+        let file = circuits::unrolled(&mut rng, sizes, memory).to_bytes();
+        CIRCUIT.accepts(seed, &file, &sizes, 4);
+    }
+}
+
+#[test]
+fn lengths_other_than_the_exact_one_are_refused() {
+    for seed in seeds(30) {
+        let circuit = circuits::any_legal(&mut Rng::new(seed), 16, 10);
+        CIRCUIT.judges_lengths(seed, &circuit.to_bytes());
+    }
+}
+
+#[test]
+fn every_head_near_the_limits_is_judged() {
+    let mut seen = Seen::default();
+    for [inputs, outputs, frames] in sizes_around_the_limits() {
+        let least = outputs.wrapping_mul(frames);
+        let below = least.wrapping_sub(1);
+        for gates in [0, below, least, 4095, 4096, 4097, u16::MAX] {
+            let head = to_bytes(&[inputs, outputs, frames, gates]);
+            seen.note(CIRCUIT.check(0, &head));
+        }
+    }
+    seen.expect(&[1, 2]);
+}
+
+#[test]
+fn gate_counts_are_judged_at_their_limits() {
+    for sizes in all_sizes() {
+        let least = sizes.output_gates();
+        for gates in [least - 1, least, 4096, 4097] {
+            let mut file = to_bytes(&sizes.words());
+            file.extend_from_slice(&(gates as u16).to_le_bytes());
+            file.resize(8 + 4 * gates, 0);
+            let legal = (least..=4096).contains(&gates);
+            CIRCUIT.finds(gates as u64, &file, (!legal).then_some([2, 6]));
+        }
+    }
+}
+
+#[test]
+fn each_literal_is_judged_at_its_limit() {
+    let mut seen = Seen::default();
+    for seed in seeds(60) {
+        let circuit = circuits::any_legal(&mut Rng::new(seed), 16, 12);
+        let mut file = circuit.to_bytes();
+        for index in 0..2 * circuit.gates() {
+            let at = 8 + 2 * index;
+            let legal = word_at(&file, at);
+            let limit = circuit.literal_limit(index % circuit.gates()) as u16;
+            for high in [limit, limit + 1, u16::MAX] {
+                set_word(&mut file, at, high);
+                CIRCUIT.finds(seed, &file, Some([3, at as u64]));
+            }
+            for highest in [limit - 2, limit - 1] {
+                set_word(&mut file, at, highest);
+                seen.note(CIRCUIT.check(seed, &file));
+            }
+            set_word(&mut file, at, legal);
+        }
+    }
+    seen.expect(&[0, 4]);
+}
+
+#[test]
+fn the_first_high_literal_in_file_order_is_named() {
+    for seed in seeds(1_000) {
+        let mut rng = Rng::new(seed);
+        let circuit = circuits::any_legal(&mut rng, 16, 12);
+        let mut file = circuit.to_bytes();
+        let places = [0; 3].map(|_| 8 + 2 * rng.below(2 * circuit.gates()));
+        for place in places {
+            set_word(&mut file, place, u16::MAX);
+        }
+        let first = places.into_iter().min().map_or(0, |place| place as u64);
+        CIRCUIT.finds(seed, &file, Some([3, first]));
+    }
+}
+
+#[test]
+fn each_output_may_reach_its_own_frame_and_no_later_one() {
+    for seed in seeds(100) {
+        let mut rng = Rng::new(seed);
+        let sizes = any_sizes(&mut rng, Sizes::MOST_SIGNALS);
+        // Outputs over constants alone, so that the one that is changed is the first to look ahead.
+        let mut circuit = Gates::new(sizes).finish(&vec![0; sizes.output_gates()]);
+        for output in 0..sizes.output_gates() {
+            let own = (output / sizes.outputs + 1) * sizes.inputs;
+            for signal in 1..=sizes.input_signals() {
+                circuit.left[output] = 2 * signal as u16 + 1;
+                let fault = (signal > own).then_some([4, output as u64]);
+                CIRCUIT.finds(seed, &circuit.to_bytes(), fault);
+            }
+            circuit.left[output] = 0;
+        }
+    }
+}
+
+#[test]
+fn looking_ahead_without_effect_is_refused_but_unread_gates_do_not_matter() {
+    let sizes = Sizes::new(1, 1, 2);
+    // An inner gate over the second input and false; the first output reads it or does not.
+    for (read, fault) in [(6, Some([4, 0])), (2, None)] {
+        let circuit = Circuit {
+            sizes,
+            left: vec![4, read, 4],
+            right: vec![0, 1, 1],
+        };
+        CIRCUIT.finds(0, &circuit.to_bytes(), fault);
+    }
+}
+
+#[test]
+fn circuits_with_careless_literals_are_judged() {
+    let seen = CIRCUIT.judges(40_000, |rng| {
+        let sizes = any_sizes(rng, Sizes::MOST_SIGNALS);
+        let gates = sizes.output_gates() + rng.below(20);
+        let circuit = circuits::careless(rng, sizes, gates);
+        (circuit.to_bytes(), sizes)
+    });
+    seen.expect(&[0, 3, 4]);
+}
+
+#[test]
+fn damaged_circuits_are_judged() {
+    let seen = CIRCUIT.judges(60_000, |rng| {
+        let circuit = circuits::any_legal(rng, 16, 12);
+        (damaged(rng, &circuit.to_bytes()), circuit.sizes)
+    });
+    seen.expect(&[0, 1, 2, 3, 4]);
+}
+
+#[test]
+fn faults_of_words_and_result_are_judged_in_order() {
+    for seed in seeds(60) {
+        let circuit = circuits::any_legal(&mut Rng::new(seed), 16, 6);
+        CIRCUIT
+            .judges_words_and_result(seed, &circuit.to_bytes(), &circuit.sizes)
+            .expect(&[0, 7, 9, 12]);
+    }
+}
+
+#[test]
+fn the_first_high_input_word_is_named() {
+    for sizes in sizes_with(2) {
+        let file = circuits::legal(&mut Rng::new(1), sizes, 40).to_bytes();
+        CIRCUIT.names_the_first_high_word(1, &file, &sizes);
+    }
+}
+
+#[test]
+fn empty_slices_are_ordinary() {
+    let file = examples::parity().to_bytes();
+    assert_eq!(CIRCUIT.check(0, &[]), [1, 0]);
+    assert_eq!(CIRCUIT.evaluate(0, &[], &[], 0), [1, 0]);
+    assert_eq!(CIRCUIT.evaluate(0, &file, &[], 0), [12, 0]);
+    assert_eq!(CIRCUIT.evaluate(0, &file, &[0, 1], 0), [7, 2]);
+}
+
+#[test]
+fn a_short_answer_changes_nothing() {
+    for seed in seeds(300) {
+        let circuit = circuits::any_legal(&mut Rng::new(seed), 16, 12);
+        CIRCUIT.needs_two_answers(seed, &circuit.to_bytes(), &circuit.sizes);
+    }
+}

@@ -1,0 +1,192 @@
+//! Checking a file and evaluating it on input words: simulating a circuit and running a table take
+//! and answer alike, so both are tried alike.
+
+use crate::common::{compare, seeds, short_answers_change_nothing, Case, Room, Seen};
+use reference::gen::{any_sequence, Rng};
+use reference::{Answer, Sizes};
+
+type ProvedCheck = unsafe extern "C" fn(*const u8, usize, *mut u64, usize);
+type ProvedEvaluate =
+    unsafe extern "C" fn(*const u8, usize, *const u16, usize, *mut u16, usize, *mut u64, usize);
+
+/// Triples of sizes, legal and not.
+pub fn sizes_around_the_limits() -> Vec<[u16; 3]> {
+    let up_to = |last: u16| (0..=last).chain([255, 256, u16::MAX]);
+    let mut all = Vec::new();
+    for inputs in up_to(10) {
+        for outputs in up_to(18) {
+            all.extend(up_to(18).map(|frames| [inputs, outputs, frames]));
+        }
+    }
+    all
+}
+
+/// The calls for one kind of file, plain and proved.
+pub struct Evaluator {
+    pub plain_check: fn(&[u8]) -> Answer,
+    pub plain_evaluate: fn(&[u8], &[u16], &mut [u16]) -> Answer,
+    pub proved_check: ProvedCheck,
+    pub proved_evaluate: ProvedEvaluate,
+}
+
+impl Evaluator {
+    /// Checks `file` with both implementations.
+    pub fn check(&self, seed: u64, file: &[u8]) -> [u64; 2] {
+        compare(
+            &check_case(seed, file),
+            Room::default(),
+            |_, _| (self.plain_check)(file).into(),
+            |_, _, answer| self.call_check(file, answer),
+        )
+    }
+
+    /// Evaluates `file` with both implementations, with a result of `length` numbers.
+    pub fn evaluate(&self, seed: u64, file: &[u8], words: &[u16], length: usize) -> [u64; 2] {
+        compare(
+            &evaluate_case(seed, file, words),
+            result_of(length),
+            |result, _| (self.plain_evaluate)(file, words, result).into(),
+            |result, _, answer| self.call_evaluate(file, words, result, answer),
+        )
+    }
+
+    fn call_check(&self, file: &[u8], answer: &mut [u64]) {
+        // SAFETY: each pointer and length is that of one slice.
+        unsafe { (self.proved_check)(file.as_ptr(), file.len(), answer.as_mut_ptr(), answer.len()) }
+    }
+
+    fn call_evaluate(&self, file: &[u8], words: &[u16], result: &mut [u16], answer: &mut [u64]) {
+        // SAFETY: each pointer and length is that of one slice.
+        unsafe {
+            (self.proved_evaluate)(
+                file.as_ptr(),
+                file.len(),
+                words.as_ptr(),
+                words.len(),
+                result.as_mut_ptr(),
+                result.len(),
+                answer.as_mut_ptr(),
+                answer.len(),
+            )
+        }
+    }
+
+    /// A file with a fault is refused for it by both calls, before words and result are judged.
+    pub fn finds(&self, seed: u64, file: &[u8], fault: Option<[u64; 2]>) {
+        assert_eq!(self.check(seed, file), fault.unwrap_or([0, 0]));
+        let evaluated = self.evaluate(seed, file, &[u16::MAX; 17], 0);
+        assert_eq!(evaluated, fault.unwrap_or([12, 17]));
+    }
+
+    /// A legal file is accepted, and evaluated on some sequences with ample room.
+    pub fn accepts(&self, seed: u64, file: &[u8], sizes: &Sizes, sequences: usize) {
+        let mut rng = Rng::new(seed);
+        assert_eq!(self.check(seed, file), [0, 0]);
+        for _ in 0..sequences {
+            let words = any_sequence(&mut rng, sizes);
+            let length = sizes.frames + rng.below(4);
+            let answer = self.evaluate(seed, file, &words, length);
+            assert_eq!(answer, [0, sizes.frames as u64]);
+        }
+    }
+
+    /// A legal file is evaluated on every sequence.
+    pub fn accepts_every_sequence(&self, seed: u64, file: &[u8], sizes: &Sizes) {
+        for sequence in 0..sizes.histories(sizes.frames) {
+            let words = sizes.history_words(sizes.frames, sequence);
+            let answer = self.evaluate(seed, file, &words, sizes.frames);
+            assert_eq!(answer, [0, sizes.frames as u64]);
+        }
+    }
+
+    /// Files that may have faults are judged alike by both calls.
+    pub fn judges(&self, count: u64, make: impl Fn(&mut Rng) -> (Vec<u8>, Sizes)) -> Seen {
+        let mut seen = Seen::default();
+        for seed in seeds(count) {
+            let mut rng = Rng::new(seed);
+            let (file, sizes) = make(&mut rng);
+            let words = any_sequence(&mut rng, &sizes);
+            seen.note(self.check(seed, &file));
+            seen.note(self.evaluate(seed, &file, &words, sizes.frames));
+        }
+        seen
+    }
+
+    /// Of a legal file, every other length is refused.
+    pub fn judges_lengths(&self, seed: u64, file: &[u8]) {
+        let longer = [file, &[0; 9]].concat();
+        for length in 0..longer.len() {
+            let fault = (length != file.len()).then_some([1, length as u64]);
+            self.finds(seed, &longer[..length], fault);
+        }
+    }
+
+    /// Lists and results of lengths around the number of frames, with words around their limit.
+    pub fn judges_words_and_result(&self, seed: u64, file: &[u8], sizes: &Sizes) -> Seen {
+        let mut rng = Rng::new(seed);
+        let mut seen = Seen::default();
+        let last = sizes.input_words() as u16 - 1;
+        let lengths = [0, sizes.frames - 1, sizes.frames, sizes.frames + 1];
+        for list in lengths {
+            for high in [last, last + 1, u16::MAX] {
+                let mut words = any_sequence(&mut rng, sizes);
+                words.resize(list, high);
+                if list > 0 {
+                    words[rng.below(list)] = high;
+                }
+                for length in lengths {
+                    seen.note(self.evaluate(seed, file, &words, length));
+                }
+            }
+        }
+        seen
+    }
+
+    /// The first word above the highest is named, wherever it stands.
+    pub fn names_the_first_high_word(&self, seed: u64, file: &[u8], sizes: &Sizes) {
+        let highest = sizes.input_words() as u16 - 1;
+        let mut words = vec![highest; sizes.frames];
+        let answer = self.evaluate(seed, file, &words, sizes.frames);
+        assert_eq!(answer, [0, sizes.frames as u64]);
+        for index in (0..sizes.frames).rev() {
+            words[index] = highest + 1;
+            let answer = self.evaluate(seed, file, &words, sizes.frames);
+            assert_eq!(answer, [9, index as u64]);
+        }
+    }
+
+    /// Calls with an answer too short leave everything as it was.
+    pub fn needs_two_answers(&self, seed: u64, file: &[u8], sizes: &Sizes) {
+        let words = any_sequence(&mut Rng::new(seed), sizes);
+        let case = check_case(seed, file);
+        short_answers_change_nothing(&case, Room::default(), 2, |_, _, answer| {
+            self.call_check(file, answer)
+        });
+        let case = evaluate_case(seed, file, &words);
+        short_answers_change_nothing(&case, result_of(sizes.frames), 2, |result, _, answer| {
+            self.call_evaluate(file, &words, result, answer)
+        });
+    }
+}
+
+fn check_case(seed: u64, file: &[u8]) -> Case<'_> {
+    Case {
+        call: "check",
+        seed,
+        file,
+        words: &[],
+    }
+}
+
+fn evaluate_case<'a>(seed: u64, file: &'a [u8], words: &'a [u16]) -> Case<'a> {
+    Case {
+        call: "evaluate",
+        seed,
+        file,
+        words,
+    }
+}
+
+fn result_of(numbers: usize) -> Room {
+    Room { numbers, bytes: 0 }
+}

@@ -1,0 +1,23 @@
+//! Folding by the proved library alone, and the outputs of a circuit and its table.
+
+use reference::Sizes;
+
+/// The table that a circuit folds to.
+pub fn folded(circuit: &[u8]) -> Vec<u8> {
+    let mut result = vec![0; 1 << 14];
+    let answer = tff::fold(circuit, &mut [0; 1 << 13], &mut result);
+    assert_eq!(answer.number, 0);
+    result.truncate(answer.place as usize);
+    result
+}
+
+/// Both are legal, and every sequence gives the same outputs.
+pub fn assert_same_outputs(sizes: &Sizes, circuit: &[u8], table: &[u8]) {
+    for sequence in 0..sizes.histories(sizes.frames) {
+        let words = sizes.history_words(sizes.frames, sequence);
+        let [mut simulated, mut run] = [0, 1].map(|fill| vec![fill; sizes.frames]);
+        assert_eq!(tff::simulate(circuit, &words, &mut simulated).number, 0);
+        assert_eq!(tff::run(table, &words, &mut run).number, 0);
+        assert_eq!(simulated, run, "words {words:?}");
+    }
+}

@@ -1,0 +1,283 @@
+//! The proved fold against the plain one.
+
+mod common;
+#[path = "common/outputs.rs"]
+mod outputs;
+
+use common::{compare, seeds, short_answers_change_nothing, Case, Room, Seen};
+use outputs::{assert_same_outputs, folded};
+use reference::figures::{self, PARITY_FOLDED, PARITY_TABLE};
+use reference::gen::{any_sizes, circuits, damaged, sizes_with, Rng};
+use reference::words::to_bytes;
+use reference::{examples, Circuit, Sizes, Table};
+
+fn call_fold(circuit: &[u8], scratch: &mut [u16], result: &mut [u8], answer: &mut [u64]) {
+    // SAFETY: each pointer and length is that of one slice.
+    unsafe {
+        tff::raw::tff_fold(
+            circuit.as_ptr(),
+            circuit.len(),
+            scratch.as_mut_ptr(),
+            scratch.len(),
+            result.as_mut_ptr(),
+            result.len(),
+            answer.as_mut_ptr(),
+            answer.len(),
+        )
+    }
+}
+
+fn fold_case(seed: u64, file: &[u8]) -> Case<'_> {
+    Case {
+        call: "fold",
+        seed,
+        file,
+        words: &[],
+    }
+}
+
+/// Folds with both implementations.
+fn fold(seed: u64, file: &[u8], room: Room) -> [u64; 2] {
+    compare(
+        &fold_case(seed, file),
+        room,
+        |scratch, result| reference::fold(file, scratch, result).into(),
+        |scratch, result, answer| call_fold(file, scratch, result, answer),
+    )
+}
+
+/// Room that suffices for every circuit of these sizes, and some more.
+fn ample(sizes: &Sizes) -> Room {
+    let longest: usize = (1..=sizes.frames)
+        .map(|length| sizes.histories(length))
+        .sum();
+    Room {
+        numbers: scratch_needed(sizes) + 3,
+        bytes: 8 + 2 * sizes.frames + 4 * longest + 5,
+    }
+}
+
+fn scratch_needed(sizes: &Sizes) -> usize {
+    2 * sizes.histories(sizes.frames)
+}
+
+/// A legal circuit is folded with ample room; gives the bytes written.
+fn accepts(seed: u64, circuit: &Circuit) -> usize {
+    let [number, place] = fold(seed, &circuit.to_bytes(), ample(&circuit.sizes));
+    assert_eq!(number, 0);
+    place as usize
+}
+
+#[test]
+fn parity_folds_to_the_given_bytes() {
+    let parity = examples::parity();
+    assert_eq!(folded(&parity.to_bytes()), to_bytes(&PARITY_TABLE));
+    accepts(0, &parity);
+}
+
+#[test]
+fn parity_is_folded_only_with_the_given_room() {
+    let file = examples::parity().to_bytes();
+    for (numbers, bytes, expected) in PARITY_FOLDED {
+        let answer = tff::fold(&file, &mut vec![1; numbers], &mut vec![1; bytes]);
+        assert_eq!((answer.number, answer.place), expected);
+        assert_eq!(
+            fold(0, &file, Room { numbers, bytes }),
+            [expected.0, expected.1]
+        );
+    }
+}
+
+#[test]
+fn circuits_of_the_sources_fold_to_the_given_counts() {
+    for (circuit, expected) in figures::counts() {
+        let table = Table::read(&folded(&circuit.to_bytes())).unwrap();
+        assert_eq!(table.head.counts, expected);
+        accepts(0, &circuit);
+    }
+}
+
+#[test]
+fn every_behaviour_of_one_input_one_output_and_three_frames_is_folded() {
+    let sizes = Sizes::new(1, 1, 3);
+    // A bit for each history of one, two and three words: 2 + 4 + 8.
+    for seed in seeds(1 << 14) {
+        let first_bit = [0, 2, 6];
+        let circuit = circuits::with_outputs(sizes, |frame, history| {
+            (seed >> (first_bit[frame] + history) & 1) as u16
+        });
+        accepts(seed, &circuit);
+    }
+}
+
+#[test]
+fn every_behaviour_of_one_input_two_outputs_and_two_frames_is_folded() {
+    let sizes = Sizes::new(1, 2, 2);
+    // Two bits for each history of one and two words: 4 + 8.
+    for seed in seeds(1 << 12) {
+        let first_bit = [0, 4];
+        let circuit = circuits::with_outputs(sizes, |frame, history| {
+            (seed >> (first_bit[frame] + 2 * history) & 3) as u16
+        });
+        accepts(seed, &circuit);
+    }
+}
+
+#[test]
+fn random_circuits_are_folded() {
+    for seed in seeds(4_000) {
+        accepts(seed, &circuits::any_legal(&mut Rng::new(seed), 9, 60));
+    }
+}
+
+#[test]
+fn unrolled_machines_are_folded() {
+    for seed in seeds(2_000) {
+        let mut rng = Rng::new(seed);
+        let sizes = any_sizes(&mut rng, 10);
+        let memory = rng.between(1, 4);
+        accepts(seed, &circuits::unrolled(&mut rng, sizes, memory));
+    }
+}
+
+#[test]
+fn circuits_of_all_shapes_are_folded() {
+    for seed in seeds(2) {
+        let mut rng = Rng::new(seed);
+        for sizes in sizes_with(3) {
+            let gates = sizes.output_gates() + 30;
+            accepts(seed, &circuits::legal(&mut rng, sizes, gates));
+        }
+    }
+}
+
+#[test]
+fn circuits_with_most_gates_and_sequences_are_folded() {
+    for seed in seeds(1) {
+        for (inputs, frames, gates) in [(1, 16, 500), (2, 8, 500), (4, 4, 500), (8, 2, 4096)] {
+            let sizes = Sizes::new(inputs, 3, frames);
+            accepts(seed, &circuits::legal(&mut Rng::new(seed), sizes, gates));
+        }
+    }
+}
+
+#[test]
+fn most_states_are_numbered() {
+    for (inputs, frames) in [(1, 16), (4, 4), (8, 2)] {
+        let sizes = Sizes::new(inputs, 16, frames);
+        let circuit = circuits::many_states(sizes, sizes.output_gates());
+        let room = ample(&sizes);
+        // No table of these sizes is longer: every history has its own state.
+        assert_eq!(accepts(0, &circuit), room.bytes - 5);
+    }
+}
+
+#[test]
+fn few_states_are_found_among_most_sequences() {
+    for (inputs, frames) in [(1, 16), (2, 8), (4, 4), (8, 2)] {
+        let circuit = circuits::few_states(inputs, frames, 200);
+        // Set inputs are counted modulo 4, and before the last layer each count matters.
+        let states: usize = (0..frames).map(|layer| (inputs * layer + 1).min(4)).sum();
+        let bytes = 8 + 2 * frames + 4 * (states << inputs);
+        assert_eq!(accepts(0, &circuit), bytes);
+    }
+}
+
+#[test]
+fn folded_tables_run_as_their_circuits_simulate() {
+    for seed in seeds(300) {
+        let circuit = circuits::any_legal(&mut Rng::new(seed), 7, 60);
+        let file = circuit.to_bytes();
+        assert_same_outputs(&circuit.sizes, &file, &folded(&file));
+    }
+}
+
+#[test]
+fn circuits_with_faults_are_refused_and_change_nothing() {
+    let mut seen = Seen::default();
+    for seed in seeds(6_000) {
+        let mut rng = Rng::new(seed);
+        let sizes = any_sizes(&mut rng, 8);
+        let gates = sizes.output_gates() + rng.below(12);
+        let mut file = circuits::careless(&mut rng, sizes, gates).to_bytes();
+        if rng.one_in(2) {
+            file = damaged(&mut rng, &file);
+        }
+        seen.note(fold(seed, &file, ample(&sizes)));
+    }
+    seen.expect(&[0, 1, 2, 3, 4, 6]);
+}
+
+#[test]
+fn scratch_is_judged_from_the_sizes_alone() {
+    for sizes in sizes_with(1) {
+        let file = circuits::legal(&mut Rng::new(0), sizes, sizes.frames).to_bytes();
+        let needed = scratch_needed(&sizes);
+        for numbers in [0, 1, needed / 2, needed - 1] {
+            for bytes in [0, 100] {
+                let answer = fold(0, &file, Room { numbers, bytes });
+                assert_eq!(answer, [6, needed as u64]);
+            }
+        }
+    }
+}
+
+#[test]
+fn scratch_and_result_are_judged_at_the_needed_lengths() {
+    for seed in seeds(150) {
+        let circuit = circuits::any_legal(&mut Rng::new(seed), 8, 40);
+        let file = circuit.to_bytes();
+        let scratch = scratch_needed(&circuit.sizes);
+        let length = accepts(seed, &circuit);
+        for numbers in [0, scratch - 1, scratch, scratch + 1, scratch + 100] {
+            for bytes in [0, 7, 8, length - 1, length, length + 1, length + 100] {
+                let expected = if numbers < scratch {
+                    [6, scratch as u64]
+                } else if bytes < length {
+                    [7, length as u64]
+                } else {
+                    [0, length as u64]
+                };
+                assert_eq!(fold(seed, &file, Room { numbers, bytes }), expected);
+            }
+        }
+    }
+}
+
+#[test]
+fn the_circuit_is_judged_before_scratch_and_result() {
+    let mut seen = Seen::default();
+    for seed in seeds(2_000) {
+        let mut rng = Rng::new(seed);
+        let circuit = circuits::any_legal(&mut rng, 16, 6);
+        let file = damaged(&mut rng, &circuit.to_bytes());
+        seen.note(fold(seed, &file, Room::default()));
+    }
+    seen.expect(&[1, 2, 3, 4, 6]);
+}
+
+#[test]
+fn empty_slices_are_ordinary() {
+    assert_eq!(fold(0, &[], Room::default()), [1, 0]);
+    let file = examples::parity().to_bytes();
+    assert_eq!(fold(0, &file, Room::default()), [6, 8]);
+    let scratch_alone = Room {
+        numbers: 8,
+        bytes: 0,
+    };
+    assert_eq!(fold(0, &file, scratch_alone), [7, 36]);
+}
+
+#[test]
+fn a_short_answer_changes_nothing() {
+    for seed in seeds(300) {
+        let circuit = circuits::any_legal(&mut Rng::new(seed), 8, 20);
+        let file = circuit.to_bytes();
+        for room in [Room::default(), ample(&circuit.sizes)] {
+            let case = fold_case(seed, &file);
+            short_answers_change_nothing(&case, room, 2, |scratch, result, answer| {
+                call_fold(&file, scratch, result, answer)
+            });
+        }
+    }
+}

@@ -1,0 +1,455 @@
+//! The proved check, run and step of tables against the plain ones.
+
+mod common;
+#[path = "common/evaluator.rs"]
+mod evaluator;
+
+use common::{compare, seeds, short_answers_change_nothing, Case, Room, Seen};
+use evaluator::{sizes_around_the_limits, Evaluator};
+use reference::figures::PARITY_TABLE;
+use reference::gen::{all_sizes, damaged, sizes_with, tables, Rng};
+use reference::table::Head;
+use reference::words::{set_word, to_bytes};
+use reference::{Sizes, Table};
+
+const TABLE: Evaluator = Evaluator {
+    plain_check: reference::check_table,
+    plain_evaluate: reference::run,
+    proved_check: tff::raw::tff_check_table,
+    proved_evaluate: tff::raw::tff_run,
+};
+
+/// Layer, state and word of a step.
+type Place = [u16; 3];
+
+fn call_step(file: &[u8], [layer, state, word]: Place, answer: &mut [u64]) {
+    // SAFETY: each pointer and length is that of one slice.
+    unsafe {
+        tff::raw::tff_step(
+            file.as_ptr(),
+            file.len(),
+            layer,
+            state,
+            word,
+            answer.as_mut_ptr(),
+            answer.len(),
+        )
+    }
+}
+
+fn plain_step(file: &[u8], [layer, state, word]: Place) -> [u64; 5] {
+    let stepped = reference::step(file, layer, state, word);
+    let [output, layer, state] = [stepped.output, stepped.layer, stepped.state].map(u64::from);
+    [stepped.number, stepped.place, output, layer, state]
+}
+
+fn step_case<'a>(seed: u64, file: &'a [u8], place: &'a Place) -> Case<'a> {
+    Case {
+        call: "step",
+        seed,
+        file,
+        words: place,
+    }
+}
+
+/// Steps with both implementations.
+fn step(seed: u64, file: &[u8], place: Place) -> [u64; 5] {
+    compare(
+        &step_case(seed, file, &place),
+        Room::default(),
+        |_, _| plain_step(file, place),
+        |_, _, answer| call_step(file, place, answer),
+    )
+}
+
+/// Every place that a table has an entry for.
+fn places(table: &Table) -> Vec<Place> {
+    let mut places = Vec::new();
+    for layer in 0..table.head.sizes.frames as u16 {
+        for state in 0..table.head.counts[usize::from(layer)] {
+            for word in 0..table.head.sizes.input_words() as u16 {
+                places.push([layer, state, word]);
+            }
+        }
+    }
+    places
+}
+
+/// Places within and just beyond what a table has, in every part.
+fn places_around(table: &Table) -> Vec<Place> {
+    let frames = table.head.sizes.frames as u16;
+    let words = table.head.sizes.input_words() as u16;
+    let mut places = Vec::new();
+    for layer in (0..frames + 3).chain([255, 256, u16::MAX]) {
+        let count = *table.head.counts.get(usize::from(layer)).unwrap_or(&1);
+        for state in [0, count - 1, count, count + 1, u16::MAX] {
+            for word in [0, words - 1, words, u16::MAX] {
+                places.push([layer, state, word]);
+            }
+        }
+    }
+    places
+}
+
+/// A small table, its sizes free.
+fn small(seed: u64) -> Table {
+    tables::any_legal(&mut Rng::new(seed), 16, 4)
+}
+
+/// A table with one count changed and entries of zeros to fit.
+fn zeros(sizes: Sizes, layer: usize, count: u16) -> Vec<u8> {
+    let mut counts = vec![1; sizes.frames + 1];
+    counts[layer] = count;
+    let head = Head { sizes, counts };
+    let mut words = sizes.words().to_vec();
+    words.extend_from_slice(&head.counts);
+    words.resize(head.next_at(head.entries()) / 2, 0);
+    to_bytes(&words)
+}
+
+/// The largest legal table.
+fn largest(seed: u64) -> Table {
+    let sizes = Sizes::new(8, 7, 2);
+    tables::legal(&mut Rng::new(seed), sizes, vec![1, Table::MOST_STATES, 1])
+}
+
+#[test]
+fn the_given_figures_hold() {
+    let file = to_bytes(&PARITY_TABLE);
+    let answer = tff::check_table(&file);
+    assert_eq!((answer.number, answer.place), (0, 0));
+    let stepped = tff::step(&file, 2, 0, 0);
+    assert_eq!((stepped.number, stepped.place), (10, 2));
+    assert_eq!((stepped.output, stepped.layer, stepped.state), (0, 2, 0));
+    let stepped = tff::step(&file, 0, 0, 1);
+    assert_eq!((stepped.number, stepped.place), (0, 0));
+    assert_eq!((stepped.output, stepped.layer, stepped.state), (1, 1, 1));
+    let mut result = [9; 3];
+    let answer = tff::run(&file, &[1, 1], &mut result);
+    assert_eq!((answer.number, answer.place), (0, 2));
+    assert_eq!(result, [1, 0, 9]);
+}
+
+#[test]
+fn legal_tables_of_all_shapes_are_run() {
+    for seed in seeds(20) {
+        let mut rng = Rng::new(seed);
+        for sizes in all_sizes() {
+            let counts = tables::any_counts(&mut rng, &sizes, 6);
+            let file = tables::legal(&mut rng, sizes, counts).to_bytes();
+            TABLE.accepts(seed, &file, &sizes, 3);
+        }
+    }
+}
+
+#[test]
+fn every_sequence_of_small_tables_is_run() {
+    for seed in seeds(1_000) {
+        let table = tables::any_legal(&mut Rng::new(seed), 7, 5);
+        TABLE.accepts_every_sequence(seed, &table.to_bytes(), &table.head.sizes);
+    }
+}
+
+#[test]
+fn tables_with_many_states_are_run() {
+    for seed in seeds(12) {
+        let table = tables::any_legal(&mut Rng::new(seed), 16, 3_000);
+        TABLE.accepts(seed, &table.to_bytes(), &table.head.sizes, 4);
+    }
+}
+
+#[test]
+fn the_largest_table_is_checked_run_and_stepped() {
+    let table = largest(0);
+    let mut file = table.to_bytes();
+    assert_eq!(file.len(), 33_555_468);
+    TABLE.accepts(0, &file, &table.head.sizes, 1);
+    let last = [1, Table::MOST_STATES - 1, 255];
+    let output = u64::from(*table.output_words.last().unwrap());
+    assert_eq!(step(0, &file, last), [0, 0, output, 2, 0]);
+    let at = file.len() - 2;
+    set_word(&mut file, at, 1);
+    TABLE.finds(0, &file, Some([5, at as u64]));
+    assert_eq!(step(0, &file, last), [5, at as u64, 0, 1, 32_767]);
+    file.pop();
+    TABLE.finds(0, &file, Some([1, 33_555_467]));
+}
+
+#[test]
+fn lengths_other_than_the_exact_one_are_refused() {
+    for seed in seeds(30) {
+        let table = tables::any_legal(&mut Rng::new(seed), 5, 3);
+        TABLE.judges_lengths(seed, &table.to_bytes());
+    }
+}
+
+#[test]
+fn every_head_near_the_limits_is_judged() {
+    let mut seen = Seen::default();
+    for sizes in sizes_around_the_limits() {
+        let mut file = to_bytes(&sizes);
+        file.resize(8 + 2 * Sizes::MOST_FRAMES, 1);
+        let head = 8 + 2 * usize::from(sizes[2]);
+        for length in [5, 6, 7, head - 1, head, file.len()] {
+            seen.note(TABLE.check(0, &file[..length.min(file.len())]));
+        }
+    }
+    seen.expect(&[1, 2]);
+}
+
+#[test]
+fn each_count_is_judged_at_its_limits() {
+    for sizes in sizes_with(3) {
+        for layer in 0..=sizes.frames {
+            let inner = layer != 0 && layer != sizes.frames;
+            for count in [0, 1, 2, 3] {
+                let legal = count == 1 || (inner && count > 1);
+                let fault = (!legal).then_some([2, 6 + 2 * layer as u64]);
+                TABLE.finds(layer as u64, &zeros(sizes, layer, count), fault);
+            }
+        }
+    }
+}
+
+#[test]
+fn inner_counts_go_up_to_32768() {
+    for (inputs, frames, layer) in [(1, 2, 1), (1, 16, 15), (2, 3, 2), (5, 3, 1)] {
+        let sizes = Sizes::new(inputs, 16, frames);
+        for count in [32_767, 32_768, 32_769, u16::MAX] {
+            let fault = (count > 32_768).then_some([2, 6 + 2 * layer as u64]);
+            TABLE.finds(0, &zeros(sizes, layer, count), fault);
+        }
+    }
+}
+
+#[test]
+fn counts_are_judged_before_the_length() {
+    let seen = TABLE.judges(4_000, |rng| {
+        let table = tables::any_legal(rng, 16, 3);
+        let sizes = table.head.sizes;
+        let mut file = table.to_bytes();
+        file.truncate(8 + 2 * sizes.frames);
+        let layer = rng.between(0, sizes.frames);
+        let count = rng.pick(&[0, 1, 2, 32_768, 32_769, u16::MAX]);
+        set_word(&mut file, 6 + 2 * layer, count);
+        (file, sizes)
+    });
+    seen.expect(&[1, 2]);
+}
+
+#[test]
+fn each_output_word_is_judged_at_its_limit() {
+    for seed in seeds(60) {
+        let table = tables::any_legal(&mut Rng::new(seed), 5, 3);
+        let limit = 1u32 << table.head.sizes.outputs;
+        for entry in 0..table.head.entries() {
+            let at = table.head.output_at(entry);
+            for output in [limit - 1, limit, limit + 1] {
+                // With 16 outputs no word is too high.
+                let Ok(word) = u16::try_from(output) else {
+                    continue;
+                };
+                let mut file = table.to_bytes();
+                set_word(&mut file, at, word);
+                let fault = (output >= limit).then_some([5, at as u64]);
+                TABLE.finds(seed, &file, fault);
+            }
+        }
+    }
+}
+
+#[test]
+fn each_next_state_is_judged_at_its_limit() {
+    for seed in seeds(60) {
+        let table = tables::any_legal(&mut Rng::new(seed), 5, 3);
+        for layer in 0..table.head.sizes.frames {
+            let count = table.head.counts[layer + 1];
+            for entry in table.head.entries_of(layer) {
+                let at = table.head.next_at(entry);
+                for next in [count - 1, count, u16::MAX] {
+                    let mut file = table.to_bytes();
+                    set_word(&mut file, at, next);
+                    let fault = (next >= count).then_some([5, at as u64]);
+                    TABLE.finds(seed, &file, fault);
+                }
+            }
+        }
+    }
+}
+
+#[test]
+fn all_output_words_are_judged_before_all_next_states() {
+    for seed in seeds(1_000) {
+        let mut rng = Rng::new(seed);
+        let mut table = tables::any_legal(&mut rng, 16, 4);
+        table.head.sizes.outputs = rng.between(1, 15);
+        table.output_words.fill(0);
+        let [early, late] = [0; 2].map(|_| rng.below(table.head.entries()));
+        let (next, output) = (table.head.next_at(early), table.head.output_at(late));
+        let mut file = table.to_bytes();
+        set_word(&mut file, next, u16::MAX);
+        TABLE.finds(seed, &file, Some([5, next as u64]));
+        set_word(&mut file, output, u16::MAX);
+        TABLE.finds(seed, &file, Some([5, output as u64]));
+    }
+}
+
+#[test]
+fn damaged_tables_are_judged() {
+    let seen = TABLE.judges(40_000, |rng| {
+        let table = tables::any_legal(rng, 16, 3);
+        (damaged(rng, &table.to_bytes()), table.head.sizes)
+    });
+    seen.expect(&[0, 1, 2, 5]);
+}
+
+#[test]
+fn faults_of_words_and_result_are_judged_in_order() {
+    for seed in seeds(60) {
+        let table = small(seed);
+        TABLE
+            .judges_words_and_result(seed, &table.to_bytes(), &table.head.sizes)
+            .expect(&[0, 7, 9, 12]);
+    }
+}
+
+#[test]
+fn the_first_high_input_word_is_named() {
+    for seed in seeds(100) {
+        let table = small(seed);
+        TABLE.names_the_first_high_word(seed, &table.to_bytes(), &table.head.sizes);
+    }
+}
+
+#[test]
+fn steps_are_taken_from_every_position() {
+    for seed in seeds(200) {
+        let table = small(seed);
+        let file = table.to_bytes();
+        for place in places(&table) {
+            assert_eq!(step(seed, &file, place)[0], 0);
+        }
+    }
+}
+
+#[test]
+fn steps_beyond_what_the_table_has_are_refused() {
+    let mut seen = Seen::default();
+    for seed in seeds(200) {
+        let table = small(seed);
+        let file = table.to_bytes();
+        for place in places_around(&table) {
+            seen.note(step(seed, &file, place));
+        }
+    }
+    seen.expect(&[0, 9, 10, 11]);
+}
+
+#[test]
+fn the_last_layer_is_refused_by_its_state_first() {
+    for seed in seeds(200) {
+        let table = small(seed);
+        let (file, last) = (table.to_bytes(), table.head.sizes.frames as u16);
+        for word in [0, u16::MAX] {
+            for (state, number) in [(0, 10), (1, 11), (u16::MAX, 11)] {
+                let [last_given, state_given] = [last, state].map(u64::from);
+                let expected = [number, last_given, 0, last_given, state_given];
+                assert_eq!(step(seed, &file, [last, state, word]), expected);
+            }
+        }
+    }
+}
+
+#[test]
+fn position_and_word_are_judged_before_the_entry() {
+    let mut seen = Seen::default();
+    for seed in seeds(200) {
+        let mut table = small(seed);
+        // With every entry bad, only refusals can follow.
+        table.next_states.fill(u16::MAX);
+        if seed % 2 == 0 {
+            table.output_words.fill(u16::MAX);
+        }
+        let file = table.to_bytes();
+        for place in places_around(&table) {
+            seen.note(step(seed, &file, place));
+        }
+    }
+    seen.expect(&[5, 9, 10, 11]);
+}
+
+#[test]
+fn a_step_judges_the_entry_it_reads_and_no_other() {
+    for seed in seeds(300) {
+        let mut rng = Rng::new(seed);
+        let mut table = tables::any_legal(&mut rng, 6, 4);
+        table.head.sizes.outputs = rng.between(1, 15);
+        table.output_words.fill(1);
+        let bad = rng.below(table.head.entries());
+        let at = rng.pick(&[table.head.output_at(bad), table.head.next_at(bad)]);
+        let mut file = table.to_bytes();
+        set_word(&mut file, at, u16::MAX);
+        for (entry, place) in places(&table).into_iter().enumerate() {
+            let answer = step(seed, &file, place);
+            let expected = if entry == bad { [5, at as u64] } else { [0, 0] };
+            assert_eq!(answer[..2], expected);
+        }
+    }
+}
+
+#[test]
+fn a_step_judges_the_output_word_before_the_next_state() {
+    for seed in seeds(300) {
+        let mut rng = Rng::new(seed);
+        let mut table = tables::any_legal(&mut rng, 6, 4);
+        table.head.sizes.outputs = rng.between(1, 15);
+        table.output_words.fill(u16::MAX);
+        table.next_states.fill(u16::MAX);
+        let file = table.to_bytes();
+        for (entry, place) in places(&table).into_iter().enumerate() {
+            let [layer, state, _] = place.map(u64::from);
+            let at = table.head.output_at(entry) as u64;
+            assert_eq!(step(seed, &file, place), [5, at, 0, layer, state]);
+        }
+    }
+}
+
+#[test]
+fn steps_of_damaged_tables_are_judged() {
+    let mut seen = Seen::default();
+    for seed in seeds(40_000) {
+        let mut rng = Rng::new(seed);
+        let table = tables::any_legal(&mut rng, 8, 3);
+        let file = damaged(&mut rng, &table.to_bytes());
+        let place = rng.pick(&places(&table));
+        seen.note(step(seed, &file, place));
+        let place = rng.pick(&places_around(&table));
+        seen.note(step(seed, &file, place));
+    }
+    seen.expect(&[0, 1, 2, 5, 9, 10, 11]);
+}
+
+#[test]
+fn empty_slices_are_ordinary() {
+    let file = to_bytes(&PARITY_TABLE);
+    assert_eq!(TABLE.check(0, &[]), [1, 0]);
+    assert_eq!(TABLE.evaluate(0, &[], &[], 0), [1, 0]);
+    assert_eq!(TABLE.evaluate(0, &file, &[], 0), [12, 0]);
+    assert_eq!(TABLE.evaluate(0, &file, &[0, 1], 0), [7, 2]);
+    assert_eq!(step(0, &[], [3, 4, 5]), [1, 0, 0, 3, 4]);
+}
+
+#[test]
+fn a_short_answer_changes_nothing() {
+    for seed in seeds(300) {
+        let table = small(seed);
+        let file = table.to_bytes();
+        TABLE.needs_two_answers(seed, &file, &table.head.sizes);
+        for place in [[0, 0, 0], [u16::MAX, 0, 0]] {
+            let case = step_case(seed, &file, &place);
+            short_answers_change_nothing(&case, Room::default(), 5, |_, _, answer| {
+                call_step(&file, place, answer)
+            });
+        }
+    }
+}
