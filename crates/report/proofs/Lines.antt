@@ -1,0 +1,41 @@
+-- Laws of lines: how long they are, and the next one of a layer. Assumes nothing.
+use mathlib.Core.Path.{_≡_, _∙_}
+use mathlib.Core.List.{List}
+use Prim.Native.Nat.{ℕ, suc, _+_, _≤_, _<_}
+use native.Mathlib.Numerals.{add-one}
+use native.Mathlib.Omega.{arith}
+use lib.ListN.{length, length-append}
+use Rattle.sizes.specs.Sizes.{frames}
+use Rattle.table.specs.Table.{states}
+use Rattle.report.specs.Report.{ascii, decimal, pairLine, layerLines, statesBelow, totalLine, tableLines, Appended}
+use Rattle.report.proofs.Decimal.{digits-most}
+use Rattle.report.proofs.Appending.{append-then}
+
+-- two numbers, a space and the end of the line
+pub pair-length : (a b : ℕ) → length (pairLine a b) ≡ length (decimal a) + length (decimal b) + 2
+unfolding pairLine ascii
+pair-length a b = simp length-append (omega arith)
+
+-- six bytes, a number and the end of the line
+pub total-length : (n : ℕ) → length (totalLine n) ≡ length (decimal n) + 7
+unfolding totalLine ascii
+total-length n = simp length-append (omega arith)
+
+-- the line of a layer is short
+pub layer-most : (t s : ℕ) → t ≤ 16 → s < 65536 → length (pairLine t s) ≤ 9
+layer-most t s h l = omega (arith, pair-length t s, digits-most 1 t (omega arith), digits-most 4 s (omega arith))
+
+-- the line of layer t behind those of the layers below it
+pub append-layer : {b c d : List ℕ} {at i j : ℕ} (table : List ℕ) (t s : ℕ) → s ≡ states table t
+    → Appended b at (layerLines table t) c i → Appended c i (pairLine t s) d j → Appended b at (layerLines table (t + 1)) d j
+unfolding layerLines
+append-layer table t s e p q = rw add-one (append-then p (rw e at q))
+
+-- the lines of a table
+pub table-lines : {b c d e : List ℕ} {i j k : ℕ} (table : List ℕ) (count total : ℕ) → count ≡ frames table + 1 → total ≡ statesBelow table count
+    → Appended b 0 (ascii "layer states\n") c i → Appended c i (layerLines table count) d j → Appended d j (totalLine total) e k
+    → Appended b 0 (tableLines table) e k
+unfolding tableLines
+table-lines table count total e f p q r =
+    let n : count ≡ suc (frames table) = e ∙ add-one (frames table) in
+    append-then p (append-then (rw n at q) (rw (f, n) at r))

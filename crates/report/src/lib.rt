@@ -1,0 +1,132 @@
+// The lines that the folding program prints, made in a buffer.
+use sizes::Sizes;
+use table::head::check_head;
+use table::head::states_of;
+use verdict::Figures;
+use verdict::Verdict;
+ghost use mathlib.Core.Path.{_≡_};
+ghost use mathlib.Core.List.{_++_};
+ghost use Prim.Native.Nat.{_+_, _*_, _≤_};
+ghost use lib.ListN.{length, drop};
+ghost use Rattle.table.specs.Headed.{Headed};
+ghost use Rattle.report.specs.Report.{decimal, pairLine, layerLines, statesBelow, totalLine, tableLines, refusalLine, reported, Appended};
+
+// The length of a buffer into which every report fits.
+pub struct Limits;
+
+impl Limits {
+    pub const ROOM: usize = 256;
+}
+
+// Stores a text from index `at` on. Like the others below it answers the index behind what it stored.
+fn append(out: &mut [u8], at: usize, text: &[u8]) -> usize
+    requires { ⌜ at + length (now text) ≤ length (now out) ⌝ }
+    ensures { λ r. ⌜ Appended (now (out .entry)) at (now (text .entry)) (now (out .exit)) r ⌝ }
+{
+    let count = text.len();
+    for i in 0..count {
+        out[at + i] = text[i];
+    }
+    at + count
+}
+
+// A number in decimal: all digits but the last are those of its tenth part.
+fn append_number(out: &mut [u8], at: usize, number: usize) -> usize
+    requires { ⌜ at + length (decimal number) ≤ length (now out) ⌝ }
+    ensures { λ r. ⌜ Appended (now (out .entry)) at (decimal number) (now (out .exit)) r ⌝ }
+{
+    let last = if number < 10 {
+        at
+    } else {
+        append_number(out, at, number / 10)
+    };
+    out[last] = b'0' + (number % 10) as u8;
+    last + 1
+}
+
+// A line of two numbers.
+fn append_pair(out: &mut [u8], at: usize, first: usize, second: usize) -> usize
+    requires { ⌜ at + length (pairLine first second) ≤ length (now out) ⌝ }
+    ensures { λ r. ⌜ Appended (now (out .entry)) at (pairLine first second) (now (out .exit)) r ⌝ }
+{
+    let mut end = append_number(out, at, first);
+    end = append(out, end, b" ");
+    end = append_number(out, end, second);
+    append(out, end, b"\n")
+}
+
+// The lines of the first `count` layers. A line has at most 9 bytes.
+fn append_layers(out: &mut [u8], at: usize, table: &[u8], count: usize) -> usize
+    requires { ⌜ (count ≤ 17) × (6 + 2 * count ≤ length (now table)) ⌝ }
+    requires { ⌜ at + 9 * count ≤ length (now out) ⌝ }
+    ensures { λ r. ⌜ Appended (now (out .entry)) at (layerLines (now (table .entry)) count) (now (out .exit)) r ⌝ }
+    ensures { λ r. ⌜ r ≤ at + 9 * count ⌝ }
+{
+    let mut end = at;
+    for t in 0..count {
+        end = append_pair(out, end, t, states_of(table, t));
+    }
+    end
+}
+
+// How many states the first `count` layers have.
+fn states_below(table: &[u8], count: usize) -> usize
+    requires { ⌜ (count ≤ 17) × (6 + 2 * count ≤ length (now table)) ⌝ }
+    ensures { λ r. ⌜ (r ≡ statesBelow (now (table .entry)) count) × (r ≤ 65536 * count) ⌝ }
+{
+    let mut states = 0;
+    for t in 0..count {
+        states += states_of(table, t);
+    }
+    states
+}
+
+// The last line of a table.
+fn append_total(out: &mut [u8], at: usize, total: usize) -> usize
+    requires { ⌜ at + length (totalLine total) ≤ length (now out) ⌝ }
+    ensures { λ r. ⌜ Appended (now (out .entry)) at (totalLine total) (now (out .exit)) r ⌝ }
+{
+    let mut end = append(out, at, b"total ");
+    end = append_number(out, end, total);
+    append(out, end, b"\n")
+}
+
+// The lines of a table.
+fn append_table(out: &mut [u8], table: &[u8]) -> usize
+    requires { ⌜ 256 ≤ length (now out) ⌝ }
+    requires { ⌜ Headed (now table) ⌝ }
+    ensures { λ r. ⌜ Appended (now (out .entry)) 0 (tableLines (now (table .entry))) (now (out .exit)) r ⌝ }
+{
+    let count = Sizes::read(table).frames + 1;
+    let mut end = append(out, 0, b"layer states\n");
+    end = append_layers(out, end, table, count);
+    append_total(out, end, states_below(table, count))
+}
+
+// The line of a refusal.
+fn append_refusal(out: &mut [u8], figures: Figures) -> usize
+    requires { ⌜ 256 ≤ length (now out) ⌝ }
+    ensures { λ r. ⌜ Appended (now (out .entry)) 0 (refusalLine (figures .number) (figures .place)) (now (out .exit)) r ⌝ }
+{
+    let end = append(out, 0, b"refused ");
+    append_pair(out, end, figures.number, figures.place)
+}
+
+// Puts the lines of a fold at the start of `out` and answers how many bytes they are. `table` is what the fold wrote.
+pub fn report(figures: Figures, table: &[u8], out: &mut [u8]) -> usize
+    ensures count { λ r. ⌜ r ≡ length (reported figures (now (table .entry)) (length (now (out .entry)))) ⌝ }
+    ensures lines { λ r. ⌜ now (out .exit) ≡ reported figures (now (table .entry)) (length (now (out .entry))) ++ drop r (now (out .entry)) ⌝ }
+    ensures within { λ r. ⌜ r ≤ length (now (out .entry)) ⌝ }
+{
+    if out.len() < Limits::ROOM {
+        return 0;
+    }
+    if figures.number != 0 {
+        return append_refusal(out, figures);
+    }
+    let head = check_head(table);
+    let Verdict::Accepted(_) = head else {
+        return 0;
+    };
+    append_table(out, table)
+}
