@@ -3,21 +3,20 @@ use mathlib.Core.Path.{_≡_, refl, sym, ap, ap₂, _∙_, subst}
 use mathlib.Core.Bool.{Bool, false, _&&_, cond, not}
 use mathlib.Core.Logic.{_⊎_, inl, inr, ⊎-elim}
 use mathlib.Core.List.{List, [], _∷_, _++_, append-assoc}
-use Prim.Native.Nat.{ℕ, zero, suc, _+_, _*_, _-_, _/_, _%_, _^_, _≤_, _<_, max, suc-le-suc}
+use Prim.Native.Nat.{ℕ, zero, suc, _+_, _*_, _-_, _/_, _%_, _^_, _≤_, _<_, max}
 use native.Mathlib.Nat.{mul-comm, mul-suc, mul-le-mul-left, le-of-suc-le-suc, eq-or-lt-of-le}
-use native.Mathlib.Numerals.{add-one}
 use native.Mathlib.Omega.{arith}
 use lib.Arith.{digits-div, digits-mod}
 use lib.Dec.{eqb}
 use lib.ListN.{length, getD, take, drop, replicate, length-append, length-take, length-drop, List·getD-append}
-use lib.Seq.{ext-getD, getD-take, getD-drop, getD-append-add, getD-at}
+use lib.Seq.{ext-getD, getD-take, getD-drop, getD-at}
 use borrow.Author.Tests.{ltb-false}
 use Rattle.sizes.specs.Sizes.{inputs, outputs, frames}
 use Rattle.layered.specs.States.{Words, none, more, outputs as outputsOf}
 use Rattle.circuit.specs.Lists.{grown, listed, bit, packed}
-use Rattle.circuit.specs.Circuit.{gates, leftsAt, rightsAt, literalAt, allInputs, allOutputs, gateSignal, outputSignal, frameOf, inputFrames, laterFrame, latestFrames, looksAhead, inputValues, literalValue, gateValue, signalValues, outputWord, outputWords, checked}
+use Rattle.circuit.specs.Circuit.{gates, leftsAt, rightsAt, literalAt, allInputs, allOutputs, gateSignal, outputSignal, frameOf, inputFrames, laterFrame, latestFrames, looksAhead, inputValues, literalValue, gateValue, signalValues, outputWord, outputWords}
 use Rattle.circuit.specs.Legal.{Legal}
-use Rattle.circuit.specs.Theorems.{historyWords, response, Causal, AcceptedCausal}
+use Rattle.circuit.specs.Theorems.{historyWords, response, AcceptedCausal}
 use Rattle.circuit.proofs.Laws.{length-grown, packed-below, left-below, right-below}
 use Rattle.circuit.proofs.Accepted.{Accepted, accepted}
 

@@ -1,10 +1,10 @@
 -- The circuit format (document 01's chart), its judgement and its simulation. Gates, inputs and outputs are counted from 0 here, and from 1
 -- in document 01; frames are counted from 1 where a latest frame is meant, and from 0 where an output word is.
-use Prim.Native.Nat.{ℕ, zero, suc, _+_, _*_, _-_, _/_, _%_, max}
+use Prim.Native.Nat.{ℕ, suc, _+_, _*_, _-_, _/_, _%_, max}
 use mathlib.Core.List.{List, [], _∷_}
 use mathlib.Core.Bool.{Bool, false, not, _&&_, cond}
 use lib.ListN.{length, getD, take, drop}
-use lib.Dec.{ltb, leb, eqb}
+use lib.Dec.{ltb, eqb}
 use Rattle.words.specs.Words.{wordAt}
 use Rattle.verdict.specs.Figures.{answer, refuse, andThen, refuseFirst, resultAfter}
 use Rattle.verdict.specs.declared.Figures.{Figures}

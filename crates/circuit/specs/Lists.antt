@@ -3,7 +3,6 @@ use Prim.Native.Nat.{ℕ, zero, suc, _+_, _*_, _/_, _%_, _^_}
 use mathlib.Core.List.{List, [], _∷_, _++_}
 use mathlib.Core.Bool.{Bool, cond}
 use lib.Dec.{eqb}
-use lib.ListN.{length}
 
 -- `start`, and then k elements, each given by `next` from the list before it and its own number
 unfoldable pub grown : {A : Type 0} → List A → (List A → ℕ → A) → ℕ → List A

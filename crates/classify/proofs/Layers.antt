@@ -1,7 +1,6 @@
 -- Where the layers' numbers lie: one after the other, all before the end of the half. Assumes nothing.
-use mathlib.Core.Path.{_≡_, refl, sym, ap, _∙_}
 use Prim.Native.Nat.{ℕ, zero, suc, _+_, _*_, _^_, _≤_, _<_}
-use native.Mathlib.Nat.{pow-zero, pow-suc, mul-le-mul-left, le-refl, le-trans, pow-le-pow-right}
+use native.Mathlib.Nat.{pow-zero, pow-suc, mul-le-mul-left, le-refl, pow-le-pow-right}
 use native.Mathlib.Decide.{le-ind}
 use native.Mathlib.Omega.{arith}
 use lib.Pow.{pow-mono}

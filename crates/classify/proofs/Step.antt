@@ -1,11 +1,10 @@
 -- One layer more is known, once the next layer is and its frame's responses are filled. Assumes nothing.
-use mathlib.Core.Path.{_≡_, refl, sym, ap, ap₂, _∙_, subst}
+use mathlib.Core.Path.{_≡_, sym, ap, ap₂, _∙_, subst}
 use mathlib.Core.Bool.{Bool, true, false, cond}
 use mathlib.Core.Logic.{⊎-elim}
 use mathlib.Core.List.{List, _++_, append-assoc}
-use Prim.Native.Nat.{ℕ, suc, _+_, _*_, _-_, _^_, _≤_, _<_}
+use Prim.Native.Nat.{ℕ, suc, _+_, _*_, _^_, _≤_, _<_}
 use native.Mathlib.Nat.{pow-suc, mul-suc, mul-le-mul-left, eq-or-lt-of-le}
-use native.Mathlib.Numerals.{add-one}
 use native.Mathlib.Omega.{arith}
 use lib.Dec.{eqb}
 use lib.Arith.{lt-one}
@@ -15,7 +14,7 @@ use lib.Seq.{getD-take, getD-append-add, take-at}
 use borrow.Author.Tests.{eqb-true, eqb-false}
 use Rattle.sizes.specs.Sizes.{inputs, frames}
 use Rattle.layered.specs.Search.{tabulate}
-use Rattle.layered.specs.States.{number, count}
+use Rattle.layered.specs.States.{number}
 use Rattle.layered.proofs.Lists.{tabulate-length, tabulate-at}
 use Rattle.layered.proofs.Rows.{pow-mul}
 use Rattle.layered.proofs.States.{number-below, count-last}
@@ -28,7 +27,7 @@ use Rattle.rows.proofs.Laws.{numberedTo, numbered-read, behind}
 use Rattle.rows.proofs.Numbers.{row-number, row-count}
 use Rattle.responses.specs.Responses.{filled}
 use Rattle.classify.specs.Classified.{layerAt, stateOf, stateCount, Known}
-use Rattle.classify.proofs.Layers.{layer-below, layer-apart, layer-in, power-le, two-words, power-fits}
+use Rattle.classify.proofs.Layers.{layer-below, layer-apart, layer-in, power-le, two-words}
 
 -- the layer t of the circuit b
 pub record LayerOf (b : List ℕ) (t : ℕ) (layer : Layer) : Type 0 where

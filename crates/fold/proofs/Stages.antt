@@ -1,8 +1,7 @@
 -- The last stages of folding: room for the bytes, the scratch cleared, and the promises of each outcome. Assumes nothing.
-use mathlib.Core.Path.{_≡_, refl, sym, ap, ap₂, _∙_, subst}
-use mathlib.Core.Logic.{⊎-elim}
+use mathlib.Core.Path.{_≡_, sym, ap, ap₂, _∙_}
 use mathlib.Core.List.{List, _++_}
-use Prim.Native.Nat.{ℕ, _+_, _*_, _^_, _≤_, _<_}
+use Prim.Native.Nat.{ℕ, _*_, _≤_, _<_}
 use native.Mathlib.Omega.{arith}
 use native.Mathlib.Decide.{decLt}
 use lib.ListN.{length, take, drop, replicate, length-append, length-drop, length-take}
@@ -10,9 +9,8 @@ use lib.Seq.{drop-at}
 use borrow.Author.Tests.{lt-ltb, le-ltb}
 use Rattle.words.specs.Words.{stored, wordBytes}
 use Rattle.words.proofs.Laws.{allBytes-length}
-use Rattle.verdict.specs.Figures.{answer, figures, resultAfter}
+use Rattle.verdict.specs.Figures.{answer, resultAfter}
 use Rattle.verdict.specs.declared.Figures.{Figures}
-use Rattle.sizes.specs.Sizes.{inputs, outputs, frames}
 use Rattle.circuit.specs.Circuit.{checked}
 use Rattle.emit.specs.Emitted.{allWords}
 use Rattle.emit.proofs.Laws.{words-are}

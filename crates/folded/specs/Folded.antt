@@ -1,5 +1,5 @@
 -- What folding answers and leaves: the table of the circuit's response, as bytes.
-use Prim.Native.Nat.{ℕ, _+_, _*_, _^_}
+use Prim.Native.Nat.{ℕ, _*_, _^_}
 use mathlib.Core.Bool.{_||_}
 use mathlib.Core.List.{List, _++_}
 use lib.Dec.{ltb, eqb}

@@ -1,6 +1,6 @@
 -- Demands 2 and 3, of the bytes. b is a circuit; t are the bytes that folding it wrote. The table is the machine that the bytes are, with
 -- start 0; its states are those that it reaches when fed; the outputs of a circuit are what its simulation gives.
-use Prim.Native.Nat.{ℕ, suc, _+_, _*_, _-_, _^_, _≤_, _<_}
+use Prim.Native.Nat.{ℕ, _+_, _*_, _-_, _^_, _≤_, _<_}
 use mathlib.Core.Path.{_≡_}
 use mathlib.Core.Logic.{_↔_}
 use mathlib.Core.List.{List, [], _∷_, _++_}

@@ -1,18 +1,18 @@
 -- Laws of rows: how a search finds the first history with a row, and how numbers grow history by history. Assumes nothing.
 use mathlib.Core.Path.{_≡_, refl, sym, ap, ap₂, _∙_, subst, fun-ext}
 use mathlib.Core.Bool.{Bool, true, false, cond, _&&_}
-use mathlib.Core.Logic.{_⊎_, inl, inr, ⊎-elim}
+use mathlib.Core.Logic.{⊎-elim}
 use mathlib.Core.List.{List, [], _∷_, _++_, append-assoc}
 use Prim.Native.Nat.{ℕ, zero, suc, _+_, _*_, _-_, _≤_, _<_, zero-le, suc-le-suc}
-use native.Mathlib.Nat.{le-antisymm, eq-or-lt-of-le}
+use native.Mathlib.Nat.{eq-or-lt-of-le}
 use native.Mathlib.Numerals.{add-one}
 use native.Mathlib.Omega.{arith}
 use lib.Arith.{digits-lt}
 use lib.Dec.{T, eqb, eqb→eq}
 use lib.ListN.{length, getD, take, drop, set, length-append, length-take, length-drop, take-append-drop, List·getD-append}
 use lib.Seq.{getD-drop, getD-append-add, drop-cons, set-at}
-use Rattle.layered.specs.Search.{every, least, tally, join, tabulate}
-use Rattle.layered.proofs.Search.{case, both, eq-eqb, below-suc, every-all, all-every, tally-more, tally-none, tally-at-most, least-le, least-finds, search-below}
+use Rattle.layered.specs.Search.{least, tally, join, tabulate}
+use Rattle.layered.proofs.Search.{both, eq-eqb, every-all, all-every, tally-more, tally-none, tally-at-most, least-le, least-finds, search-below}
 use Rattle.layered.proofs.Lists.{tabulate-length, tabulate-at}
 use Rattle.rows.specs.Rows.{equalRows, firstWith, isFirst, rowNumber, rowCount, outIn, nextIn, Placed}
 use Rattle.rows.specs.declared.Layer.{Layer}

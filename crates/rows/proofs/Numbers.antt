@@ -1,11 +1,11 @@
 -- Numbers by rows are the state numbers of a response, where the entries are the response's outputs and next states. Assumes nothing.
 use mathlib.Core.Path.{_≡_, refl, sym, ap, ap₂, _∙_}
-use mathlib.Core.Bool.{Bool, true, _&&_}
-use Prim.Native.Nat.{ℕ, zero, suc, _+_, _*_, _^_, _≤_, _<_}
+use mathlib.Core.Bool.{Bool, _&&_}
+use Prim.Native.Nat.{ℕ, zero, suc, _+_, _*_, _^_, _<_}
 use native.Mathlib.Nat.{le-refl, le-suc, le-trans}
 use native.Mathlib.Omega.{arith}
 use lib.Dec.{eqb}
-use Rattle.layered.specs.Search.{every, least, tally}
+use Rattle.layered.specs.Search.{every, tally}
 use Rattle.layered.specs.States.{smallest, first, count, number, same-row}
 use Rattle.layered.proofs.Search.{least-cong, tally-cong}
 use Rattle.layered.proofs.States.{digit-below, smallest-le}

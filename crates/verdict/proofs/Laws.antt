@@ -8,7 +8,7 @@ use native.Mathlib.Omega.{arith}
 use native.Mathlib.Decide.{decLt}
 use lib.Dec.{eqb}
 use lib.ListN.{drop}
-use borrow.Author.Tests.{eqb-true, eqb-false, ne-eqb}
+use borrow.Author.Tests.{eqb-true, eqb-false}
 use Rattle.verdict.specs.Figures.{answer, refusalFigures, figures, pick, refuse, andThen, refuseFirst, firstRefusal, resultAfter}
 use Rattle.verdict.specs.declared.Figures.{Figures}
 use Rattle.verdict.specs.declared.Verdict.{Verdict}

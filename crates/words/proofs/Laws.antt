@@ -1,5 +1,5 @@
 -- Laws of numbers in byte lists, over the width. Assumes nothing.
-use mathlib.Core.Path.{_≡_, refl, sym, ap, ap₂, _∙_, subst}
+use mathlib.Core.Path.{_≡_, refl, sym, ap, ap₂, _∙_}
 use mathlib.Core.List.{List, [], _∷_, _++_, append-assoc, append-nil}
 use Prim.Native.Nat.{ℕ, zero, suc, _+_, _*_, _/_, _%_, _^_, _≤_, _<_}
 use native.Mathlib.Nat.{mul-zero, mul-suc, pow-zero, pow-suc, div-lt-iff-lt-mul, div-add-mod', mul-add}
@@ -9,7 +9,7 @@ use lib.Arith.{lt-one}
 use lib.Dec.{lit<}
 use lib.ListN.{length, getD, take, drop, length-append, length-take, length-drop, take-append-drop}
 use lib.Seq.{sets, sets-eq, getD-drop, getD-take, getD-append-add, drop-drop, drop-append-add, take-at, drop-at}
-use Rattle.words.specs.Words.{numberAt, bytesOf, allBytes, Fit, none, more, stored, wordAt, wordBytes}
+use Rattle.words.specs.Words.{numberAt, bytesOf, allBytes, Fit, none, more, stored, wordAt}
 
 -- ---- one number
 

@@ -1,5 +1,4 @@
 -- Numbers in byte lists, low byte first, stated once over the width in bytes. Document 01's file words are of width 2.
-use mathlib.Core.Path.{_≡_}
 use mathlib.Core.List.{List, [], _∷_, _++_}
 use Prim.Native.Nat.{ℕ, zero, suc, _+_, _*_, _/_, _%_, _^_, _<_}
 use lib.ListN.{length, getD, take, drop}

@@ -1,13 +1,13 @@
 -- `circuit::check` meets its contract: each stage is the definition's, and an accepted stage gives the next one what it requires.
 -- Assumes nothing.
-use mathlib.Core.Path.{_≡_, sym, ap, _∙_}
+use mathlib.Core.Path.{_≡_, ap, _∙_}
 use mathlib.Core.List.{List}
 use Prim.Native.Nat.{ℕ, _+_, _*_}
 use native.Mathlib.Omega.{arith}
 use denote.Ref.{now}
 use Rattle.verdict.specs.Figures.{figures}
 use Rattle.verdict.proofs.Laws.{stop, go-on, accepts}
-use Rattle.circuit.specs.Circuit.{leftsAt, rightsAt, headChecked, literalsChecked, checked}
+use Rattle.circuit.specs.Circuit.{leftsAt, rightsAt, literalsChecked, checked}
 use Rattle.circuit.specs.Legal.{Headed}
 use Rattle.circuit.proofs.Accepted.{headed, legal}
 use Rattle.circuit.proofs.Causal.{causal}

@@ -1,10 +1,7 @@
 -- `circuit::check_head` meets its contract: each return is a stage of the definition.
 -- Assumes nothing.
-use mathlib.Core.Path.{_≡_, sym, _∙_}
-use mathlib.Core.Bool.{true, false}
-use mathlib.Core.List.{List}
+use mathlib.Core.Path.{sym, _∙_}
 use native.Mathlib.Omega.{arith}
-use denote.Ref.{now}
 use Rattle.circuit.proofs.Stages.{head-short, head-sizes, product-small, head-gates, head-length, head-whole}
 use borrow.Author.Needs.{needs}
 use Rattle.circuit.proofs.check_head.Statement.{statement}

@@ -1,9 +1,9 @@
 -- `circuit::input_values` meets its contract. The invariant: the elements so far are those of the definition.
 -- Assumes nothing.
-use mathlib.Core.Path.{_≡_, refl, sym, ap, _∙_}
-use mathlib.Core.List.{List, _∷_, []}
-use mathlib.Core.Bool.{Bool, false}
-use Prim.Native.Nat.{ℕ, _+_, _*_, _-_, _/_, _%_, _≤_, _<_}
+use mathlib.Core.Path.{_≡_, refl}
+use mathlib.Core.List.{_∷_, []}
+use mathlib.Core.Bool.{false}
+use Prim.Native.Nat.{_+_, _-_, _/_, _%_, _≤_}
 use native.Mathlib.Nat.{div-le-self, mod-lt, div-lt-iff-lt-mul}
 use native.Mathlib.Omega.{arith}
 use denote.Ref.{now}

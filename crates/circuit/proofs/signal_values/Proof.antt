@@ -1,12 +1,12 @@
 -- `circuit::signal_values` meets its contract. The invariant: the values of the signals before gate g are in the array.
 -- Assumes nothing.
-use mathlib.Core.Path.{_≡_, refl, sym, ap, _∙_}
+use mathlib.Core.Path.{_≡_, sym, _∙_}
 use mathlib.Core.List.{List}
 use Prim.Native.Nat.{ℕ, _+_, _*_, _-_, _/_, _≤_, _<_}
 use native.Mathlib.Omega.{arith}
 use borrow.Author.Needs.{needs}
 use denote.Ref.{now}
-use lib.ListN.{length, take, set, length-set}
+use lib.ListN.{length, take, length-set}
 use Rattle.circuit.specs.Circuit.{gates, leftsAt, rightsAt, literalAt, inputValues, gateValue, signalValues}
 use Rattle.circuit.proofs.Laws.{left-is, right-is, left-below, right-below, inputs-fit, signals-none, signals-all, values-more}
 use Rattle.circuit.proofs.signal_values.Statement.{statement}

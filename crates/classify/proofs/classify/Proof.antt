@@ -3,7 +3,7 @@
 use mathlib.Core.Path.{_≡_, refl, sym, ap, _∙_}
 use mathlib.Core.Logic.{⊎-elim}
 use mathlib.Core.List.{List}
-use Prim.Native.Nat.{ℕ, suc, _+_, _*_, _-_, _^_, _≤_, _<_}
+use Prim.Native.Nat.{ℕ, suc, _-_, _^_, _≤_, _<_}
 use native.Mathlib.Nat.{eq-or-lt-of-le}
 use native.Mathlib.Omega.{arith}
 use denote.Ref.{now}
@@ -15,7 +15,6 @@ use mir.Syntax.{w16}
 use Rattle.layered.proofs.States.{count-last}
 use Rattle.layered.proofs.Theorems.{rows}
 use Rattle.circuit.specs.Legal.{Headed}
-use Rattle.circuit.specs.Circuit.{allInputs}
 use Rattle.circuit.specs.Theorems.{response}
 use Rattle.classify.specs.Classified.{stateCount, Known}
 use Rattle.classify.proofs.Layers.{two-words}

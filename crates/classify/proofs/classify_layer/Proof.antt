@@ -1,18 +1,16 @@
 -- `classify::classify_layer` meets its contract: the responses are filled behind the half, and the layer is numbered by its rows.
 -- Assumes nothing.
-use mathlib.Core.Path.{_≡_, refl, sym, ap, ap₂, _∙_, subst}
-use mathlib.Core.List.{List, _++_}
-use Prim.Native.Nat.{ℕ, suc, _+_, _*_, _-_, _^_, _≤_, _<_}
+use mathlib.Core.Path.{_≡_, sym, ap, ap₂, _∙_, subst}
+use mathlib.Core.List.{List}
+use Prim.Native.Nat.{ℕ, _+_, _*_, _-_, _^_, _≤_}
 use native.Mathlib.Nat.{pow-zero, pow-suc, one-mul, le-of-lt}
 use native.Mathlib.Numerals.{add-one}
 use native.Mathlib.Omega.{arith}
 use denote.Ref.{now}
 use lib.Dec.{eqb}
 use lib.ListN.{length, take, drop, length-take, length-drop}
-use borrow.Rule.Slice.PartMut.{putMid, same-len-mid, midOf, postOf}
+use borrow.Rule.Slice.PartMut.{putMid, same-len-mid, postOf}
 use Rattle.sizes.specs.Sizes.{inputs, frames}
-use Rattle.circuit.specs.declared.Head.{Head}
-use Rattle.rows.specs.Rows.{Placed}
 use Rattle.rows.specs.declared.Layer.{Layer}
 use Rattle.responses.specs.Responses.{filled}
 use Rattle.classify.specs.Classified.{layerAt, Known}

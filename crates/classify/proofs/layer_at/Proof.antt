@@ -1,6 +1,6 @@
 -- `classify::layer_at` meets its contract. The invariant: the sum so far is where the layer u begins.
 -- Assumes nothing.
-use mathlib.Core.Path.{_≡_, refl, ap₂, ap, sym, _∙_}
+use mathlib.Core.Path.{_≡_, refl, ap₂, ap, _∙_}
 use Prim.Native.Nat.{ℕ, _+_, _*_, _-_, _^_, _≤_}
 use native.Mathlib.Nat.{mul-le-mul-left, le-trans, le-of-lt}
 use native.Mathlib.Numerals.{add-one}

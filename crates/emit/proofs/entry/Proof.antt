@@ -1,17 +1,15 @@
 -- `emit::entry` meets its contract: an output is the response again, a next state is known, or 0 in the last layer.
 -- Assumes nothing.
-use mathlib.Core.Path.{_≡_, refl, sym, ap, ap₂, _∙_}
-use mathlib.Core.Bool.{true, false, cond}
-use mathlib.Core.List.{List}
-use Prim.Native.Nat.{ℕ, suc, _+_, _*_, _^_, _≤_, _<_}
+use mathlib.Core.Path.{_≡_, sym, ap, ap₂, _∙_}
+use Prim.Native.Nat.{ℕ, suc, _+_, _^_, _<_}
 use native.Mathlib.Numerals.{add-one}
 use native.Mathlib.Omega.{arith}
 use borrow.Author.Tests.{not-true, not-false}
 use denote.Ref.{now}
-use lib.ListN.{length, getD}
+use lib.ListN.{getD}
 use Rattle.sizes.specs.Sizes.{inputs, frames}
 use Rattle.circuit.specs.Theorems.{response}
-use Rattle.classify.specs.Classified.{layerAt, stateOf, Known}
+use Rattle.classify.specs.Classified.{layerAt, Known}
 use Rattle.classify.proofs.Layers.{layer-in, two-words, power-fits}
 use Rattle.classify.proofs.Step.{half-is, bits-fit}
 use Rattle.emit.specs.Emitted.{entryOf}

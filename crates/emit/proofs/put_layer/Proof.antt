@@ -1,12 +1,11 @@
 -- `emit::put_layer` meets its contract. The invariant: the rows of the smallest histories so far are stored, and `fresh` is how many there are.
 -- Assumes nothing.
-use mathlib.Core.Path.{_≡_, refl, sym, ap, ap₂, _∙_}
+use mathlib.Core.Path.{_≡_, refl, sym, ap, _∙_}
 use mathlib.Core.Bool.{Bool}
 use mathlib.Core.Logic.{⊎-elim}
-use mathlib.Core.List.{List, _++_}
-use Prim.Native.Nat.{ℕ, suc, _+_, _*_, _-_, _^_, _≤_, _<_}
+use mathlib.Core.List.{List}
+use Prim.Native.Nat.{ℕ, _+_, _*_, _-_, _^_, _≤_, _<_}
 use native.Mathlib.Nat.{le-of-lt}
-use native.Mathlib.Numerals.{add-one}
 use native.Mathlib.Omega.{arith}
 use denote.Ref.{now}
 use lib.Dec.{T}
@@ -16,10 +15,10 @@ use Rattle.words.proofs.Laws.{stored-none, stored-length}
 use Rattle.sizes.specs.Sizes.{inputs, frames}
 use Rattle.layered.specs.Search.{tally, join}
 use Rattle.layered.specs.States.{first}
-use Rattle.layered.proofs.Search.{tally-more, tally-none, tally-lt, tally-at-most}
+use Rattle.layered.proofs.Search.{tally-at-most}
 use Rattle.layered.proofs.Theorems.{rows}
 use Rattle.circuit.specs.Theorems.{response}
-use Rattle.classify.specs.Classified.{layerAt, stateOf, stateCount, Known}
+use Rattle.classify.specs.Classified.{layerAt, stateOf, Known}
 use Rattle.classify.proofs.Layers.{layer-in, two-words, power-fits}
 use Rattle.classify.proofs.Step.{half-is, bits-fit, few-histories}
 use Rattle.emit.specs.Emitted.{layerWords}

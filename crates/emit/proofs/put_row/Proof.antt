@@ -3,17 +3,16 @@
 use mathlib.Core.Path.{_≡_, refl, sym, ap, _∙_}
 use mathlib.Core.List.{List}
 use Prim.Native.Nat.{ℕ, suc, _+_, _*_, _-_, _^_, _≤_, _<_}
-use native.Mathlib.Nat.{pow-zero, pow-suc, one-mul}
 use native.Mathlib.Omega.{arith}
 use denote.Ref.{now}
 use lib.ListN.{length}
 use Rattle.words.specs.Words.{stored}
 use Rattle.words.proofs.Laws.{stored-none, stored-length}
-use Rattle.sizes.specs.Sizes.{inputs, frames}
+use Rattle.sizes.specs.Sizes.{inputs}
 use Rattle.layered.specs.Search.{tabulate, join}
 use Rattle.layered.proofs.Lists.{tabulate-length}
 use Rattle.layered.proofs.States.{digit-below}
-use Rattle.classify.proofs.Layers.{power-le, two-words, power-fits}
+use Rattle.classify.proofs.Layers.{power-fits}
 use Rattle.classify.proofs.Step.{bits-fit}
 use Rattle.emit.specs.Emitted.{entryOf, rowWords}
 use Rattle.emit.proofs.Laws.{word-more, fan-is}

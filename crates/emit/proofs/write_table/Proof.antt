@@ -1,17 +1,16 @@
 -- `emit::write_table` meets its contract: head, counts, outputs and next states are stored one behind the other.
 -- Assumes nothing.
-use mathlib.Core.Path.{_≡_, refl, sym, ap, ap₂, _∙_}
-use mathlib.Core.Bool.{true, false}
-use mathlib.Core.List.{List, [], _∷_, _++_}
-use Prim.Native.Nat.{ℕ, _+_, _*_, _≤_}
+use mathlib.Core.Path.{_≡_, sym, ap, ap₂, _∙_}
+use mathlib.Core.Bool.{false}
+use mathlib.Core.List.{List, [], _∷_}
+use Prim.Native.Nat.{ℕ, _+_, _*_}
 use native.Mathlib.Omega.{arith}
 use denote.Ref.{now}
-use lib.ListN.{length, take}
+use lib.ListN.{length}
 use Rattle.words.specs.Words.{stored}
-use Rattle.words.proofs.Laws.{stored-length}
 use Rattle.sizes.specs.Sizes.{inputs, outputs, frames}
-use Rattle.emit.specs.Emitted.{arrayWords, headWords, allWords}
-use Rattle.emit.proofs.Laws.{head-length, all-length, head-stored, outputs-stored, nexts-stored}
+use Rattle.emit.specs.Emitted.{arrayWords, headWords}
+use Rattle.emit.proofs.Laws.{all-length, head-stored, outputs-stored, nexts-stored}
 use borrow.Author.Needs.{needs}
 use Rattle.emit.proofs.write_table.Statement.{statement}
 use Rattle.emit.proofs.write_table.Tie as tie

@@ -1,16 +1,14 @@
 -- `fold::bytes_needed` meets its contract. The invariant: the sum of the counts of the layers so far.
 -- Assumes nothing.
-use mathlib.Core.Path.{_≡_, refl, sym, ap, ap₂, _∙_}
-use mathlib.Core.List.{List}
-use Prim.Native.Nat.{ℕ, suc, _+_, _*_, _-_, _^_, _≤_, _<_}
+use mathlib.Core.Path.{_≡_, refl, ap, ap₂, _∙_}
+use Prim.Native.Nat.{ℕ, _+_, _*_, _-_, _^_, _≤_, _<_}
 use native.Mathlib.Nat.{le-mul-of-pos-right}
 use native.Mathlib.Numerals.{add-one}
 use native.Mathlib.Omega.{arith}
 use denote.Ref.{now}
-use lib.ListN.{length, getD}
+use lib.ListN.{getD}
 use Rattle.sizes.specs.Sizes.{inputs, frames as framesOf}
 use Rattle.layered.proofs.Lists.{total}
-use Rattle.circuit.specs.Legal.{Headed}
 use Rattle.circuit.specs.Theorems.{response}
 use Rattle.classify.specs.Classified.{stateCount}
 use Rattle.classify.proofs.Layers.{two-words, power-fits}

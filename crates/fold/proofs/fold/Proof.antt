@@ -5,7 +5,7 @@ use mathlib.Core.List.{List}
 use Prim.Native.Nat.{ℕ, _*_, _^_}
 use native.Mathlib.Omega.{arith}
 use denote.Ref.{now}
-use lib.ListN.{length, length-take}
+use lib.ListN.{length-take}
 use Rattle.verdict.specs.Figures.{answer, figures}
 use Rattle.verdict.proofs.Laws.{accepts}
 use Rattle.circuit.specs.Circuit.{allInputs, checked}

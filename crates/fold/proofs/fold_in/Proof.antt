@@ -1,9 +1,8 @@
 -- `fold::fold_in` meets its contract: the histories are classified, and the bytes written where there is room.
 -- Assumes nothing.
-use mathlib.Core.Path.{_≡_, _∙_}
+use mathlib.Core.Path.{_∙_}
 use native.Mathlib.Omega.{arith}
 use denote.Ref.{now}
-use lib.ListN.{length}
 use Rattle.fold.proofs.Stages.{words-room, too-short, enough}
 use borrow.Author.Needs.{needs}
 use Rattle.fold.proofs.fold_in.Statement.{statement}

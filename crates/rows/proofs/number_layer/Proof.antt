@@ -1,15 +1,14 @@
 -- `rows::number_layer` meets its contract. The invariant: the numbers of the histories so far are stored, and `fresh` is how many there are.
 -- Assumes nothing.
-use mathlib.Core.Path.{_≡_, refl, sym, ap, ap₂, _∙_}
+use mathlib.Core.Path.{_≡_, refl, sym, ap, _∙_}
 use mathlib.Core.Logic.{⊎-elim}
 use mathlib.Core.List.{List}
-use Prim.Native.Nat.{ℕ, suc, _+_, _-_, _≤_, _<_}
-use native.Mathlib.Numerals.{add-one}
+use Prim.Native.Nat.{ℕ, _-_, _≤_}
 use native.Mathlib.Omega.{arith}
 use denote.Ref.{now}
-use lib.ListN.{length, getD, length-set}
+use lib.ListN.{length}
 use Rattle.layered.specs.Search.{tally}
-use Rattle.rows.specs.Rows.{Placed, outIn, nextIn, firstWith, rowNumber, rowCount, isFirst, numbered}
+use Rattle.rows.specs.Rows.{outIn, nextIn, rowCount, numbered}
 use Rattle.rows.specs.declared.Layer.{Layer}
 use Rattle.rows.proofs.Laws.{numberedTo, numbered-length, numbered-none, placed-same, count-most, turn-later, turn-new}
 use Rattle.rows.proofs.number_layer.Statement.{statement}

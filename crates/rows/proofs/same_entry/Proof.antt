@@ -1,6 +1,6 @@
 -- `rows::same_entry` meets its contract.
 -- Assumes nothing.
-use mathlib.Core.Path.{refl, ap₂}
+use mathlib.Core.Path.{ap₂}
 use mathlib.Core.Bool.{Bool}
 use borrow.Author.Tests.{eq-eqb, ne-eqb}
 use lib.Dec.{eqb}

@@ -1,16 +1,15 @@
 -- `rows::seek` meets its contract. The invariants: no earlier history has the row of h; the entries of g and h for the words so far are the same.
 -- Assumes nothing.
-use mathlib.Core.Path.{_≡_, refl, sym, ap, _∙_, subst}
+use mathlib.Core.Path.{_≡_, refl, sym, subst}
 use mathlib.Core.List.{List}
 use mathlib.Core.Bool.{Bool, true, false}
 use Prim.Native.Nat.{ℕ, _+_, _*_, _-_, _≤_, _<_}
 use native.Mathlib.Numerals.{add-one}
 use native.Mathlib.Omega.{arith}
 use lib.Dec.{T}
-use denote.Ref.{now}
 use borrow.Author.Tests.{not-true, not-false}
 use Rattle.layered.proofs.Search.{below-suc}
-use Rattle.rows.specs.Rows.{Placed, outIn, nextIn, equalRows}
+use Rattle.rows.specs.Rows.{outIn, nextIn, equalRows}
 use Rattle.rows.specs.declared.Layer.{Layer}
 use Rattle.rows.proofs.Laws.{Same, entry-in, rows-equal, rows-differ, found, not-found}
 use Rattle.rows.proofs.seek.Statement.{statement}

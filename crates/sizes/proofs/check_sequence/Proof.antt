@@ -1,6 +1,6 @@
 -- `sizes::check_sequence` meets its contract.
 -- Assumes nothing.
-use mathlib.Core.Path.{_≡_, refl}
+use mathlib.Core.Path.{refl}
 use borrow.Author.Tests.{lt-ltb, le-ltb, eq-eqb, ne-eqb}
 use Rattle.verdict.proofs.Laws.{stop, go-on}
 use Rattle.sizes.specs.Sizes.{sequenceChecked}

@@ -1,6 +1,6 @@
 -- `tff::tff_step` meets its contract.
 -- Assumes nothing.
-use mathlib.Core.Path.{_≡_, ap, _∙_}
+use mathlib.Core.Path.{ap, _∙_}
 use denote.Ref.{now}
 use Rattle.table.specs.declared.StepFigures.{StepFigures}
 use Rattle.tff.specs.Answer.{stepAnswered}
