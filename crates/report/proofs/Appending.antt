@@ -37,7 +37,7 @@ append-then {b} {xs} {c} {at} {i} {ys} p q = record {
 pub append-nothing : (b : List ℕ) (at : ℕ) → at ≤ length b → Appended b at [] b at
 append-nothing b at h = record { stored = refl; ends = omega arith; within = h }
 
-append-byte : (b : List ℕ) (at x : ℕ) → at < length b → Appended b at (x ∷ []) (set b at x) (at + 1)
+pub append-byte : (b : List ℕ) (at x : ℕ) → at < length b → Appended b at (x ∷ []) (set b at x) (at + 1)
 append-byte b at x h = record { stored = refl; ends = refl; within = omega arith }
 
 -- byte i of the text s

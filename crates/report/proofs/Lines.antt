@@ -1,29 +1,40 @@
--- Laws of lines: how long they are, and the next one of a layer. Assumes nothing.
+-- Laws of lines. Assumes nothing.
 use mathlib.Core.Path.{_≡_, _∙_}
 use mathlib.Core.List.{List}
-use Prim.Native.Nat.{ℕ, suc, _+_, _≤_, _<_}
+use Prim.Native.Nat.{ℕ, suc, _+_, _^_, _≤_, _<_}
+use Prim.Native.Char.{code}
 use native.Mathlib.Numerals.{add-one}
 use native.Mathlib.Omega.{arith}
 use lib.ListN.{length, length-append}
 use Rattle.sizes.specs.Sizes.{frames}
 use Rattle.table.specs.Table.{states}
-use Rattle.report.specs.Report.{ascii, decimal, pairLine, layerLines, statesBelow, totalLine, tableLines, Appended}
+use Rattle.report.specs.Report.{ascii, decimal, field, pairLine, layerLines, statesBelow, totalLine, tableLines, Appended}
 use Rattle.report.proofs.Decimal.{digits-most}
 use Rattle.report.proofs.Appending.{append-then}
 
--- two numbers, a space and the end of the line
-pub pair-length : (a b : ℕ) → length (pairLine a b) ≡ length (decimal a) + length (decimal b) + 2
-unfolding pairLine ascii
-pair-length a b = simp length-append (omega arith)
+-- ---- their length
 
--- six bytes, a number and the end of the line
-pub total-length : (n : ℕ) → length (totalLine n) ≡ length (decimal n) + 7
+pub field-length : (n mark : ℕ) → length (field n mark) ≡ length (decimal n) + 1
+unfolding field
+field-length n mark = simp length-append
+
+pub pair-length : (a b : ℕ) → length (pairLine a b) ≡ length (field a (code " ")) + length (field b (code "\n"))
+unfolding pairLine
+pair-length a b = simp length-append
+
+pub total-length : (n : ℕ) → length (totalLine n) ≡ 6 + length (field n (code "\n"))
 unfolding totalLine ascii
-total-length n = simp length-append (omega arith)
+total-length n = simp length-append
 
--- the line of a layer is short
+-- a number below 10^(k + 1), and the byte that ends it
+pub field-most : (k n mark : ℕ) → n < 10 ^ suc k → length (field n mark) ≤ k + 2
+field-most k n mark h = omega (arith, field-length n mark, digits-most k n h)
+
+-- the line of a layer
 pub layer-most : (t s : ℕ) → t ≤ 16 → s < 65536 → length (pairLine t s) ≤ 9
-layer-most t s h l = omega (arith, pair-length t s, digits-most 1 t (omega arith), digits-most 4 s (omega arith))
+layer-most t s h l = omega (arith, pair-length t s, field-most 1 t (code " ") (omega arith), field-most 4 s (code "\n") (omega arith))
+
+-- ---- one after another
 
 -- the line of layer t behind those of the layers below it
 pub append-layer : {b c d : List ℕ} {at i j : ℕ} (table : List ℕ) (t s : ℕ) → s ≡ states table t

@@ -1,4 +1,4 @@
--- Laws of reports: which of their cases it is, and what the buffer then holds. Assumes nothing.
+-- Laws of reports: which case of the definition it is, and what the buffer then holds. Assumes nothing.
 use mathlib.Core.Path.{_≡_, refl, ap, _∙_}
 use mathlib.Core.List.{List, [], _++_}
 use Prim.Native.Nat.{ℕ, _≤_, _<_, zero-le}

@@ -20,36 +20,40 @@ unfoldable pub ascii : String → List ℕ
 ascii text.[] = []
 ascii (text._∷_ c s) = code c ∷ ascii s
 
--- the last k digits of n in decimal, without leading zeros: those of n / 10, where n has more than one, and then the last
+-- the decimal digits of n, at most the last k, without leading zeros: those of n / 10, where n has more than one, and then the last
 unfoldable pub digits : (k n : ℕ) → List ℕ
 digits zero n = []
 digits (suc k) n =
     let front = digits k (n / 10) in
     pick (ltb n 10) [] front ++ ((48 + n % 10) ∷ [])
 
--- a number in decimal, all its digits: n + 1 of them are enough
+-- a number in decimal: it has no more than n + 1 digits
 unfoldable pub decimal : ℕ → List ℕ
 decimal n = digits (suc n) n
+
+-- a number and the byte that ends it
+unfoldable pub field : (n mark : ℕ) → List ℕ
+field n mark = decimal n ++ (mark ∷ [])
 
 -- ---- lines
 
 -- a line of two numbers
 unfoldable pub pairLine : (a b : ℕ) → List ℕ
-pairLine a b = decimal a ++ (ascii " " ++ (decimal b ++ ascii "\n"))
+pairLine a b = field a (code " ") ++ field b (code "\n")
 
--- the lines of the layers below t of a table: layer and count of states
+-- for each layer below t of a table, a line of the layer and its count of states
 unfoldable pub layerLines : (table : List ℕ) (t : ℕ) → List ℕ
 layerLines b zero = []
 layerLines b (suc t) = layerLines b t ++ pairLine t (states b t)
 
--- the states of the layers below t, all counted
+-- how many states the layers below t have together
 unfoldable pub statesBelow : (table : List ℕ) (t : ℕ) → ℕ
 statesBelow b zero = 0
 statesBelow b (suc t) = statesBelow b t + states b t
 
--- the last line
+-- the last line of a table
 unfoldable pub totalLine : (total : ℕ) → List ℕ
-totalLine total = ascii "total " ++ (decimal total ++ ascii "\n")
+totalLine total = ascii "total " ++ field total (code "\n")
 
 -- the lines of a table: its layers are 0 to T
 unfoldable pub tableLines : (table : List ℕ) → List ℕ
@@ -59,20 +63,20 @@ tableLines b = ascii "layer states\n" ++ (layerLines b (suc (frames b)) ++ total
 unfoldable pub refusalLine : (number place : ℕ) → List ℕ
 refusalLine number place = ascii "refused " ++ pairLine number place
 
--- the lines of a fold with these figures, whose table is b; none where the head of b is not accepted
+-- the lines of a fold that answered f and, where it accepted, wrote the table b; none where the head of that is refused
 unfoldable pub reportOf : Figures → (table : List ℕ) → List ℕ
 reportOf f b =
     pick (eqb (f .number) 0)
     (pick (eqb (headChecked b .number) 0) (tableLines b) [])
     (refusalLine (f .number) (f .place))
 
--- what of them is put into a buffer of so many bytes: none where these are below 256, which are enough for all
+-- those that go into a buffer of `room` bytes: none where it is shorter than 256 bytes, in which there is room for any
 unfoldable pub reported : Figures → (table : List ℕ) (room : ℕ) → List ℕ
 reported f b room = pick (ltb room 256) [] (reportOf f b)
 
--- ---- as the code makes them
+-- ---- how the code makes them
 
--- `after` is the buffer b with the bytes xs stored from index `at` on, and `end` is the index behind them, which are all within b
+-- `after` is the buffer b with the bytes xs stored from index `at` on; `end` is the index behind them, and all are within b
 pub record Appended (b : List ℕ) (at : ℕ) (xs after : List ℕ) (end : ℕ) : Type 0 where
   pub stored : after ≡ sets b at xs
   pub ends : end ≡ at + length xs

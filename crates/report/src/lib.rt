@@ -9,7 +9,7 @@ ghost use mathlib.Core.List.{_++_};
 ghost use Prim.Native.Nat.{_+_, _*_, _≤_};
 ghost use lib.ListN.{length, drop};
 ghost use Rattle.table.specs.Headed.{Headed};
-ghost use Rattle.report.specs.Report.{decimal, pairLine, layerLines, statesBelow, totalLine, tableLines, refusalLine, reported, Appended};
+ghost use Rattle.report.specs.Report.{decimal, field, pairLine, layerLines, statesBelow, totalLine, tableLines, refusalLine, reported, Appended};
 
 // The length of a buffer into which every report fits.
 pub struct Limits;
@@ -44,15 +44,23 @@ fn append_number(out: &mut [u8], at: usize, number: usize) -> usize
     last + 1
 }
 
+// A number and the byte that ends it.
+fn append_field(out: &mut [u8], at: usize, number: usize, mark: u8) -> usize
+    requires { ⌜ at + length (field number mark) ≤ length (now out) ⌝ }
+    ensures { λ r. ⌜ Appended (now (out .entry)) at (field number mark) (now (out .exit)) r ⌝ }
+{
+    let end = append_number(out, at, number);
+    out[end] = mark;
+    end + 1
+}
+
 // A line of two numbers.
 fn append_pair(out: &mut [u8], at: usize, first: usize, second: usize) -> usize
     requires { ⌜ at + length (pairLine first second) ≤ length (now out) ⌝ }
     ensures { λ r. ⌜ Appended (now (out .entry)) at (pairLine first second) (now (out .exit)) r ⌝ }
 {
-    let mut end = append_number(out, at, first);
-    end = append(out, end, b" ");
-    end = append_number(out, end, second);
-    append(out, end, b"\n")
+    let end = append_field(out, at, first, b' ');
+    append_field(out, end, second, b'\n')
 }
 
 // The lines of the first `count` layers. A line has at most 9 bytes.
@@ -86,9 +94,8 @@ fn append_total(out: &mut [u8], at: usize, total: usize) -> usize
     requires { ⌜ at + length (totalLine total) ≤ length (now out) ⌝ }
     ensures { λ r. ⌜ Appended (now (out .entry)) at (totalLine total) (now (out .exit)) r ⌝ }
 {
-    let mut end = append(out, at, b"total ");
-    end = append_number(out, end, total);
-    append(out, end, b"\n")
+    let end = append(out, at, b"total ");
+    append_field(out, end, total, b'\n')
 }
 
 // The lines of a table.

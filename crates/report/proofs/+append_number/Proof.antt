@@ -34,8 +34,8 @@ whole t c =
     let a = c .before .before .args in
     let room = c .before .before .pre .1 in
     ⊎-elim
-    (λ w. append-only (now (a .out)) (a .at) (a .number) room (c .if1 .out) (c .if1 .last) (w .0 .taken) (w .1) (w .2))
-    (λ w. append-last (now (a .out)) (a .at) (a .number) room (c .if1 .out) _ (c .if1 .last) _ (w .0 .left) (w .2 .ensures) (w .5) (w .6))
+    (λ w. append-only (now (a .out)) (a .at) (a .number) room (c .if1 .out) (c .if1 .last) (omega (arith, w .0 .taken)) (w .1) (w .2))
+    (λ w. append-last (now (a .out)) (a .at) (a .number) room (c .if1 .out) _ (c .if1 .last) _ (omega (arith, w .0 .left)) (w .2 .ensures) (w .5) (w .6))
     (c .if1 .came)
 
 requires : (t : ℕ) → lts.Need-append-number-requires (below t, reads.Post) (given t) reads.Post

@@ -1,10 +1,10 @@
 -- `report::append_refusal` meets its contract.
 -- Assumes nothing.
+use Prim.Native.Char.{code}
 use native.Mathlib.Omega.{arith}
 use Rattle.report.specs.Report.{ascii, refusalLine}
-use Rattle.report.proofs.Decimal.{digits-most}
 use Rattle.report.proofs.Appending.{append-then}
-use Rattle.report.proofs.Lines.{pair-length}
+use Rattle.report.proofs.Lines.{pair-length, field-most}
 use borrow.Author.Needs.{needs}
 use Rattle.report.proofs.append_refusal.Statement.{statement}
 use Rattle.report.proofs.append_refusal.Tie as tie
@@ -16,7 +16,9 @@ append-requires : tie.Need-append-requires
 append-requires c κs = search needs
 
 append-pair-requires : tie.Need-append-pair-requires
-append-pair-requires c κs = let f = c .before .before .before .before .before .before .before .args .figures in omega (arith, pair-length (f .number) (f .place), digits-most 19 (f .number) (omega arith), digits-most 19 (f .place) (omega arith))
+append-pair-requires c κs =
+    let f = c .before .before .before .before .before .before .before .args .figures in
+    omega (arith, pair-length (f .number) (f .place), field-most 19 (f .number) (code " ") (omega arith), field-most 19 (f .place) (code "\n") (omega arith))
 
 same-length : tie.Need-same-length
 same-length c = search needs

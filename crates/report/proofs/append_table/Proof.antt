@@ -2,6 +2,7 @@
 -- Assumes nothing.
 use mathlib.Core.Path.{_≡_, ap}
 use Prim.Native.Nat.{ℕ, _+_, _*_, _≤_}
+use Prim.Native.Char.{code}
 use native.Mathlib.Omega.{arith}
 use denote.Ref.{now}
 use lib.ListN.{length}
@@ -9,8 +10,7 @@ use Rattle.sizes.specs.Sizes.{frames}
 use Rattle.sizes.specs.declared.Sizes.{Sizes}
 use Rattle.table.proofs.Offsets.{arrays-stand}
 use Rattle.report.specs.Report.{ascii}
-use Rattle.report.proofs.Decimal.{digits-most}
-use Rattle.report.proofs.Lines.{total-length, table-lines}
+use Rattle.report.proofs.Lines.{total-length, field-most, table-lines}
 use borrow.Author.Needs.{needs}
 use Rattle.report.proofs.append_table.Statement.{statement}
 use Rattle.report.proofs.append_table.Tie as tie
@@ -45,7 +45,7 @@ states-below-requires c κs = omega (arith, few (c .before .before .before .befo
 append-total-requires : tie.Need-append-total-requires
 append-total-requires c κs =
     let f = few (c .before .before .before .before .before .before .before .before .before .before .before .before) in
-    omega (arith, total-length (c .states-below .result), digits-most 6 (c .states-below .result) (omega arith))
+    omega (arith, total-length (c .states-below .result), field-most 6 (c .states-below .result) (code "\n") (omega arith))
 
 same-length : tie.Need-same-length
 same-length c = search needs
