@@ -1,0 +1,158 @@
+-- No output of the drawn circuit looks ahead: what a frame draws has at most that frame as its latest frame.
+use mathlib.Core.Path.{_≡_, refl, ap, ap₂, _∙_}
+use mathlib.Core.Bool.{Bool, true, false, cond}
+use mathlib.Core.List.{List, [], _∷_}
+use Prim.Native.Nat.{ℕ, zero, suc, _+_, _*_, _-_, _/_, _%_, _^_, _≤_, _<_, max}
+use native.Mathlib.Nat.{mul-comm, mul-suc, mul-le-mul-left, div-add-mod, mod-lt, div-lt-iff-lt-mul}
+use native.Mathlib.Omega.{arith}
+use lib.Arith.{digits-div}
+use lib.Dec.{eqb}
+use lib.Pow.{pow-pos}
+use lib.ListN.{length, getD, List·getD-append}
+use lib.Seq.{getD-at}
+use borrow.Author.Tests.{le-ltb, eqb-false, eqb-true}
+use Rattle.sizes.specs.Sizes.{inputs, outputs, frames}
+use Rattle.sizes.specs.Sized.{Sized}
+use Rattle.circuit.specs.Lists.{grown, listed, bit}
+use Rattle.circuit.specs.Circuit.{frameOf as frameOfItem, inputFrames, looksAhead}
+use Rattle.circuit.proofs.Laws.{length-grown}
+use Rattle.table.specs.Table.{states}
+use Rattle.unfolded.specs.Unfolded.{ending, inverted, Frame, inputLiteral, matching, edgesAt, invertedEdges, entering, nextLiteral, withBit, outLiteral, nextGatesAt, outGatesAt, Drawing, frameOf, drawing, drawn}
+use Rattle.unfolded.proofs.Lists.{listed-at, listed-cons}
+use Rattle.unfolded.proofs.Gates.{Reads, Admitted, run, together, together-append}
+use Rattle.unfolded.proofs.Frames.{Placed, crossed, edge-reads, next-reads, out-reads}
+use Rattle.unfolded.proofs.Drawings.{base, behind, input-low, HandsOn, Step, outputs-read}
+use Rattle.unfolded.proofs.Written.{frameRead, circuitBytes, frames-run, outputs-back, output-at}
+
+-- ---- latest frames as they are read
+
+pub inverted-half : (l : ℕ) → inverted l / 2 ≡ l / 2
+unfolding inverted
+inverted-half l = go (eqb (l % 2) 1) refl
+  where
+    go : (t : Bool) → eqb (l % 2) 1 ≡ t → cond t (l - 1) (l + 1) / 2 ≡ l / 2
+    go true e = let q : l % 2 ≡ 1 = eqb-true (l % 2) 1 e in omega arith
+    go false e = let n : l % 2 ≡ 1 → ⊥ = eqb-false (l % 2) 1 e in omega (arith, n)
+
+frame-reads : Reads frameRead
+unfolding frameRead
+frame-reads = record {
+  kept = λ vs ws l h. List·getD-append vs ws 0 (l / 2) (omega arith);
+  new = λ vs x. getD-at vs x [] 0 (2 * length vs / 2) (omega arith);
+}
+
+-- the later of all is at most k
+module _ (f : ℕ → ℕ) (a k : ℕ) (l : a ≤ k) where
+  most-listed : (g : ℕ → ℕ) (c : ℕ) → ((i : ℕ) → i < c → f (g i) ≤ k) → together max f a (listed [] g c) ≤ k
+  unfolding grown together
+  most-listed g zero h = l
+  most-listed g (suc c) h = rw (together-append max f a (listed [] g c) (g c ∷ [])) (omega (arith, most-listed g c (λ i q. h i (omega arith)), h c (omega arith)))
+
+  most-edges : (F : Frame) (test : ℕ → Bool) (c : ℕ) → ((e : ℕ) → e < c → f (2 * (edgesAt F + e) + 1) ≤ k) → together max f a (invertedEdges F test c) ≤ k
+  unfolding invertedEdges together
+  most-edges F test zero h = l
+  most-edges F test (suc c) h =
+      rw (together-append max f a (invertedEdges F test c) (cond (test c) ((2 * (edgesAt F + c) + 1) ∷ []) []))
+      (go (test c) (most-edges F test c (λ e q. h e (omega arith))))
+    where
+      go : (t : Bool) → together max f a (invertedEdges F test c) ≤ k → together max f (together max f a (invertedEdges F test c)) (cond t ((2 * (edgesAt F + c) + 1) ∷ []) []) ≤ k
+      go true q = omega (arith, h c (omega arith))
+      go false q = q
+
+-- ---- frame by frame
+
+module _ (b : List ℕ) where
+  start : List ℕ
+  start = inputFrames (inputs b) (inputs b * frames b)
+
+  start-is : start ≡ 0 ∷ listed [] (frameOfItem (inputs b)) (inputs b * frames b)
+  unfolding start inputFrames
+  start-is = listed-cons 0 (frameOfItem (inputs b)) (inputs b * frames b)
+
+  true-read : frameRead start 1 ≡ 0
+  unfolding frameRead
+  true-read = ap (λ l. getD l 0 0) start-is
+
+  input-read : (t w i : ℕ) (d : Drawing) → t < frames b → i < inputs b → frameRead start (inputLiteral (frameOf b t d) w i) ≡ suc t
+  unfolding frameRead inputLiteral frameOf frameOfItem
+  input-read t w i d h l =
+      let n : ℕ = inputs b in
+      let q : (2 * (1 + (t * n + i)) + cond (bit w i) 0 1) / 2 ≡ suc (t * n + i) = half (bit w i) (t * n + i) in
+      let k : t * n + i < n * frames b = omega (arith, mul-comm t n, mul-suc n t, mul-le-mul-left n h) in
+      ap₂ (λ l i. getD l i 0) start-is q ∙ listed-at (frameOfItem n) 0 (n * frames b) (t * n + i) k ∙ ap suc (digits-div t l)
+    where
+      half : (t : Bool) (x : ℕ) → (2 * (1 + x) + cond t 0 1) / 2 ≡ suc x
+      half true x = omega arith
+      half false x = omega arith
+
+  abbrev OfState : ℕ → ℕ → ℕ → Type 0
+  OfState t s a = a ≤ t
+
+  abbrev OfOutput : ℕ → ℕ → ℕ → Type 0
+  OfOutput t j a = a ≤ suc t
+
+  module _
+      (t : ℕ) (d : Drawing) (vs : List ℕ) (h : t < frames b) (P : Placed (frameOf b t d)) (at : length vs ≡ frameOf b t d .at)
+      (old : (l : ℕ) → l < 2 * base b → frameRead vs l ≡ frameRead start l)
+      (S : (s : ℕ) → s < states b t → frameRead vs (getD (d .states) s 0) ≤ t)
+    where
+      true-now : frameRead vs 1 ≡ 0
+      unfolding base
+      true-now = old 1 (omega arith) ∙ true-read
+
+      match-now : (w : ℕ) → together max (frameRead vs) (frameRead vs 1) (matching (frameOf b t d) w) ≤ suc t
+      unfolding matching frameOf
+      match-now w =
+          most-listed (frameRead vs) (frameRead vs 1) (suc t) (omega (arith, true-now)) (inputLiteral (frameOf b t d) w) (inputs b) (λ i l.
+          omega (arith, old (inputLiteral (frameOf b t d) w i) (input-low b t d w i h l), input-read t w i d h l))
+
+      -- an edge, and its inverse
+      edge-now : (e : ℕ) → e < frameOf b t d .edges → frameRead (crossed (frameOf b t d) P max frameRead frame-reads vs at) (2 * (edgesAt (frameOf b t d) + e) + 1) ≤ suc t
+      unfolding frameRead frameOf
+      edge-now e l =
+          let F : Frame = frameOf b t d in
+          let q : (2 * (edgesAt F + e) + 1) / 2 ≡ 2 * (edgesAt F + e) / 2 = omega arith in
+          rw q
+          (omega (arith, edge-reads F P max frameRead frame-reads vs at e l, match-now (e % 2 ^ inputs b), S (e / 2 ^ inputs b) (div-lt-iff-lt-mul (pow-pos (inputs b)) .1 l)))
+
+      hands-on : HandsOn max frameRead frame-reads b start OfState OfOutput t d vs
+      unfolding nextLiteral outLiteral entering withBit frameRead frameOf
+      hands-on =
+          let F : Frame = frameOf b t d in
+          let low : frameRead vs 1 ≤ suc t = omega (arith, true-now) in
+          let E = most-edges (frameRead (crossed F P max frameRead frame-reads vs at)) (frameRead vs 1) (suc t) low F in
+          record {
+            nexts = λ s l.
+                rw (inverted-half (ending (nextGatesAt F) (entering F) s))
+                (omega (arith, next-reads F P max frameRead frame-reads vs at s l, E (λ e. eqb (F .next e) s) (F .edges) edge-now));
+            outs = λ j l.
+                rw (inverted-half (ending (outGatesAt F) (withBit F) j))
+                (omega (arith, out-reads F P max frameRead frame-reads vs at j l, E (λ e. bit (F .out e) j) (F .edges) edge-now));
+          }
+
+  step : Step max frameRead frame-reads b start OfState OfOutput
+  unfolding start inputFrames base
+  step = record {
+    from = length-grown (0 ∷ []) (λ _ i. frameOfItem (inputs b) i) (inputs b * frames b);
+    first = omega (arith, true-read);
+    on = λ t d vs h P at old S. hands-on t d vs h P at old S;
+  }
+
+  -- ---- the drawn circuit
+
+  module _ (one : states b 0 ≡ 1) (Z : Sized 8 (inputs b) (outputs b) (frames b)) (D : Admitted (base b) (drawn b)) (G : length (drawn b) ≤ 4096) where
+    pub none-ahead : (q : ℕ) → q < outputs b * frames b → looksAhead (circuitBytes (inputs b) (outputs b) (frames b) (drawn b)) q ≡ false
+    unfolding looksAhead frameOfItem base frameRead start
+    none-ahead q h =
+        let n : ℕ = inputs b in
+        let m : ℕ = outputs b in
+        let T : ℕ = frames b in
+        let p : ℕ = behind b (drawing b T) + q in
+        let t : ℕ = q / m in
+        let j : ℕ = q % m in
+        let e : m * t + j ≡ q = div-add-mod q m in
+        let half : 2 * p / 2 ≡ p = omega arith in
+        let t< : t < T = div-lt-iff-lt-mul (Z .outputs-from) .1 (rw (mul-comm m T) at h) in
+        let low : getD (run max frameRead start (drawn b)) p 0 ≤ suc t =
+        rw (e, half) at (outputs-read max frameRead frame-reads b start OfState OfOutput one step (λ t j a l. omega (arith, true-read)) t j t< (mod-lt q (Z .outputs-from))) in
+        rw (outputs-back n m T (drawn b) Z D G, frames-run n m T (drawn b) Z D G, output-at b Z D G q) (le-ltb (suc t) (getD (run max frameRead start (drawn b)) p 0) low)

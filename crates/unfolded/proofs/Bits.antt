@@ -1,0 +1,118 @@
+-- Words as bits, and tests of all numbers below a bound.
+use mathlib.Core.Path.{_≡_, refl, sym, ap, ap₂, _∙_}
+use mathlib.Core.Bool.{Bool, true, false, not, _&&_, cond}
+use mathlib.Core.Logic.{⊎-elim}
+use mathlib.Core.List.{List, [], _∷_}
+use Prim.Native.Nat.{ℕ, zero, suc, _*_, _/_, _%_, _^_, _<_}
+use native.Mathlib.Nat.{le-of-suc-le-suc, eq-or-lt-of-le, le-refl, le-suc, le-trans, pow-zero, pow-suc, mul-comm, div-one, div-div-eq-div-mul}
+use native.Mathlib.Omega.{arith}
+use lib.Dec.{eqb}
+use lib.ListN.{length, getD}
+use borrow.Author.Tests.{eqb-true, eqb-false}
+use Rattle.circuit.specs.Lists.{listed, bit, packed}
+use Rattle.layered.specs.Search.{every}
+use Rattle.unfolded.proofs.Lists.{listed-length, listed-at}
+
+-- ---- truth values
+
+pub and-true : (a : Bool) → (a && true) ≡ a
+and-true true = refl
+and-true false = refl
+
+pub and-false : (a : Bool) → (a && false) ≡ false
+and-false true = refl
+and-false false = refl
+
+pub not-not : (a : Bool) → not (not a) ≡ a
+not-not true = refl
+not-not false = refl
+
+-- whether two truth values are the same
+unfoldable pub same : Bool → Bool → Bool
+same a v = cond a v (not v)
+
+same-self : (a : Bool) → same a a ≡ true
+unfolding same
+same-self true = refl
+same-self false = refl
+
+same-eq : (a v : Bool) → same a v ≡ true → a ≡ v
+unfolding same
+same-eq true v e = sym e
+same-eq false true e = e
+same-eq false false e = refl
+
+and-both : (a v : Bool) → (a && v) ≡ true → (a ≡ true) × (v ≡ true)
+and-both true v e = (refl, e)
+and-both false true e = (e, refl)
+and-both false false e = (e, e)
+
+-- ---- every
+
+module _ (p : ℕ → Bool) where
+  every-true : (n : ℕ) → ((i : ℕ) → i < n → p i ≡ true) → every n p ≡ true
+  unfolding every
+  every-true zero h = refl
+  every-true (suc n) h = ap₂ _&&_ (every-true n (λ i l. h i (le-trans l (le-suc n)))) (h n (le-refl (suc n)))
+
+  every-each : (n : ℕ) → every n p ≡ true → (i : ℕ) → i < n → p i ≡ true
+  unfolding every
+  every-each zero e i h = absurd (omega arith)
+  every-each (suc n) e i h =
+      let q = and-both (every n p) (p n) e in
+      ⊎-elim (λ (j : i ≡ n). rw j (q .1)) (λ (l : i < n). every-each n (q .0) i l) (eq-or-lt-of-le (le-of-suc-le-suc h))
+
+  -- where the test holds of all others, that of i decides
+  pub every-one : (n i : ℕ) → i < n → ((j : ℕ) → j < n → (j ≡ i → ⊥) → p j ≡ true) → every n p ≡ p i
+  unfolding every
+  every-one zero i h o = absurd (omega arith)
+  every-one (suc n) i h o =
+      ⊎-elim
+      (λ (q : i ≡ n). rw (q, every-true n (λ j l. o j (le-trans l (le-suc n)) (λ k. absurd (omega arith)))))
+      (λ (l : i < n). ap₂ _&&_ (every-one n i l (λ j k d. o j (le-trans k (le-suc n)) d)) (o n (le-refl (suc n)) (λ k. absurd (omega arith))) ∙ and-true (p i))
+      (eq-or-lt-of-le (le-of-suc-le-suc h))
+
+-- ---- bits
+
+bit-zero : (w : ℕ) → bit w 0 ≡ eqb (w % 2) 1
+unfolding bit
+bit-zero w = ap (λ k. eqb (w / k % 2) 1) (pow-zero 2) ∙ ap (λ k. eqb (k % 2) 1) (div-one w)
+
+bit-suc : (w j : ℕ) → bit w (suc j) ≡ bit (w / 2) j
+unfolding bit
+bit-suc w j = ap (λ k. eqb (k % 2) 1) (ap (λ k. w / k) (pow-suc 2 j ∙ mul-comm (2 ^ j) 2) ∙ sym (div-div-eq-div-mul w 2 (2 ^ j)))
+
+digit : (w : ℕ) → cond (eqb (w % 2) 1) 1 0 ≡ w % 2
+digit w = go (eqb (w % 2) 1) refl
+  where
+    go : (t : Bool) → eqb (w % 2) 1 ≡ t → cond t 1 0 ≡ w % 2
+    go true e = sym (eqb-true (w % 2) 1 e)
+    go false e = let n : w % 2 ≡ 1 → ⊥ = eqb-false (w % 2) 1 e in omega (arith, n)
+
+-- a word below 2^m is what its m bits pack to
+pub packed-bits : (m w : ℕ) (vs : List Bool) → w < 2 ^ m → length vs ≡ m → ((j : ℕ) → j < m → getD vs j false ≡ bit w j) → packed vs ≡ w
+unfolding packed
+packed-bits zero w [] h l e = let z : w < 1 = rw (pow-zero 2) at h in omega arith
+packed-bits zero w (v ∷ vs) h l e = absurd (omega arith)
+packed-bits (suc m) w [] h l e = absurd (omega arith)
+packed-bits (suc m) w (v ∷ vs) h l e =
+    let h′ : w < 2 ^ m * 2 = rw (pow-suc 2 m) at h in
+    let d : cond v 1 0 ≡ w % 2 = ap (λ v. cond v 1 0) (e 0 (omega arith) ∙ bit-zero w) ∙ digit w in
+    omega (arith, d, packed-bits m (w / 2) vs (omega arith) (omega arith) (λ j q. e (suc j) (omega arith) ∙ bit-suc w j))
+
+-- words below 2^n with the same n bits are the same
+pub same-bits : (n w x : ℕ) → w < 2 ^ n → x < 2 ^ n → every n (λ i. same (bit w i) (bit x i)) ≡ eqb x w
+same-bits n w x h k = go (eqb x w) refl
+  where
+    go : (t : Bool) → eqb x w ≡ t → every n (λ i. same (bit w i) (bit x i)) ≡ t
+    go true e = every-true _ n (λ i l. ap (λ y. same (bit w i) (bit y i)) (eqb-true x w e) ∙ same-self (bit w i))
+    go false e = no-way (every n (λ i. same (bit w i) (bit x i))) refl
+      where
+        no-way : (t : Bool) → every n (λ i. same (bit w i) (bit x i)) ≡ t → t ≡ false
+        no-way false q = refl
+        no-way true q =
+            let vs : List Bool = listed [] (bit w) n in
+            let l : length vs ≡ n = listed-length (bit w) n in
+            absurd (eqb-false x w e
+            (sym (packed-bits n x vs k l (λ j i. listed-at (bit w) false n j i ∙ same-eq (bit w j) (bit x j) (every-each _ n q j i)))
+            ∙ packed-bits n w vs h l (λ j i. listed-at (bit w) false n j i)))

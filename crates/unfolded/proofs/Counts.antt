@@ -1,0 +1,154 @@
+-- How many gates are needed, without drawing them: in each frame n·2^n match gates, an edge for each entry, for each edge a gate of its next
+-- state's gather chain (none in the last frame), and a gate for each bit 1 of its output; and the m·T output gates.
+use mathlib.Core.Path.{_≡_, refl, ap, ap₂, _∙_}
+use mathlib.Core.Bool.{Bool, true, false, cond}
+use mathlib.Core.Logic.{⊎-elim}
+use mathlib.Core.List.{List, [], _∷_, _++_}
+use Prim.Native.Nat.{ℕ, zero, suc, _+_, _*_, _/_, _%_, _^_, _≤_, _<_}
+use native.Mathlib.Nat.{le-of-suc-le-suc, eq-or-lt-of-le, le-refl, mul-zero, mod-lt, div-lt-iff-lt-mul}
+use native.Mathlib.Omega.{arith}
+use lib.Dec.{ltb, eqb}
+use lib.Pow.{pow-pos}
+use lib.ListN.{length, length-append}
+use borrow.Author.Tests.{eq-eqb, ne-eqb}
+use Rattle.sizes.specs.Sizes.{inputs, outputs, frames}
+use Rattle.circuit.specs.Lists.{bit}
+use Rattle.layered.specs.Search.{tally}
+use Rattle.layered.specs.Machines.{Legal}
+use Rattle.layered.proofs.Lists.{total, total-cong, total-each}
+use Rattle.table.specs.Table.{states, machine}
+use Rattle.unfolded.specs.Unfolded.{chains, Frame, inputLiteral, matching, matchGates, edgesAt, edgeGate, edgeGates, invertedEdges, entering, nextGates, nextGatesAt, withBit, outGates, outGatesAt, frameGates, Drawing, frameOf, withFrame, drawing, gatesNeeded}
+use Rattle.unfolded.proofs.Lists.{listed-length}
+use Rattle.unfolded.proofs.Gates.{chains-more}
+use Rattle.unfolded.proofs.Drawings.{drawn-length}
+
+-- ---- sums
+
+total-add : (n : ℕ) (f g : ℕ → ℕ) → total n (λ i. f i + g i) ≡ total n f + total n g
+unfolding total
+total-add zero f g = omega arith
+total-add (suc n) f g = omega (arith, total-add n f g)
+
+total-tally : (n : ℕ) (p : ℕ → Bool) → total n (λ i. cond (p i) 1 0) ≡ tally n p
+unfolding total tally
+total-tally zero p = refl
+total-tally (suc n) p = omega (arith, total-tally n p)
+
+-- pairs are counted by either of the two
+total-swap : (R E : ℕ) (p : ℕ → ℕ → Bool) → total R (λ s. tally E (λ e. p e s)) ≡ total E (λ e. tally R (p e))
+unfolding total tally
+total-swap R zero p = total-each R 0 ∙ mul-zero R
+total-swap R (suc E) p =
+    total-add R (λ s. cond (p E s) 1 0) (λ s. tally E (λ e. p e s)) ∙ omega (arith, total-tally R (p E), total-swap R E p)
+
+-- one number below R is x
+tally-none : (R x : ℕ) → R ≤ x → tally R (eqb x) ≡ 0
+unfolding tally
+tally-none zero x h = refl
+tally-none (suc R) x h = ap₂ (λ t k. cond t 1 0 + k) (ne-eqb x R (λ e. absurd (omega arith))) (tally-none R x (omega arith))
+
+tally-one : (R x : ℕ) → x < R → tally R (eqb x) ≡ 1
+unfolding tally
+tally-one zero x h = absurd (omega arith)
+tally-one (suc R) x h =
+    ⊎-elim
+    (λ (e : x ≡ R). ap₂ (λ t k. cond t 1 0 + k) (eq-eqb x R e) (tally-none R x (omega arith)))
+    (λ (l : x < R). ap₂ (λ t k. cond t 1 0 + k) (ne-eqb x R (λ e. absurd (omega arith))) (tally-one R x l))
+    (eq-or-lt-of-le (le-of-suc-le-suc h))
+
+-- ---- chains
+
+chains-length : (at : ℕ) (f : ℕ → List ℕ) (k : ℕ) → length (chains at f k) ≡ total k (λ i. length (f i))
+unfolding chains total
+chains-length at f zero = refl
+chains-length at f (suc k) = chains-more at f k ∙ ap (λ n. n + length (f k)) (chains-length at f k)
+
+module _ (F : Frame) where
+  edges-length : (test : ℕ → Bool) (k : ℕ) → length (invertedEdges F test k) ≡ tally k test
+  unfolding invertedEdges tally
+  edges-length test zero = refl
+  edges-length test (suc k) = length-append (invertedEdges F test k) _ ∙ omega (arith, edges-length test k, go (test k))
+    where
+      go : (t : Bool) → length (cond t ((2 * (edgesAt F + k) + 1) ∷ []) []) ≡ cond t 1 0
+      go true = refl
+      go false = refl
+
+  match-count : length (matchGates F) ≡ 2 ^ F .inputs * F .inputs
+  unfolding matchGates matching
+  match-count =
+      chains-length (F .at) (matching F) (2 ^ F .inputs)
+      ∙ total-cong (2 ^ F .inputs) _ _ (λ w h. listed-length (inputLiteral F w) (F .inputs))
+      ∙ total-each (2 ^ F .inputs) (F .inputs)
+
+  edge-count : length (edgeGates F) ≡ F .edges
+  unfolding edgeGates
+  edge-count = listed-length (edgeGate F) (F .edges)
+
+  gather-count : length (nextGates F) ≡ total (F .edges) (λ e. tally (F .nexts) (eqb (F .next e)))
+  unfolding nextGates entering
+  gather-count =
+      chains-length (nextGatesAt F) (entering F) (F .nexts)
+      ∙ total-cong (F .nexts) _ _ (λ s h. edges-length (λ e. eqb (F .next e) s) (F .edges))
+      ∙ total-swap (F .nexts) (F .edges) (λ e s. eqb (F .next e) s)
+
+  out-count : length (outGates F) ≡ total (F .edges) (λ e. tally (F .outputs) (bit (F .out e)))
+  unfolding outGates withBit
+  out-count =
+      chains-length (outGatesAt F) (withBit F) (F .outputs)
+      ∙ total-cong (F .outputs) _ _ (λ j h. edges-length (λ e. bit (F .out e) j) (F .edges))
+      ∙ total-swap (F .outputs) (F .edges) (λ e j. bit (F .out e) j)
+
+  frame-count : length (frameGates F) ≡ length (matchGates F) + (length (edgeGates F) + (length (nextGates F) + length (outGates F)))
+  unfolding frameGates
+  frame-count =
+      length-append (matchGates F) (edgeGates F ++ (nextGates F ++ outGates F))
+      ∙ omega (arith, length-append (edgeGates F) (nextGates F ++ outGates F), length-append (nextGates F) (outGates F))
+
+-- ---- a table
+
+module _ (b : List ℕ) where
+  -- how many bits 1 the outputs of layer t have
+  unfoldable pub ones : (t : ℕ) → ℕ
+  ones t = total (states b t * 2 ^ inputs b) (λ e. tally (outputs b) (bit (machine b .out t (e / 2 ^ inputs b) (e % 2 ^ inputs b))))
+
+  -- how many gates the frame from layer t needs
+  unfoldable pub frameNeeds : (t : ℕ) → ℕ
+  frameNeeds t =
+      2 ^ inputs b * inputs b + (states b t * 2 ^ inputs b + (cond (ltb (suc t) (frames b)) (states b t * 2 ^ inputs b) 0 + ones t))
+
+  module _ (L : Legal (2 ^ inputs b) (outputs b) (frames b) (machine b)) where
+    nexts-count : (t : ℕ) (d : Drawing) → t < frames b → length (nextGates (frameOf b t d)) ≡ cond (ltb (suc t) (frames b)) (states b t * 2 ^ inputs b) 0
+    unfolding frameOf
+    nexts-count t d h = gather-count (frameOf b t d) ∙ go (ltb (suc t) (frames b))
+      where
+        E : ℕ
+        E = states b t * 2 ^ inputs b
+
+        to : ℕ → ℕ
+        to e = machine b .next t (e / 2 ^ inputs b) (e % 2 ^ inputs b)
+
+        one : (e : ℕ) → e < E → tally (states b (suc t)) (eqb (to e)) ≡ 1
+        one e l = tally-one (states b (suc t)) (to e) (L .next-is t (e / 2 ^ inputs b) (e % 2 ^ inputs b) h (div-lt-iff-lt-mul (pow-pos (inputs b)) .1 l) (mod-lt e (pow-pos (inputs b))))
+
+        no-states : (x : ℕ) → tally 0 (eqb x) ≡ 0
+        no-states x = tally-none 0 x (omega arith)
+
+        go : (a : Bool) → total E (λ e. tally (cond a (states b (suc t)) 0) (eqb (to e))) ≡ cond a E 0
+        go true = total-cong E _ (λ e. 1) one ∙ total-each E 1 ∙ omega arith
+        go false = total-cong E _ (λ e. 0) (λ e l. no-states (to e)) ∙ total-each E 0 ∙ mul-zero E
+
+    frame-needs : (t : ℕ) (d : Drawing) → t < frames b → length (frameGates (frameOf b t d)) ≡ frameNeeds t
+    unfolding frameOf frameNeeds ones
+    frame-needs t d h =
+        let F : Frame = frameOf b t d in
+        frame-count F ∙ ap₂ _+_ (match-count F) (ap₂ _+_ (edge-count F) (ap₂ _+_ (nexts-count t d h) (out-count F)))
+
+    drawing-length : (t : ℕ) → t ≤ frames b → length (drawing b t .gates) ≡ total t frameNeeds
+    unfolding drawing withFrame total
+    drawing-length zero h = refl
+    drawing-length (suc t) h =
+        length-append (drawing b t .gates) _ ∙ ap₂ _+_ (drawing-length t (omega arith)) (frame-needs t (drawing b t) h)
+
+    pub gates-needed : gatesNeeded b ≡ total (frames b) frameNeeds + outputs b * frames b
+    unfolding gatesNeeded
+    gates-needed = drawn-length b ∙ ap (λ k. k + outputs b * frames b) (drawing-length (frames b) (le-refl (frames b)))

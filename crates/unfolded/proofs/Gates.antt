@@ -1,0 +1,166 @@
+-- Gates that are appended to what is known of the signals before them: what is read of earlier signals stays, a chain reads as its literals
+-- together, and literals are of earlier signals.
+use mathlib.Core.Path.{_≡_, refl, sym, ap, ap₂, _∙_}
+use mathlib.Core.Logic.{⊎-elim}
+use mathlib.Core.List.{List, [], _∷_, _++_}
+use Prim.Native.Nat.{ℕ, zero, suc, _+_, _*_, _≤_, _<_}
+use native.Mathlib.Nat.{le-of-suc-le-suc, eq-or-lt-of-le, le-suc, le-trans, le-refl}
+use native.Mathlib.Omega.{arith}
+use lib.ListN.{length, length-append}
+use Rattle.circuit.specs.Lists.{grown, listed}
+use Rattle.unfolded.specs.Unfolded.{chain, lastOf, chains, ending}
+use Rattle.unfolded.proofs.Lists.{Under, none, more, under-widen, listed-length}
+
+-- ---- literals are of earlier signals
+
+-- the gates from signal `at` on
+pub data Admitted : ℕ → List (ℕ × ℕ) → Type 0 where
+  no-gate : {at : ℕ} → Admitted at []
+  gate : {at l r : ℕ} {gs : List (ℕ × ℕ)} → l < 2 * at → r < 2 * at → Admitted (suc at) gs → Admitted at ((l, r) ∷ gs)
+
+pub admitted-append : {at : ℕ} {gs hs : List (ℕ × ℕ)} → Admitted at gs → Admitted (at + length gs) hs → Admitted at (gs ++ hs)
+admitted-append {at} {gs} {hs} no-gate B = let e : at + 0 ≡ at = omega arith in rw e at B
+admitted-append {at} {gs} {hs} (gate {gs = rest} p q A) B = let e : at + suc (length rest) ≡ suc at + length rest = omega arith in gate p q (admitted-append A (rw e at B))
+
+pub chain-length : (at left : ℕ) (rs : List ℕ) → length (chain at left rs) ≡ length rs
+unfolding chain
+chain-length at left [] = refl
+chain-length at left (r ∷ rs) = ap suc (chain-length (suc at) (2 * at) rs)
+
+pub last-below : (at left : ℕ) (rs : List ℕ) → left < 2 * at → lastOf at left rs < 2 * (at + length rs)
+unfolding lastOf
+last-below at left [] h = omega arith
+last-below at left (r ∷ rs) h = omega (arith, last-below (suc at) (2 * at) rs (omega arith))
+
+pub chain-admitted : (at left : ℕ) (rs : List ℕ) → left < 2 * at → Under (2 * at) rs → Admitted at (chain at left rs)
+unfolding chain
+chain-admitted at left [] h none = no-gate
+chain-admitted at left (r ∷ rs) h (more l U) = gate h l (chain-admitted (suc at) (2 * at) rs (omega arith) (under-widen (omega arith) U))
+
+pub chains-more : (at : ℕ) (f : ℕ → List ℕ) (k : ℕ) → length (chains at f (suc k)) ≡ length (chains at f k) + length (f k)
+unfolding chains
+chains-more at f k = length-append (chains at f k) _ ∙ omega (arith, chain-length (at + length (chains at f k)) 1 (f k))
+
+module _ (at : ℕ) (f : ℕ → List ℕ) (p : 1 ≤ at) where
+  pub chains-admitted : (k : ℕ) → ((i : ℕ) → i < k → Under (2 * at) (f i)) → Admitted at (chains at f k)
+  unfolding chains
+  chains-admitted zero U = no-gate
+  chains-admitted (suc k) U =
+      admitted-append (chains-admitted k (λ i l. U i (le-trans l (le-suc k))))
+      (chain-admitted (at + length (chains at f k)) 1 (f k) (omega arith) (under-widen (omega arith) (U k (le-refl (suc k)))))
+
+  pub ending-below : (k i : ℕ) → i < k → ending at f i < 2 * (at + length (chains at f k))
+  unfolding ending
+  ending-below zero i h = absurd (omega arith)
+  ending-below (suc k) i h =
+      ⊎-elim
+      (λ (e : i ≡ k). rw e (omega (arith, chains-more at f k, last-below (at + length (chains at f k)) 1 (f k) (omega arith))))
+      (λ (l : i < k). omega (arith, chains-more at f k, ending-below k i l))
+      (eq-or-lt-of-le (le-of-suc-le-suc h))
+
+-- ---- what is read
+
+-- all of a list, from `a` on
+unfoldable pub together : {A : Type 0} → (A → A → A) → (ℕ → A) → A → List ℕ → A
+together meet f a [] = a
+together meet f a (r ∷ rs) = together meet f (meet a (f r)) rs
+
+pub together-append : {A : Type 0} (meet : A → A → A) (f : ℕ → A) (a : A) (rs ss : List ℕ) → together meet f a (rs ++ ss) ≡ together meet f (together meet f a rs) ss
+unfolding together
+together-append meet f a [] ss = refl
+together-append meet f a (r ∷ rs) ss = together-append meet f (meet a (f r)) rs ss
+
+pub together-cong : {A : Type 0} (meet : A → A → A) (f g : ℕ → A) (a : A) {x : ℕ} {rs : List ℕ} → ((l : ℕ) → l < x → f l ≡ g l) → Under x rs
+    → together meet f a rs ≡ together meet g a rs
+unfolding together
+together-cong meet f g a E none = refl
+together-cong meet f g a E (more {l} {ls} h U) = ap (λ b. together meet f (meet a b) ls) (E l h) ∙ together-cong meet f g (meet a (g l)) E U
+
+-- `read vs l` is what is known of literal l, where vs is what is known of the signals; `meet` is what a gate makes of its two literals
+module _ {A : Type 0} (meet : A → A → A) (read : List A → ℕ → A) where
+  -- what is known of the signals after gates are appended
+  unfoldable pub run : List A → List (ℕ × ℕ) → List A
+  run vs [] = vs
+  run vs (g ∷ gs) = run (vs ++ (meet (read vs (g .0)) (read vs (g .1)) ∷ [])) gs
+
+  pub run-append : (vs : List A) (gs hs : List (ℕ × ℕ)) → run vs (gs ++ hs) ≡ run (run vs gs) hs
+  unfolding run
+  run-append vs [] hs = refl
+  run-append vs (g ∷ gs) hs = run-append (vs ++ (meet (read vs (g .0)) (read vs (g .1)) ∷ [])) gs hs
+
+  pub run-length : (vs : List A) (gs : List (ℕ × ℕ)) → length (run vs gs) ≡ length vs + length gs
+  unfolding run
+  run-length vs [] = omega arith
+  run-length vs (g ∷ gs) = run-length (vs ++ (meet (read vs (g .0)) (read vs (g .1)) ∷ [])) gs ∙ omega (arith, length-append vs (meet (read vs (g .0)) (read vs (g .1)) ∷ []))
+
+-- an earlier signal's literal reads the same in a longer list, and a new signal's as that signal
+pub record Reads {A : Type 0} (read : List A → ℕ → A) : Type 0 where
+  pub kept : (vs ws : List A) (l : ℕ) → l < 2 * length vs → read (vs ++ ws) l ≡ read vs l
+  pub new : (vs : List A) (x : A) → read (vs ++ (x ∷ [])) (2 * length vs) ≡ x
+
+module _ {A : Type 0} (meet : A → A → A) (read : List A → ℕ → A) (R : Reads read) where
+  pub run-read : (vs : List A) (gs : List (ℕ × ℕ)) (l : ℕ) → l < 2 * length vs → read (run meet read vs gs) l ≡ read vs l
+  unfolding run
+  run-read vs [] l h = refl
+  run-read vs (g ∷ gs) l h =
+      let x : A = meet (read vs (g .0)) (read vs (g .1)) in
+      run-read (vs ++ (x ∷ [])) gs l (omega (arith, length-append vs (x ∷ []))) ∙ R .kept vs (x ∷ []) l h
+
+  pub chain-reads : (vs : List A) (at left : ℕ) (rs : List ℕ) → length vs ≡ at → left < 2 * at → Under (2 * at) rs
+      → read (run meet read vs (chain at left rs)) (lastOf at left rs) ≡ together meet (read vs) (read vs left) rs
+  unfolding run chain lastOf together
+  chain-reads vs at left [] e h none = refl
+  chain-reads vs at left (r ∷ rs) e h (more l U) =
+      let x : A = meet (read vs left) (read vs r) in
+      let ws : List A = vs ++ (x ∷ []) in
+      let new : read ws (2 * at) ≡ x = rw (← e) (R .new vs x) in
+      chain-reads ws (suc at) (2 * at) rs (length-append vs (x ∷ []) ∙ omega arith) (omega arith) (under-widen (omega arith) U)
+      ∙ ap (λ a. together meet (read ws) a rs) new
+      ∙ together-cong meet (read ws) (read vs) x (λ l h. R .kept vs (x ∷ []) l (omega arith)) U
+
+  module _ (vs : List A) (at : ℕ) (f : ℕ → List ℕ) (p : 1 ≤ at) (e : length vs ≡ at) where
+    pub chains-read : (k i : ℕ) → i < k → ((i : ℕ) → i < k → Under (2 * at) (f i))
+        → read (run meet read vs (chains at f k)) (ending at f i) ≡ together meet (read vs) (read vs 1) (f i)
+    unfolding chains ending
+    chains-read zero i h U = absurd (omega arith)
+    chains-read (suc k) i h U =
+        let gs : List (ℕ × ℕ) = chains at f k in
+        let ws : List A = run meet read vs gs in
+        let ch : List (ℕ × ℕ) = chain (at + length gs) 1 (f k) in
+        let l : length ws ≡ at + length gs = run-length meet read vs gs ∙ omega arith in
+        ap (λ v. read v (ending at f i)) (run-append meet read vs gs ch)
+        ∙ ⊎-elim
+        (λ (q : i ≡ k). rw q
+        (chain-reads ws (at + length gs) 1 (f k) l (omega arith) (under-widen (omega arith) (U k (le-refl (suc k))))
+        ∙ ap (λ a. together meet (read ws) a (f k)) (run-read vs gs 1 (omega arith))
+        ∙ together-cong meet (read ws) (read vs) (read vs 1) (λ l h. run-read vs gs l (omega arith)) (U k (le-refl (suc k)))))
+        (λ (q : i < k). run-read ws ch (ending at f i) (omega (arith, ending-below at f p k i q)) ∙ chains-read k i q (λ i l. U i (le-trans l (le-suc k))))
+        (eq-or-lt-of-le (le-of-suc-le-suc h))
+
+  -- gates of earlier signals only, one for each i below k
+  module _ (vs : List A) (g : ℕ → ℕ × ℕ) where
+    pub each-reads : (k i : ℕ) → i < k → ((i : ℕ) → i < k → (g i .0 < 2 * length vs) × (g i .1 < 2 * length vs))
+        → read (run meet read vs (listed [] g k)) (2 * (length vs + i)) ≡ meet (read vs (g i .0)) (read vs (g i .1))
+    unfolding grown run
+    each-reads zero i h U = absurd (omega arith)
+    each-reads (suc k) i h U =
+        let gs : List (ℕ × ℕ) = listed [] g k in
+        let ws : List A = run meet read vs gs in
+        let x : A = meet (read ws (g k .0)) (read ws (g k .1)) in
+        let l : length ws ≡ length vs + k = run-length meet read vs gs ∙ omega (arith, listed-length g k) in
+        ap (λ v. read v (2 * (length vs + i))) (run-append meet read vs gs (g k ∷ []))
+        ∙ ⊎-elim
+        (λ (q : i ≡ k).
+        ap (λ j. read (ws ++ (x ∷ [])) (2 * j)) (let s : length vs + i ≡ length ws = omega arith in s)
+        ∙ R .new ws x
+        ∙ ap₂ meet (run-read vs gs (g k .0) (U k (le-refl (suc k)) .0)) (run-read vs gs (g k .1) (U k (le-refl (suc k)) .1))
+        ∙ ap (λ j. meet (read vs (g j .0)) (read vs (g j .1))) (sym q))
+        (λ (q : i < k). R .kept ws (x ∷ []) (2 * (length vs + i)) (omega arith) ∙ each-reads k i q (λ i l. U i (le-trans l (le-suc k))))
+        (eq-or-lt-of-le (le-of-suc-le-suc h))
+
+pub each-admitted : (at : ℕ) (g : ℕ → ℕ × ℕ) (k : ℕ) → ((i : ℕ) → i < k → (g i .0 < 2 * at) × (g i .1 < 2 * at)) → Admitted at (listed [] g k)
+unfolding grown
+each-admitted at g zero U = no-gate
+each-admitted at g (suc k) U =
+    let u = U k (le-refl (suc k)) in
+    admitted-append (each-admitted at g k (λ i l. U i (le-trans l (le-suc k)))) (gate {l = g k .0} {r = g k .1} (omega arith) (omega arith) no-gate)

@@ -1,0 +1,13 @@
+-- The proofs of what specs/ states, by subject, lowest first.
+pub mod Example
+pub mod Lists
+pub mod Gates
+pub mod Frames
+pub mod Drawings
+pub mod Written
+pub mod Ahead
+pub mod Bits
+pub mod Values
+pub mod Counts
+pub mod Outcomes
+pub mod Theorems
