@@ -23,6 +23,7 @@ use Rattle.responses.specs.Responses.{filled}
 
 -- ---- the words of a history
 
+-- the first k of n times a, and the rest
 module _ {A : Type 0} (a : A) (k n : ℕ) (h : k ≤ n) where
   parts : replicate n a ≡ replicate k a ++ replicate (n - k) a
   parts = let e : n ≡ k + (n - k) = omega arith in ap (λ i. replicate i a) e ∙ sym (replicate-append-replicate k (n - k) a)
@@ -62,7 +63,7 @@ module _ (K : ℕ) where
   words-all v w j q ej e = rw ej at e
 
   -- the words of T frames, of which t are the history's
-  pub words-of : (t h T : ℕ) → t ≤ T → T ≤ 16 → take T (historyWords K t h ++ replicate (16 - t) 0) ≡ historyWords K t h ++ replicate (T - t) 0
+  words-of : (t h T : ℕ) → t ≤ T → T ≤ 16 → take T (historyWords K t h ++ replicate (16 - t) 0) ≡ historyWords K t h ++ replicate (T - t) 0
   words-of t h T l m =
       let e : T ≡ length (historyWords K t h) + (T - t) = omega (arith, history-length t h) in
       ap (λ k. take k (historyWords K t h ++ replicate (16 - t) 0)) e
@@ -79,28 +80,31 @@ word-fits n q h = rw (power-is n h) (pow-pos n, lt-of-lt-of-le (mod-lt q (pow-po
 abbrev pub firstOutput : Head → (t : ℕ) → ℕ
 firstOutput head t = head .base + (head .gates - head .total) + head .outputs * (t - 1)
 
-module _ (b : List ℕ) (head : Head) (H : Headed b) (O : HeadOf b head) (t : ℕ) (t≥ : 1 ≤ t) (t≤ : t ≤ frames b) where
+module _ (b : List ℕ) (head : Head) (H : Headed b) (O : HeadOf b head) (t : ℕ) (from : 1 ≤ t) (to : t ≤ frames b) where
   first-is : firstOutput head t ≡ outputSignal b (outputs b * (t - 1))
   first-is = rw (O .outputs-is) (output-at b (head .base) (head .gates) (head .total) (outputs b * (t - 1)) (O .base-is) (O .gates-is) (O .total-is))
 
-  -- the outputs of frame t are signals, and there is room for every signal
-  pub outputs-fit : (firstOutput head t + head .outputs ≤ gateSignal b (gates b)) × (gateSignal b (gates b) ≤ 4113)
-  outputs-fit = (omega (arith, first-is, O .outputs-is, output-room b (t - 1) (H .outputs-to) (omega arith)), signals-fit b H)
+  -- the outputs of frame t are signals, for which there is room
+  are-signals : firstOutput head t + head .outputs ≤ gateSignal b (gates b)
+  are-signals = omega (arith, first-is, O .outputs-is, output-room b (t - 1) (H .outputs-to) (omega arith))
 
-  -- the outputs of frame t, of the values v of all signals on the words of the history h, followed by zeros
+  pub outputs-fit : firstOutput head t + head .outputs ≤ 4113
+  outputs-fit = omega (arith, are-signals, signals-fit b H)
+
+  -- the outputs of frame t, where v are the values of all signals on the words of the history h and zeros
   pub response-is : (v : List Bool) (words : List ℕ) (h : ℕ) → words ≡ historyWords (2 ^ head .inputs) t h ++ replicate (16 - t) 0
       → take (gateSignal b (gates b)) v ≡ signalValues b (take (head .frames) words) (gates b)
       → packed (take (head .outputs) (drop (firstOutput head t) v)) ≡ response b t h
   unfolding response
   response-is v words h ew ev =
       let fed : take (head .frames) words ≡ historyWords (2 ^ inputs b) t h ++ replicate (frames b - t) 0 =
-      rw (ew, O .inputs-is, O .frames-is) (words-of (2 ^ inputs b) t h (frames b) t≤ (H .sizes .frames-to)) in
-      word-is b (take (head .frames) words) v (head .outputs) (firstOutput head t) (t - 1) ev (O .outputs-is) first-is (outputs-fit .0)
+      rw (ew, O .inputs-is, O .frames-is) (words-of (2 ^ inputs b) t h (frames b) to (H .sizes .frames-to)) in
+      word-is b (take (head .frames) words) v (head .outputs) (firstOutput head t) (t - 1) ev (O .outputs-is) first-is are-signals
       ∙ ap (λ (s : List ℕ). outputWord b s (t - 1)) fed
 
 -- ---- all histories
 
--- how many histories of t words there are
+-- how many there are of t words, by `1 << n * t`
 module _ (b : List ℕ) (H : Headed b) (n t : ℕ) (en : n ≡ inputs b) (l : t ≤ frames b) where
   pub bits-to : n * t ≤ 16
   bits-to = rw en (omega (arith, mul-le-mul-left (inputs b) l, H .sizes .bits-to))
@@ -108,10 +112,12 @@ module _ (b : List ℕ) (H : Headed b) (n t : ℕ) (en : n ≡ inputs b) (l : t 
   pub count-is : (1 * 2 ^ (n * t)) % 2 ^ 64 ≡ (2 ^ inputs b) ^ t
   count-is = power-is (n * t) bits-to ∙ pow-mul 2 n t ∙ ap (λ k. (2 ^ k) ^ t) en
 
+-- one response more is stored
 pub fill-more : (f : ℕ → ℕ) (v : List ℕ) (k x : ℕ) → k < length v → take k v ≡ tabulate k f → x ≡ f k → take (k + 1) (set v k x) ≡ tabulate (k + 1) f
 unfolding tabulate join
 fill-more f v k x h e q = rw (add-one k, take-suc-set v k x h) (ap₂ (λ (l : List ℕ) (a : ℕ). l ++ (a ∷ [])) e q)
 
+-- all are stored
 pub all-filled : (b v v₀ : List ℕ) (t k : ℕ) → k ≡ (2 ^ inputs b) ^ t → take k v ≡ tabulate k (response b t) → drop k v ≡ drop k v₀ → v ≡ filled b t v₀
 unfolding filled
 all-filled b v v₀ t k ek e₁ e₂ = rw (← ek, ← e₁, ← e₂) (sym (take-append-drop k v))

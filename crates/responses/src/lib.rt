@@ -40,7 +40,8 @@ pub fn respond(circuit: &[u8], head: Head, t: usize, h: usize) -> u16
     let frames = head.frames;
     let values = signal_values(circuit, head, &words[..frames]);
     let first = head.base + (head.gates - head.total);
-    pack(&values, first + head.outputs * (t - 1), head.outputs)
+    let at = first + head.outputs * (t - 1);
+    pack(&values, at, head.outputs)
 }
 
 // Stores the responses of frame t, from 1, to all its histories.

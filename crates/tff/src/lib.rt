@@ -70,15 +70,15 @@ pub extern "C" fn tff_run(table: &[u8], words: &[u16], result: &mut [u16], answe
 }
 
 // Puts all figures of a step into `answer`, which has room for them.
-fn put_step(figures: StepFigures, answer: &mut [u64])
+fn put_step(step: StepFigures, answer: &mut [u64])
     requires { ⌜ 5 ≤ length (now answer) ⌝ }
-    ensures { λ _. ⌜ now (answer .exit) ≡ stepAnswered figures (now (answer .entry)) ⌝ }
+    ensures { λ _. ⌜ now (answer .exit) ≡ stepAnswered step (now (answer .entry)) ⌝ }
 {
-    answer[0] = figures.number as u64;
-    answer[1] = figures.place as u64;
-    answer[2] = figures.output as u64;
-    answer[3] = figures.layer as u64;
-    answer[4] = figures.state as u64;
+    answer[0] = step.number as u64;
+    answer[1] = step.place as u64;
+    answer[2] = step.output as u64;
+    answer[3] = step.layer as u64;
+    answer[4] = step.state as u64;
 }
 
 #[no_mangle]

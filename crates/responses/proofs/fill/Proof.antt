@@ -21,6 +21,7 @@ Inv-loop circuit head t responses₀ count h₀ responses h =
 abbrev μ-loop : tie.MeasureT-loop
 μ-loop circuit head t responses₀ count h₀ responses h = count - h
 
+-- the bits of a history
 bits : (c : tie.After-struct-known Inv-loop μ-loop) → c .before .before .before .args .head .inputs * c .before .before .before .args .t ≤ 16
 bits c =
     let s = c .before .before .before in
@@ -40,6 +41,7 @@ loop-holds c =
     let p = s .pre in
     (omega arith, count-is (now (s .args .circuit)) (p .0) (s .args .head .inputs) (s .args .t) (p .1 .0 .inputs-is) (p .1 .1 .1 .0 .1), refl, refl, refl)
 
+-- in a turn: the entry
 abbrev start : tie.In-loop Inv-loop μ-loop → tie.Start Inv-loop μ-loop
 start c = c .before .before .before .before .before
 

@@ -12,7 +12,9 @@ use Rattle.responses.proofs.history_words.Statement.{statement}
 use Rattle.responses.proofs.history_words.Tie as tie
 
 abbrev Inv-loop : tie.InvT-loop
-Inv-loop inputs t h limit words₀ rest₀ i₀ words rest i = (i ≤ t) × (length words ≡ 16) × (historyWords (2 ^ inputs) (t - i) rest ++ drop (t - i) words ≡ historyWords (2 ^ inputs) t h ++ replicate (16 - t) 0)
+Inv-loop inputs t h limit words₀ rest₀ i₀ words rest i =
+    (i ≤ t) × (length words ≡ 16)
+    × (historyWords (2 ^ inputs) (t - i) rest ++ drop (t - i) words ≡ historyWords (2 ^ inputs) t h ++ replicate (16 - t) 0)
 
 abbrev μ-loop : tie.MeasureT-loop
 μ-loop inputs t h limit words₀ rest₀ i₀ words rest i = t - i
