@@ -48,14 +48,14 @@ module _ (f : ℕ → ℕ) (a k : ℕ) (l : a ≤ k) where
   most-listed g zero h = l
   most-listed g (suc c) h = rw (together-append max f a (listed [] g c) (g c ∷ [])) (omega (arith, most-listed g c (λ i q. h i (omega arith)), h c (omega arith)))
 
-  most-edges : (F : Frame) (test : ℕ → Bool) (c : ℕ) → ((e : ℕ) → e < c → f (2 * (edgesAt F + e) + 1) ≤ k) → together max f a (invertedEdges F test c) ≤ k
+  most-edges : (at : ℕ) (test : ℕ → Bool) (c : ℕ) → ((e : ℕ) → e < c → f (2 * (at + e) + 1) ≤ k) → together max f a (invertedEdges at test c) ≤ k
   unfolding invertedEdges together
-  most-edges F test zero h = l
-  most-edges F test (suc c) h =
-      rw (together-append max f a (invertedEdges F test c) (cond (test c) ((2 * (edgesAt F + c) + 1) ∷ []) []))
-      (go (test c) (most-edges F test c (λ e q. h e (omega arith))))
+  most-edges at test zero h = l
+  most-edges at test (suc c) h =
+      rw (together-append max f a (invertedEdges at test c) (cond (test c) ((2 * (at + c) + 1) ∷ []) []))
+      (go (test c) (most-edges at test c (λ e q. h e (omega arith))))
     where
-      go : (t : Bool) → together max f a (invertedEdges F test c) ≤ k → together max f (together max f a (invertedEdges F test c)) (cond t ((2 * (edgesAt F + c) + 1) ∷ []) []) ≤ k
+      go : (t : Bool) → together max f a (invertedEdges at test c) ≤ k → together max f (together max f a (invertedEdges at test c)) (cond t ((2 * (at + c) + 1) ∷ []) []) ≤ k
       go true q = omega (arith, h c (omega arith))
       go false q = q
 
@@ -73,9 +73,9 @@ module _ (b : List ℕ) where
   unfolding frameRead
   true-read = ap (λ l. getD l 0 0) start-is
 
-  input-read : (t w i : ℕ) (d : Drawing) → t < frames b → i < inputs b → frameRead start (inputLiteral (frameOf b t d) w i) ≡ suc t
-  unfolding frameRead inputLiteral frameOf frameOfItem
-  input-read t w i d h l =
+  input-read : (t w i : ℕ) → t < frames b → i < inputs b → frameRead start (inputLiteral (inputs b) t w i) ≡ suc t
+  unfolding frameRead inputLiteral frameOfItem
+  input-read t w i h l =
       let n : ℕ = inputs b in
       let q : (2 * (1 + (t * n + i)) + cond (bit w i) 0 1) / 2 ≡ suc (t * n + i) = half (bit w i) (t * n + i) in
       let k : t * n + i < n * frames b = omega (arith, mul-comm t n, mul-suc n t, mul-le-mul-left n h) in
@@ -100,11 +100,11 @@ module _ (b : List ℕ) where
       unfolding base
       true-now = old 1 (omega arith) ∙ true-read
 
-      match-now : (w : ℕ) → together max (frameRead vs) (frameRead vs 1) (matching (frameOf b t d) w) ≤ suc t
+      match-now : (w : ℕ) → together max (frameRead vs) (frameRead vs 1) (matching (inputs b) t w) ≤ suc t
       unfolding matching frameOf
       match-now w =
-          most-listed (frameRead vs) (frameRead vs 1) (suc t) (omega (arith, true-now)) (inputLiteral (frameOf b t d) w) (inputs b) (λ i l.
-          omega (arith, old (inputLiteral (frameOf b t d) w i) (input-low b t d w i h l), input-read t w i d h l))
+          most-listed (frameRead vs) (frameRead vs 1) (suc t) (omega (arith, true-now)) (inputLiteral (inputs b) t w) (inputs b) (λ i l.
+          omega (arith, old (inputLiteral (inputs b) t w i) (input-low b t w i h l), input-read t w i h l))
 
       -- an edge, and its inverse
       edge-now : (e : ℕ) → e < frameOf b t d .edges → frameRead (crossed (frameOf b t d) P max frameRead frame-reads vs at) (2 * (edgesAt (frameOf b t d) + e) + 1) ≤ suc t
@@ -120,7 +120,7 @@ module _ (b : List ℕ) where
       hands-on =
           let F : Frame = frameOf b t d in
           let low : frameRead vs 1 ≤ suc t = omega (arith, true-now) in
-          let E = most-edges (frameRead (crossed F P max frameRead frame-reads vs at)) (frameRead vs 1) (suc t) low F in
+          let E = most-edges (frameRead (crossed F P max frameRead frame-reads vs at)) (frameRead vs 1) (suc t) low (edgesAt F) in
           record {
             nexts = λ s l.
                 rw (inverted-half (ending (nextGatesAt F) (entering F) s))

@@ -63,24 +63,24 @@ unfolding chains total
 chains-length at f zero = refl
 chains-length at f (suc k) = chains-more at f k ∙ ap (λ n. n + length (f k)) (chains-length at f k)
 
-module _ (F : Frame) where
-  edges-length : (test : ℕ → Bool) (k : ℕ) → length (invertedEdges F test k) ≡ tally k test
-  unfolding invertedEdges tally
-  edges-length test zero = refl
-  edges-length test (suc k) = length-append (invertedEdges F test k) _ ∙ omega (arith, edges-length test k, go (test k))
-    where
-      go : (t : Bool) → length (cond t ((2 * (edgesAt F + k) + 1) ∷ []) []) ≡ cond t 1 0
-      go true = refl
-      go false = refl
+pub edges-length : (at : ℕ) (test : ℕ → Bool) (k : ℕ) → length (invertedEdges at test k) ≡ tally k test
+unfolding invertedEdges tally
+edges-length at test zero = refl
+edges-length at test (suc k) = length-append (invertedEdges at test k) _ ∙ omega (arith, edges-length at test k, go (test k))
+  where
+    go : (t : Bool) → length (cond t ((2 * (at + k) + 1) ∷ []) []) ≡ cond t 1 0
+    go true = refl
+    go false = refl
 
-  match-count : length (matchGates F) ≡ 2 ^ F .inputs * F .inputs
+module _ (F : Frame) where
+  pub match-count : length (matchGates F) ≡ 2 ^ F .inputs * F .inputs
   unfolding matchGates matching
   match-count =
-      chains-length (F .at) (matching F) (2 ^ F .inputs)
-      ∙ total-cong (2 ^ F .inputs) _ _ (λ w h. listed-length (inputLiteral F w) (F .inputs))
+      chains-length (F .at) (matching (F .inputs) (F .frame)) (2 ^ F .inputs)
+      ∙ total-cong (2 ^ F .inputs) _ _ (λ w h. listed-length (inputLiteral (F .inputs) (F .frame) w) (F .inputs))
       ∙ total-each (2 ^ F .inputs) (F .inputs)
 
-  edge-count : length (edgeGates F) ≡ F .edges
+  pub edge-count : length (edgeGates F) ≡ F .edges
   unfolding edgeGates
   edge-count = listed-length (edgeGate F) (F .edges)
 
@@ -88,14 +88,14 @@ module _ (F : Frame) where
   unfolding nextGates entering
   gather-count =
       chains-length (nextGatesAt F) (entering F) (F .nexts)
-      ∙ total-cong (F .nexts) _ _ (λ s h. edges-length (λ e. eqb (F .next e) s) (F .edges))
+      ∙ total-cong (F .nexts) _ _ (λ s h. edges-length (edgesAt F) (λ e. eqb (F .next e) s) (F .edges))
       ∙ total-swap (F .nexts) (F .edges) (λ e s. eqb (F .next e) s)
 
   out-count : length (outGates F) ≡ total (F .edges) (λ e. tally (F .outputs) (bit (F .out e)))
   unfolding outGates withBit
   out-count =
       chains-length (outGatesAt F) (withBit F) (F .outputs)
-      ∙ total-cong (F .outputs) _ _ (λ j h. edges-length (λ e. bit (F .out e) j) (F .edges))
+      ∙ total-cong (F .outputs) _ _ (λ j h. edges-length (edgesAt F) (λ e. bit (F .out e) j) (F .edges))
       ∙ total-swap (F .outputs) (F .edges) (λ e j. bit (F .out e) j)
 
   frame-count : length (frameGates F) ≡ length (matchGates F) + (length (edgeGates F) + (length (nextGates F) + length (outGates F)))

@@ -37,6 +37,15 @@ one-before : (b : List ℕ) (d : Drawing) (k : ℕ) → k ≡ behind b d → 1 <
 unfolding behind
 one-before b d k e = omega (arith, base-from b)
 
+-- an input's literal is below the gates
+pub input-low : (b : List ℕ) (t w i : ℕ) → t < frames b → i < inputs b → inputLiteral (inputs b) t w i < 2 * base b
+unfolding inputLiteral base
+input-low b t w i h l = go (bit w i)
+  where
+    go : (a : Bool) → 2 * (1 + (t * inputs b + i)) + cond a 0 1 < 2 * (1 + inputs b * frames b)
+    go true = omega (arith, mul-comm t (inputs b), mul-suc (inputs b) t, mul-le-mul-left (inputs b) h)
+    go false = omega (arith, mul-comm t (inputs b), mul-suc (inputs b) t, mul-le-mul-left (inputs b) h)
+
 -- what holds of the drawing of t frames
 pub record Drawn (b : List ℕ) (t : ℕ) (d : Drawing) : Type 0 where
   pub admitted : Admitted (base b) (d .gates)
@@ -48,15 +57,6 @@ module _ (b : List ℕ) (t : ℕ) (d : Drawing) where
   pub frame-at : frameOf b t d .at ≡ behind b d
   unfolding frameOf behind base
   frame-at = refl
-
-  -- an input's literal is below the gates
-  pub input-low : (w i : ℕ) → t < frames b → i < inputs b → inputLiteral (frameOf b t d) w i < 2 * base b
-  unfolding inputLiteral frameOf base
-  input-low w i h l = go (bit w i)
-    where
-      go : (a : Bool) → 2 * (1 + (t * inputs b + i)) + cond a 0 1 < 2 * (1 + inputs b * frames b)
-      go true = omega (arith, mul-comm t (inputs b), mul-suc (inputs b) t, mul-le-mul-left (inputs b) h)
-      go false = omega (arith, mul-comm t (inputs b), mul-suc (inputs b) t, mul-le-mul-left (inputs b) h)
 
   -- how many next states are drawn
   pub frame-nexts : suc t < frames b → frameOf b t d .nexts ≡ states b (suc t)

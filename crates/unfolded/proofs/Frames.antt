@@ -45,7 +45,7 @@ module _ (F : Frame) where
       omega
       (arith, length-append (matchGates F) (edgeGates F ++ (nextGates F ++ outGates F)), length-append (edgeGates F) (nextGates F ++ outGates F), length-append (nextGates F) (outGates F))
 
-  inverted-under : (test : ℕ → Bool) (k : ℕ) → k ≤ F .edges → Under (2 * nextGatesAt F) (invertedEdges F test k)
+  inverted-under : (test : ℕ → Bool) (k : ℕ) → k ≤ F .edges → Under (2 * nextGatesAt F) (invertedEdges (edgesAt F) test k)
   unfolding invertedEdges
   inverted-under test zero h = none
   inverted-under test (suc k) h = under-more (inverted-under test k (omega arith)) (go (test k))
@@ -74,19 +74,19 @@ module _ (F : Frame) where
     unfolding outGatesAt
     outs-from = omega arith
 
-    input-before : (w i : ℕ) → i < F .inputs → inputLiteral F w i < 2 * F .at
+    input-before : (w i : ℕ) → i < F .inputs → inputLiteral (F .inputs) (F .frame) w i < 2 * F .at
     unfolding inputLiteral
     input-before w i h = omega (arith, one-or-none (bit w i), P .inputs-before)
 
-    pub match-under : (w : ℕ) → Under (2 * F .at) (matching F w)
+    pub match-under : (w : ℕ) → Under (2 * F .at) (matching (F .inputs) (F .frame) w)
     unfolding matching
-    match-under w = under-listed _ (inputLiteral F w) (F .inputs) (input-before w)
+    match-under w = under-listed _ (inputLiteral (F .inputs) (F .frame) w) (F .inputs) (input-before w)
 
     edge-before : (e : ℕ) → e < F .edges → (edgeGate F e .0 < 2 * edgesAt F) × (edgeGate F e .1 < 2 * edgesAt F)
     unfolding edgeGate edgesAt matchLiteral matchGates
     edge-before e h = (
       omega (arith, P .states-before e h),
-      ending-below (F .at) (matching F) first-signal (2 ^ F .inputs) (e % 2 ^ F .inputs) (mod-lt e (pow-pos (F .inputs))),
+      ending-below (F .at) (matching (F .inputs) (F .frame)) first-signal (2 ^ F .inputs) (e % 2 ^ F .inputs) (mod-lt e (pow-pos (F .inputs))),
     )
 
     pub frame-admitted : Admitted (F .at) (frameGates F)
@@ -95,7 +95,7 @@ module _ (F : Frame) where
         let g = nexts-from in
         let r = outs-from in
         let p = first-signal in
-        admitted-append (chains-admitted (F .at) (matching F) p (2 ^ F .inputs) (λ w h. match-under w))
+        admitted-append (chains-admitted (F .at) (matching (F .inputs) (F .frame)) p (2 ^ F .inputs) (λ w h. match-under w))
         (admitted-append (each-admitted (edgesAt F) (edgeGate F) (F .edges) edge-before)
         (admitted-append (chains-admitted (nextGatesAt F) (entering F) (omega arith) (F .nexts) (λ s h. entering-under s))
         (chains-admitted (outGatesAt F) (withBit F) (omega arith) (F .outputs) (λ j h. under-widen (omega arith) (with-bit-under j)))))
@@ -160,7 +160,7 @@ module _ (F : Frame) where
 
       pub edge-reads : (e : ℕ) → e < F .edges
           → read crossed (2 * (edgesAt F + e))
-          ≡ meet (read vs (getD (F .states) (e / 2 ^ F .inputs) 0)) (together meet (read vs) (read vs 1) (matching F (e % 2 ^ F .inputs)))
+          ≡ meet (read vs (getD (F .states) (e / 2 ^ F .inputs) 0)) (together meet (read vs) (read vs 1) (matching (F .inputs) (F .frame) (e % 2 ^ F .inputs)))
       unfolding crossed matched edgeGates edgeGate matchGates matchLiteral
       edge-reads e h =
           let l : length matched ≡ edgesAt F = matched-length in
@@ -168,7 +168,7 @@ module _ (F : Frame) where
           ∙ each-reads meet read R matched (edgeGate F) (F .edges) e h (λ i h. rw l (edge-before i h))
           ∙ ap₂ meet
           (old-matched _ (P .states-before e h))
-          (chains-read meet read R vs (F .at) (matching F) first-signal at (2 ^ F .inputs) (e % 2 ^ F .inputs) (mod-lt e (pow-pos (F .inputs))) (λ w h. match-under w))
+          (chains-read meet read R vs (F .at) (matching (F .inputs) (F .frame)) first-signal at (2 ^ F .inputs) (e % 2 ^ F .inputs) (mod-lt e (pow-pos (F .inputs))) (λ w h. match-under w))
 
       pub next-reads : (s : ℕ) → s < F .nexts
           → read (run meet read vs (frameGates F)) (ending (nextGatesAt F) (entering F) s) ≡ together meet (read crossed) (read vs 1) (entering F s)

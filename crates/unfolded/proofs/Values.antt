@@ -72,16 +72,16 @@ all-listed f g p (suc c) h =
     together-append _&&_ f true (listed [] g c) (g c ∷ []) ∙ ap₂ _&&_ (all-listed f g p c (λ i q. h i (omega arith))) (h c (omega arith))
 
 -- a gather chain: none of its edges
-none-of : (F : Frame) (f : ℕ → Bool) (test v : ℕ → Bool) (c : ℕ) → ((e : ℕ) → e < c → f (2 * (edgesAt F + e) + 1) ≡ not (v e))
-    → together _&&_ f true (invertedEdges F test c) ≡ every c (λ e. not (test e && v e))
+none-of : (at : ℕ) (f : ℕ → Bool) (test v : ℕ → Bool) (c : ℕ) → ((e : ℕ) → e < c → f (2 * (at + e) + 1) ≡ not (v e))
+    → together _&&_ f true (invertedEdges at test c) ≡ every c (λ e. not (test e && v e))
 unfolding invertedEdges together every
-none-of F f test v zero h = refl
-none-of F f test v (suc c) h =
-    together-append _&&_ f true (invertedEdges F test c) (cond (test c) ((2 * (edgesAt F + c) + 1) ∷ []) [])
-    ∙ ap (λ a. together _&&_ f a (cond (test c) ((2 * (edgesAt F + c) + 1) ∷ []) [])) (none-of F f test v c (λ e q. h e (omega arith)))
+none-of at f test v zero h = refl
+none-of at f test v (suc c) h =
+    together-append _&&_ f true (invertedEdges at test c) (cond (test c) ((2 * (at + c) + 1) ∷ []) [])
+    ∙ ap (λ a. together _&&_ f a (cond (test c) ((2 * (at + c) + 1) ∷ []) [])) (none-of at f test v c (λ e q. h e (omega arith)))
     ∙ go (test c)
   where
-    go : (t : Bool) → together _&&_ f (every c (λ e. not (test e && v e))) (cond t ((2 * (edgesAt F + c) + 1) ∷ []) [])
+    go : (t : Bool) → together _&&_ f (every c (λ e. not (test e && v e))) (cond t ((2 * (at + c) + 1) ∷ []) [])
         ≡ (every c (λ e. not (test e && v e)) && not (t && v c))
     go true = ap (λ a. every c (λ e. not (test e && v e)) && a) (h c (omega arith))
     go false = sym (and-true _)
@@ -144,9 +144,9 @@ module _ (b c : List ℕ) where
   true-value : literalValue start 1 ≡ true
   true-value = literal-odd start 1 0 refl ∙ ap (λ l. not (getD l 0 false)) start-is
 
-  input-value : (t w i : ℕ) (d : Drawing) → t < frames b → i < inputs b → literalValue start (inputLiteral (frameOf b t d) w i) ≡ same (bit w i) (bit (getD c t 0) i)
-  unfolding inputLiteral frameOf same inputBit
-  input-value t w i d h l =
+  input-value : (t w i : ℕ) → t < frames b → i < inputs b → literalValue start (inputLiteral (inputs b) t w i) ≡ same (bit w i) (bit (getD c t 0) i)
+  unfolding inputLiteral same inputBit
+  input-value t w i h l =
       let n : ℕ = inputs b in
       let k : t * n + i < n * frames b = omega (arith, mul-comm t n, mul-suc n t, mul-le-mul-left n h) in
       let q : 1 + (t * n + i) ≡ suc (t * n + i) = omega arith in
@@ -191,12 +191,12 @@ module _ (b c : List ℕ) where
         unfolding base
         true-now = old 1 (omega arith) ∙ true-value
 
-        match-now : (w : ℕ) → w < 2 ^ inputs b → together _&&_ (literalValue vs) (literalValue vs 1) (matching (frameOf b t d) w) ≡ eqb (getD c t 0) w
+        match-now : (w : ℕ) → w < 2 ^ inputs b → together _&&_ (literalValue vs) (literalValue vs 1) (matching (inputs b) t w) ≡ eqb (getD c t 0) w
         unfolding matching frameOf
         match-now w k =
-            ap (λ a. together _&&_ (literalValue vs) a (matching (frameOf b t d) w)) true-now
-            ∙ all-listed (literalValue vs) (inputLiteral (frameOf b t d) w) (λ i. same (bit w i) (bit (getD c t 0) i)) (inputs b)
-            (λ i l. old (inputLiteral (frameOf b t d) w i) (input-low b t d w i h l) ∙ input-value t w i d h l)
+            ap (λ a. together _&&_ (literalValue vs) a (matching (inputs b) t w)) true-now
+            ∙ all-listed (literalValue vs) (inputLiteral (inputs b) t w) (λ i. same (bit w i) (bit (getD c t 0) i)) (inputs b)
+            (λ i l. old (inputLiteral (inputs b) t w i) (input-low b t w i h l) ∙ input-value t w i h l)
             ∙ same-bits (inputs b) w (getD c t 0) k (words-at W t h)
 
         -- the edge that the machine takes is true, and no other
@@ -215,7 +215,7 @@ module _ (b c : List ℕ) where
 
         -- a gather chain, inverted: the test of that edge
         gather-now : (test : ℕ → Bool) (a : Bool)
-            → a ≡ together _&&_ (literalValue (crossed (frameOf b t d) P _&&_ literalValue value-reads vs at)) (literalValue vs 1) (invertedEdges (frameOf b t d) test (frameOf b t d .edges))
+            → a ≡ together _&&_ (literalValue (crossed (frameOf b t d) P _&&_ literalValue value-reads vs at)) (literalValue vs 1) (invertedEdges (edgesAt (frameOf b t d)) test (frameOf b t d .edges))
             → not a ≡ test (stateAfter t * 2 ^ inputs b + getD c t 0)
         unfolding frameOf
         gather-now test a e =
@@ -223,8 +223,8 @@ module _ (b c : List ℕ) where
             let f : ℕ → Bool = literalValue (crossed F P _&&_ literalValue value-reads vs at) in
             ap not
             (e
-            ∙ ap (λ a. together _&&_ f a (invertedEdges F test (F .edges))) true-now
-            ∙ none-of F f test (λ e. eqb (stateAfter t) (e / 2 ^ inputs b) && eqb (getD c t 0) (e % 2 ^ inputs b)) (F .edges) edge-now
+            ∙ ap (λ a. together _&&_ f a (invertedEdges (edgesAt F) test (F .edges))) true-now
+            ∙ none-of (edgesAt F) f test (λ e. eqb (stateAfter t) (e / 2 ^ inputs b) && eqb (getD c t 0) (e % 2 ^ inputs b)) (F .edges) edge-now
             ∙ only-edge (states b t) (2 ^ inputs b) (stateAfter t) (getD c t 0) test (state-below t (omega arith)) (words-at W t h))
             ∙ not-not (test (stateAfter t * 2 ^ inputs b + getD c t 0))
 

@@ -58,23 +58,23 @@ pub record Frame : Type 0 where
   -- how many next states are drawn
   pub nexts : ℕ
 
--- input i of the frame, inverted where that bit of the word w is 0
-unfoldable pub inputLiteral : Frame → (w i : ℕ) → ℕ
+-- input i of frame t, of n to a frame, inverted where that bit of the word w is 0
+unfoldable pub inputLiteral : (n t w i : ℕ) → ℕ
 unfolding bit
-inputLiteral F w i = 2 * (1 + (F .frame * F .inputs + i)) + cond (bit w i) 0 1
+inputLiteral n t w i = 2 * (1 + (t * n + i)) + cond (bit w i) 0 1
 
 -- Match: for each word ascending, n gates; left the previous gate (first: literal 1), right input i, inverted where the bit is 0
-unfoldable pub matching : Frame → (w : ℕ) → List ℕ
+unfoldable pub matching : (n t w : ℕ) → List ℕ
 unfolding inputLiteral grown
-matching F w = listed [] (inputLiteral F w) (F .inputs)
+matching n t w = listed [] (inputLiteral n t w) n
 
 unfoldable pub matchGates : Frame → List (ℕ × ℕ)
 unfolding matching chains
-matchGates F = chains (F .at) (matching F) (2 ^ F .inputs)
+matchGates F = chains (F .at) (matching (F .inputs) (F .frame)) (2 ^ F .inputs)
 
 unfoldable pub matchLiteral : Frame → (w : ℕ) → ℕ
 unfolding matching ending
-matchLiteral F w = ending (F .at) (matching F) w
+matchLiteral F w = ending (F .at) (matching (F .inputs) (F .frame)) w
 
 -- Edges: by state, then word; left the state's literal, right the match
 unfoldable pub edgesAt : Frame → ℕ
@@ -89,11 +89,10 @@ unfoldable pub edgeGates : Frame → List (ℕ × ℕ)
 unfolding edgeGate grown
 edgeGates F = listed [] (edgeGate F) (F .edges)
 
--- the first k edges, inverted, ascending, as far as the test holds of them
-unfoldable pub invertedEdges : Frame → (test : ℕ → Bool) (k : ℕ) → List ℕ
-unfolding edgesAt
-invertedEdges F test zero = []
-invertedEdges F test (suc e) = invertedEdges F test e ++ cond (test e) ((2 * (edgesAt F + e) + 1) ∷ []) []
+-- the first k of the edges from signal `at` on, inverted, ascending, as far as the test holds of them
+unfoldable pub invertedEdges : (at : ℕ) (test : ℕ → Bool) (k : ℕ) → List ℕ
+invertedEdges at test zero = []
+invertedEdges at test (suc e) = invertedEdges at test e ++ cond (test e) ((2 * (at + e) + 1) ∷ []) []
 
 -- For each next state, one gate per edge into it, ascending; left the previous (first: 1), right the inverted edge. The state's literal is
 -- the last gate inverted, or 0 with no edge.
@@ -102,8 +101,8 @@ unfolding edgesAt edgeGates
 nextGatesAt F = edgesAt F + length (edgeGates F)
 
 unfoldable pub entering : Frame → (s : ℕ) → List ℕ
-unfolding invertedEdges
-entering F s = invertedEdges F (λ e. eqb (F .next e) s) (F .edges)
+unfolding invertedEdges edgesAt
+entering F s = invertedEdges (edgesAt F) (λ e. eqb (F .next e) s) (F .edges)
 
 unfoldable pub nextGates : Frame → List (ℕ × ℕ)
 unfolding nextGatesAt entering chains
@@ -119,8 +118,8 @@ unfolding nextGatesAt nextGates
 outGatesAt F = nextGatesAt F + length (nextGates F)
 
 unfoldable pub withBit : Frame → (j : ℕ) → List ℕ
-unfolding invertedEdges bit
-withBit F j = invertedEdges F (λ e. bit (F .out e) j) (F .edges)
+unfolding invertedEdges edgesAt bit
+withBit F j = invertedEdges (edgesAt F) (λ e. bit (F .out e) j) (F .edges)
 
 unfoldable pub outGates : Frame → List (ℕ × ℕ)
 unfolding outGatesAt withBit chains
