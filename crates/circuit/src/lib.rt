@@ -184,7 +184,7 @@ pub fn check(circuit: &[u8]) -> Verdict
 }
 
 // Bit j of a word.
-fn is_set(word: u16, j: usize) -> bool
+pub fn is_set(word: usize, j: usize) -> bool
     requires { ⌜ j < 16 ⌝ }
     ensures { λ r. ⌜ r ≡ bit word j ⌝ }
 {
@@ -198,7 +198,7 @@ fn input_values(words: &[u16], inputs: usize, count: usize) -> [bool; Limits::SI
 {
     let mut values = [false; Limits::SIGNALS];
     for i in 0..count {
-        values[1 + i] = is_set(words[i / inputs], i % inputs);
+        values[1 + i] = is_set(words[i / inputs] as usize, i % inputs);
     }
     values
 }

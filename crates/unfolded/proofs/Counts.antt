@@ -63,6 +63,11 @@ unfolding chains total
 chains-length at f zero = refl
 chains-length at f (suc k) = chains-more at f k ∙ ap (λ n. n + length (f k)) (chains-length at f k)
 
+pub matches-length : (at n t k : ℕ) → length (chains at (matching n t) k) ≡ k * n
+unfolding matching
+matches-length at n t k =
+    chains-length at (matching n t) k ∙ total-cong k _ _ (λ w h. listed-length (inputLiteral n t w) n) ∙ total-each k n
+
 pub edges-length : (at : ℕ) (test : ℕ → Bool) (k : ℕ) → length (invertedEdges at test k) ≡ tally k test
 unfolding invertedEdges tally
 edges-length at test zero = refl
@@ -73,12 +78,9 @@ edges-length at test (suc k) = length-append (invertedEdges at test k) _ ∙ ome
     go false = refl
 
 module _ (F : Frame) where
-  pub match-count : length (matchGates F) ≡ 2 ^ F .inputs * F .inputs
-  unfolding matchGates matching
-  match-count =
-      chains-length (F .at) (matching (F .inputs) (F .frame)) (2 ^ F .inputs)
-      ∙ total-cong (2 ^ F .inputs) _ _ (λ w h. listed-length (inputLiteral (F .inputs) (F .frame) w) (F .inputs))
-      ∙ total-each (2 ^ F .inputs) (F .inputs)
+  match-count : length (matchGates F) ≡ 2 ^ F .inputs * F .inputs
+  unfolding matchGates
+  match-count = matches-length (F .at) (F .inputs) (F .frame) (2 ^ F .inputs)
 
   pub edge-count : length (edgeGates F) ≡ F .edges
   unfolding edgeGates

@@ -2,8 +2,9 @@
 use mathlib.Core.Path.{_≡_, refl, ap, _∙_}
 use mathlib.Core.Logic.{⊎-elim}
 use mathlib.Core.List.{List, [], _∷_, _++_}
-use Prim.Native.Nat.{ℕ, zero, suc, _≤_, _<_}
+use Prim.Native.Nat.{ℕ, zero, suc, _+_, _≤_, _<_}
 use native.Mathlib.Nat.{le-of-suc-le-suc, eq-or-lt-of-le, le-suc, le-trans, le-refl}
+use native.Mathlib.Numerals.{add-one}
 use native.Mathlib.Omega.{arith}
 use lib.ListN.{length, getD, List·getD-append}
 use lib.Seq.{getD-at}
@@ -24,6 +25,11 @@ module _ {A : Type 0} (f : ℕ → A) where
       (λ (e : i ≡ k). rw e (getD-at (listed [] f k) (f k) [] d k (listed-length k)))
       (λ (l : i < k). List·getD-append (listed [] f k) _ d i (omega (arith, listed-length k)) ∙ listed-at d k i l)
       (eq-or-lt-of-le (le-of-suc-le-suc h))
+
+  -- one element more
+  pub listed-more : (k : ℕ) (x : A) → x ≡ f k → listed [] f k ++ (x ∷ []) ≡ listed [] f (k + 1)
+  unfolding grown
+  listed-more k x e = rw (add-one k, e)
 
 -- a list that begins with x
 pub listed-cons : {A : Type 0} (x : A) (f : ℕ → A) (k : ℕ) → listed (x ∷ []) f k ≡ x ∷ listed [] f k

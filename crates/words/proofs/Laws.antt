@@ -7,8 +7,8 @@ use native.Mathlib.Numerals.{add-one}
 use native.Mathlib.Omega.{arith}
 use lib.Arith.{lt-one}
 use lib.Dec.{lit<}
-use lib.ListN.{length, getD, take, drop, length-append, length-take, length-drop, take-append-drop}
-use lib.Seq.{sets, sets-eq, getD-drop, getD-take, getD-append-add, drop-drop, drop-append-add, take-at, drop-at}
+use lib.ListN.{length, getD, take, drop, set, length-append, length-take, length-drop, take-append-drop}
+use lib.Seq.{set-comm, sets, sets-eq, getD-drop, getD-take, getD-append-add, drop-drop, drop-append-add, take-at, drop-at}
 use Rattle.words.specs.Words.{numberAt, bytesOf, allBytes, Fit, none, more, stored, wordAt}
 
 -- ---- one number
@@ -156,3 +156,36 @@ stored-more k b i xs ys j e h =
     ap₂ (λ (x y : List ℕ). x ++ (allBytes k ys ++ y)) front rest
     ∙ append-assoc f a (allBytes k ys ++ drop (i + k * length (xs ++ ys)) b)
     ∙ ap (λ (x : List ℕ). f ++ x) (sym (append-assoc a (allBytes k ys) (drop (i + k * length (xs ++ ys)) b)) ∙ ap (λ (x : List ℕ). x ++ drop (i + k * length (xs ++ ys)) b) (sym (allBytes-append k xs ys)))
+
+-- ---- two stores that do not meet, in either order
+
+module _ {A : Type 0} where
+  sets-set : (l : List A) (i : ℕ) (vs : List A) (j : ℕ) (a : A) → i + length vs ≤ j → set (sets l i vs) j a ≡ sets (set l j a) i vs
+  sets-set l i [] j a h = refl
+  sets-set l i (v ∷ vs) j a h =
+      sets-set (set l i v) (suc i) vs j a (omega arith) ∙ ap (λ (l : List A). sets l (suc i) vs) (set-comm l i j v a (λ e. absurd (omega arith)))
+
+  sets-comm : (l : List A) (i : ℕ) (vs : List A) (j : ℕ) (ws : List A) → i + length vs ≤ j → sets (sets l i vs) j ws ≡ sets (sets l j ws) i vs
+  sets-comm l i vs j [] h = refl
+  sets-comm l i vs j (w ∷ ws) h =
+      ap (λ (l : List A). sets l (suc j) ws) (sets-set l i vs j w h) ∙ sets-comm (set l j w) i vs (suc j) ws (omega arith)
+
+stored-sets : (k : ℕ) (b : List ℕ) (i : ℕ) (xs : List ℕ) → i + k * length xs ≤ length b → stored k b i xs ≡ sets b i (allBytes k xs)
+unfolding stored
+stored-sets k b i xs h =
+    let n : length (allBytes k xs) ≡ k * length xs = allBytes-length k xs in
+    sym
+    (sets-eq (allBytes k xs) b i (omega arith)
+    ∙ append-assoc (take i b) (allBytes k xs) _
+    ∙ ap (λ (n : ℕ). take i b ++ (allBytes k xs ++ drop (i + n) b)) n)
+
+pub stored-comm : (k : ℕ) (b : List ℕ) (i : ℕ) (xs : List ℕ) (j : ℕ) (ys : List ℕ) → i + k * length xs ≤ j → j + k * length ys ≤ length b
+    → stored k (stored k b i xs) j ys ≡ stored k (stored k b j ys) i xs
+stored-comm k b i xs j ys h room =
+    let p : length (stored k b i xs) ≡ length b = stored-length k b i xs (omega arith) in
+    let q : length (stored k b j ys) ≡ length b = stored-length k b j ys room in
+    stored-sets k (stored k b i xs) j ys (omega arith)
+    ∙ ap (λ (l : List ℕ). sets l j (allBytes k ys)) (stored-sets k b i xs (omega arith))
+    ∙ sets-comm b i (allBytes k xs) j (allBytes k ys) (omega (arith, allBytes-length k xs))
+    ∙ ap (λ (l : List ℕ). sets l i (allBytes k xs)) (sym (stored-sets k b j ys room))
+    ∙ sym (stored-sets k (stored k b j ys) i xs (omega arith))

@@ -36,6 +36,9 @@ shared-slice-read-is-set c =
     let a = c .before .before .before .before in
     div-lt-iff-lt-mul {k = a .args .inputs} (omega arith) .1 (omega arith)
 
+cast-is-set : tie.Need-cast-is-set Inv-loop μ-loop
+cast-is-set c = let l = c .before .before in omega (arith, c .shared-slice-known2 .given (l .loop .i / l .before .before .args .inputs))
+
 rem-is-set : tie.Need-rem-is-set Inv-loop μ-loop
 rem-is-set c = omega arith
 
@@ -80,6 +83,7 @@ input-values-spec =
     div-is-set
     mul-is-set
     shared-slice-read-is-set
+    cast-is-set
     rem-is-set
     is-set-requires
     add-values

@@ -6,9 +6,6 @@ use borrow.Author.Needs.{needs}
 use Rattle.circuit.proofs.is_set.Statement.{statement}
 use Rattle.circuit.proofs.is_set.Tie as tie
 
-cast-result : tie.Need-cast-result
-cast-result c = search needs
-
 shr-result : tie.Need-shr-result
 shr-result c = search needs
 
@@ -17,4 +14,4 @@ unfolding bit
 returns c = refl
 
 pub is-set-spec : {M : Type 1} → statement M
-is-set-spec = tie.close (tie.spec cast-result shr-result returns)
+is-set-spec = tie.close (tie.spec shr-result returns)
