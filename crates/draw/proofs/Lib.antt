@@ -3,3 +3,4 @@ pub mod Laws
 pub mod Stored
 pub mod Edges
 pub mod Parts
+pub mod Frames

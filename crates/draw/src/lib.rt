@@ -20,7 +20,7 @@ ghost use Rattle.sizes.specs.Sizes.{inputs, outputs, frames};
 ghost use Rattle.circuit.specs.Lists.{listed};
 ghost use Rattle.table.specs.Table.{states, entryCount, layerPart};
 ghost use Rattle.table.specs.Headed.{Headed, Sound, layoutOf};
-ghost use Rattle.unfolded.specs.Unfolded.{inverted, chain, chains, ending, inputLiteral, matching, frameOf, frameGates, drawing, drawn};
+ghost use Rattle.unfolded.specs.Unfolded.{inverted, chain, chains, ending, inputLiteral, matching, outLiteral, frameOf, frameGates, drawing, drawn};
 ghost use Rattle.draw.specs.Drawn.{Fits, targetOf, gatesStored, matchOf, edgeOf, gathering};
 
 // The circuit that is drawn: its inputs in a frame and how many words they have, its outputs in a frame, the signal of its first gate, and
@@ -156,6 +156,63 @@ fn put_layer(
         k,
         literals,
         at,
+        result,
+    )
+}
+
+// The gates of frame t, from gate k on: the match chains, the edges, and the gather chains of the next states and of the outputs. `states` has
+// the literals of layer t's states and is left with those of the next layer; the literals of the outputs go behind those of earlier frames.
+// Answers where the gates end.
+fn put_frame(
+    table: &[u8],
+    layout: Layout,
+    target: Target,
+    t: usize,
+    k: usize,
+    states: &mut [u16],
+    outputs: &mut [u16],
+    result: &mut [u8],
+) -> usize
+    requires { ⌜ Sound (now table) ⌝ }
+    requires { ⌜ layout ≡ layoutOf (now table) ⌝ }
+    requires { ⌜ (target ≡ targetOf (now table)) × Fits target (now result) ⌝ }
+    requires { ⌜ (t < frames (now table)) × (k ≡ length (drawing (now table) t .gates)) ⌝ }
+    requires { ⌜ (length (now states) ≡ 2048) × (take (length (drawing (now table) t .states)) (now states) ≡ drawing (now table) t .states) ⌝ }
+    requires { ⌜ length (now outputs) ≡ 256 ⌝ }
+    ensures gates { λ _. ⌜ now (result .exit) ≡ gatesStored (target .gates) k (now (result .entry)) (frameGates (frameOf (now (table .entry)) t (drawing (now (table .entry)) t))) ⌝ }
+    ensures states { λ _. ⌜ now (states .exit) ≡ sets (now (states .entry)) 0 (drawing (now (table .entry)) (suc t) .states) ⌝ }
+    ensures outputs { λ _. ⌜ now (outputs .exit) ≡ sets (now (outputs .entry)) (target .outputs * t) (listed [] (outLiteral (frameOf (now (table .entry)) t (drawing (now (table .entry)) t))) (target .outputs)) ⌝ }
+    ensures end { λ r. ⌜ r ≡ length (drawing (now (table .entry)) (suc t) .gates) ⌝ }
+{
+    let edges = put_matches(target, t, k, result);
+    let count = states_of(table, t) * target.words;
+    put_edges(target, states, k, count, edges, result);
+    let nexts = drawn_states(table, layout, t + 1);
+    let gathers = put_layer(
+        table,
+        layout.nexts,
+        t,
+        target,
+        edges,
+        true,
+        nexts,
+        edges + count,
+        states,
+        0,
+        result,
+    );
+    let seen = target.outputs * t;
+    put_layer(
+        table,
+        layout.outputs,
+        t,
+        target,
+        edges,
+        false,
+        target.outputs,
+        gathers,
+        outputs,
+        seen,
         result,
     )
 }

@@ -78,7 +78,7 @@ edges-length at test (suc k) = length-append (invertedEdges at test k) _ ∙ ome
     go false = refl
 
 module _ (F : Frame) where
-  match-count : length (matchGates F) ≡ 2 ^ F .inputs * F .inputs
+  pub match-count : length (matchGates F) ≡ 2 ^ F .inputs * F .inputs
   unfolding matchGates
   match-count = matches-length (F .at) (F .inputs) (F .frame) (2 ^ F .inputs)
 
@@ -100,7 +100,7 @@ module _ (F : Frame) where
       ∙ total-cong (F .outputs) _ _ (λ j h. edges-length (edgesAt F) (λ e. bit (F .out e) j) (F .edges))
       ∙ total-swap (F .outputs) (F .edges) (λ e j. bit (F .out e) j)
 
-  frame-count : length (frameGates F) ≡ length (matchGates F) + (length (edgeGates F) + (length (nextGates F) + length (outGates F)))
+  pub frame-count : length (frameGates F) ≡ length (matchGates F) + (length (edgeGates F) + (length (nextGates F) + length (outGates F)))
   unfolding frameGates
   frame-count =
       length-append (matchGates F) (edgeGates F ++ (nextGates F ++ outGates F))

@@ -1,5 +1,5 @@
 -- Lists that are made one element at a time, and lists of literals below a bound.
-use mathlib.Core.Path.{_≡_, refl, ap, _∙_}
+use mathlib.Core.Path.{_≡_, refl, ap, ap₂, _∙_}
 use mathlib.Core.Logic.{⊎-elim}
 use mathlib.Core.List.{List, [], _∷_, _++_}
 use Prim.Native.Nat.{ℕ, zero, suc, _+_, _≤_, _<_}
@@ -30,6 +30,11 @@ module _ {A : Type 0} (f : ℕ → A) where
   pub listed-more : (k : ℕ) (x : A) → x ≡ f k → listed [] f k ++ (x ∷ []) ≡ listed [] f (k + 1)
   unfolding grown
   listed-more k x e = rw (add-one k, e)
+
+pub listed-cong : {A : Type 0} (f g : ℕ → A) (k : ℕ) → ((i : ℕ) → i < k → f i ≡ g i) → listed [] f k ≡ listed [] g k
+unfolding grown
+listed-cong f g zero h = refl
+listed-cong {A} f g (suc k) h = ap₂ (λ (l : List A) (x : A). l ++ (x ∷ [])) (listed-cong f g k (λ i l. h i (le-trans l (le-suc k)))) (h k (le-refl (suc k)))
 
 -- a list that begins with x
 pub listed-cons : {A : Type 0} (x : A) (f : ℕ → A) (k : ℕ) → listed (x ∷ []) f k ≡ x ∷ listed [] f k
