@@ -3,13 +3,14 @@ use mathlib.Core.Path.{_≡_, refl, sym, ap, ap₂, _∙_, fun-ext}
 use mathlib.Core.Bool.{Bool, true, false, cond}
 use mathlib.Core.List.{List, [], _∷_, _++_, append-assoc}
 use Prim.Native.Nat.{ℕ, zero, suc, _+_, _*_, _-_, _/_, _%_, _^_, _≤_, _<_}
-use native.Mathlib.Nat.{le-refl, mod-lt, div-add-mod', div-lt-iff-lt-mul, mul-le-mul-left}
+use native.Mathlib.Nat.{le-refl, mod-lt, div-add-mod', div-lt-iff-lt-mul, mul-le-mul-left, mul-suc}
+use native.Mathlib.Numerals.{add-one}
 use native.Mathlib.Decide.{le-ind}
 use native.Mathlib.Omega.{arith}
 use lib.Dec.{ltb, eqb}
 use lib.Pow.{pow-pos, pow-mono}
-use lib.ListN.{length, getD, take, drop, length-append}
-use lib.Seq.{getD-take}
+use lib.ListN.{length, getD, take, length-append, length-take}
+use lib.Seq.{getD-take, take-at, sets, sets-eq}
 use borrow.Author.Tests.{ne-eqb, ltb-true}
 use Rattle.words.specs.Words.{wordAt}
 use Rattle.sizes.specs.Sizes.{inputs, outputs, frames}
@@ -17,7 +18,7 @@ use Rattle.circuit.specs.Lists.{grown, listed, bit}
 use Rattle.table.specs.Table.{states, entriesBelow, entryCount, outputsAt, nextsAt, entryAt, layerPart, machine}
 use Rattle.table.specs.Headed.{Headed}
 use Rattle.table.proofs.Offsets.{arrays-stand, part-word}
-use Rattle.unfolded.specs.Unfolded.{lastOf, chains, ending, inverted, Frame, matching, matchGates, matchLiteral, edgesAt, edgeGate, edgeGates, invertedEdges, nextGatesAt, entering, nextGates, nextLiteral, outGatesAt, withBit, outGates, outLiteral, frameGates, Drawing, frameOf, drawing, withFrame, gatesNeeded}
+use Rattle.unfolded.specs.Unfolded.{lastOf, chains, ending, inverted, Frame, matching, matchGates, matchLiteral, edgesAt, edgeGate, edgeGates, invertedEdges, nextGatesAt, entering, nextGates, nextLiteral, outGatesAt, withBit, outGates, outLiteral, frameGates, Drawing, frameOf, drawing, withFrame, outputGate, drawn, gatesNeeded}
 use Rattle.unfolded.proofs.Lists.{listed-length, listed-cong}
 use Rattle.unfolded.proofs.Drawings.{drawn-length, frame-nexts}
 use Rattle.unfolded.proofs.Counts.{matches-length, match-count, edge-count, frame-count}
@@ -186,12 +187,13 @@ module _ (b : List ℕ) where
   unfolding drawing withFrame
   frame-ends t = length-append (drawing b t .gates) _
 
+  pub gates-mono : (t u : ℕ) → t ≤ u → length (drawing b t .gates) ≤ length (drawing b u .gates)
+  gates-mono t u h = le-ind (λ u. length (drawing b t .gates) ≤ length (drawing b u .gates)) (le-refl _) (λ u _ p. omega (arith, frame-ends u)) u h
+
   -- the gates of a frame are among all
   pub frame-room : (t : ℕ) → t < frames b → length (drawing b t .gates) + length (frameGates (frameOf b t (drawing b t))) ≤ gatesNeeded b
   unfolding gatesNeeded
-  frame-room t h =
-      omega
-      (arith, drawn-length b, frame-ends t, le-ind (λ u. length (drawing b (suc t) .gates) ≤ length (drawing b u .gates)) (le-refl _) (λ u _ p. omega (arith, frame-ends u)) (frames b) h)
+  frame-room t h = omega (arith, drawn-length b, frame-ends t, gates-mono (suc t) (frames b) h)
 
   -- so a layer that is drawn has few states
   pub frame-edges : (t : ℕ) (d : Drawing) → frameOf b t d .edges ≡ states b t * 2 ^ inputs b
@@ -221,3 +223,52 @@ module _ (b : List ℕ) where
   pub states-next : (t : ℕ) → let F : Frame = frameOf b t (drawing b t) in drawing b (suc t) .states ≡ listed [] (nextLiteral F) (F .nexts)
   unfolding drawing withFrame
   states-next t = refl
+
+-- ---- all frames
+
+-- one frame more, behind those that are stored
+pub drawn-more : (b : List ℕ) (G : ℕ) (v w w′ : List ℕ) (t k : ℕ) → w ≡ gatesStored G 0 v (drawing b t .gates) → k ≡ length (drawing b t .gates)
+    → w′ ≡ gatesStored G k w (frameGates (frameOf b t (drawing b t))) → length (drawing b (suc t) .gates) ≤ G → 8 + 4 * G ≤ length v
+    → w′ ≡ gatesStored G 0 v (drawing b (suc t) .gates)
+unfolding drawing withFrame
+drawn-more b G v w w′ t k ew ek e h room =
+    let fs : List (ℕ × ℕ) = frameGates (frameOf b t (drawing b t)) in
+    e ∙ ap (λ (w : List ℕ). gatesStored G k w fs) ew ∙ gates-append G 0 v (drawing b t .gates) fs k (omega arith) (omega (arith, frame-ends b t)) room
+
+-- literals that are kept behind others
+pub kept-behind : (v xs ys : List ℕ) (n m : ℕ) → take n v ≡ ys → n + length xs ≤ length v → m ≡ n + length xs → take m (sets v n xs) ≡ ys ++ xs
+kept-behind v xs ys n m e h em =
+    ap (take m) (sets-eq xs v n h) ∙ take-at (take n v ++ xs) _ m (length-append (take n v) xs ∙ omega (arith, length-take n v)) ∙ ap (λ (l : List ℕ). l ++ xs) e
+
+module _ (b : List ℕ) where
+  pub states-kept : (v w : List ℕ) (t u : ℕ) → u ≡ suc t → w ≡ sets v 0 (drawing b (suc t) .states) → length (drawing b (suc t) .states) ≤ length v
+      → take (length (drawing b u .states)) w ≡ drawing b u .states
+  states-kept v w t u eu ew h = rw (eu, ew) (kept-behind v (drawing b (suc t) .states) [] 0 (length (drawing b (suc t) .states)) refl (omega arith) (omega arith))
+
+  pub outputs-kept : (v : List ℕ) (t m : ℕ) → m ≡ outputs b → take (m * t) v ≡ drawing b t .outputs → m * t + m ≤ length v
+      → take (m * (t + 1)) (sets v (m * t) (listed [] (outLiteral (frameOf b t (drawing b t))) m)) ≡ drawing b (suc t) .outputs
+  unfolding drawing withFrame frameOf
+  outputs-kept v t m em e h =
+      let ls : List ℕ = listed [] (outLiteral (frameOf b t (drawing b t))) m in
+      let n : length ls ≡ m = listed-length _ m in
+      kept-behind v ls (drawing b t .outputs) (m * t) (m * (t + 1)) e (omega arith) (omega (arith, mul-suc m t, ap (λ (k : ℕ). m * k) (add-one t)))
+      ∙ ap (λ (k : ℕ). drawing b t .outputs ++ listed [] (outLiteral (frameOf b t (drawing b t))) k) em
+
+  -- a layer that is drawn has a literal for each state, and the last has none
+  pub states-few : (t : ℕ) → (suc t < frames b → states b (suc t) ≤ 2048) → length (drawing b (suc t) .states) ≤ 2048
+  unfolding frameOf
+  states-few t h = rw (states-next b t, listed-length) (few-drawn b (suc t) h)
+
+  -- the output gates, behind all frames
+  pub outputs-drawn : (G : ℕ) (v w w′ : List ℕ) (k q : ℕ) (ls : List ℕ) → w ≡ gatesStored G 0 v (drawing b (frames b) .gates) → k ≡ length (drawing b (frames b) .gates)
+      → take q ls ≡ drawing b (frames b) .outputs → q ≡ outputs b * frames b → w′ ≡ gatesStored G k w (listed [] (λ i. (getD ls i 0, 1)) q) → k + q ≤ G → 8 + 4 * G ≤ length v
+      → w′ ≡ gatesStored G 0 v (drawn b)
+  unfolding drawn outputGate
+  outputs-drawn G v w w′ k q ls ew ek el eq e h room =
+      let d : Drawing = drawing b (frames b) in
+      let f : ℕ → ℕ × ℕ = λ i. (getD ls i 0, 1) in
+      let gs : List (ℕ × ℕ) = listed [] f q in
+      let same : gs ≡ listed [] (outputGate d) (outputs b * frames b) =
+      listed-cong f (outputGate d) q (λ i l. ap (λ (x : ℕ). (x, 1)) (sym (getD-take q ls i 0 l) ∙ ap (λ (l : List ℕ). getD l i 0) el)) ∙ ap (listed [] (outputGate d)) eq in
+      e ∙ ap (λ (w : List ℕ). gatesStored G k w gs) ew ∙ gates-append G 0 v (d .gates) gs k (omega arith) (omega (arith, listed-length f q)) room
+      ∙ ap (λ (hs : List (ℕ × ℕ)). gatesStored G 0 v (d .gates ++ hs)) same

@@ -11,10 +11,10 @@ use table::head::entries_below;
 use table::head::states_of;
 ghost use mathlib.Core.Path.{_≡_};
 ghost use mathlib.Core.Bool.{false, cond};
-ghost use mathlib.Core.List.{[]};
+ghost use mathlib.Core.List.{_∷_, []};
 ghost use Prim.Native.Nat.{suc, _+_, _*_, _/_, _^_, _≤_, _<_};
 ghost use lib.Dec.{ltb};
-ghost use lib.ListN.{length, take};
+ghost use lib.ListN.{length, getD, take, replicate};
 ghost use lib.Seq.{sets};
 ghost use Rattle.sizes.specs.Sizes.{inputs, outputs, frames};
 ghost use Rattle.circuit.specs.Lists.{listed};
@@ -215,4 +215,58 @@ fn put_frame(
         seen,
         result,
     )
+}
+
+// The literals of the states of layer 0: that of the start is 1.
+fn start_states() -> [u16; Limits::STATES]
+    ensures { λ r. ⌜ take 1 r ≡ 1 ∷ [] ⌝ }
+{
+    let mut states = [0; Limits::STATES];
+    states[0] = 1;
+    states
+}
+
+// No literals of outputs yet.
+fn no_outputs() -> [u16; Limits::OUTPUTS]
+    ensures { λ r. ⌜ r ≡ replicate 256 0 ⌝ }
+{
+    [0; Limits::OUTPUTS]
+}
+
+// The output gates, from gate k on: left the literal of an output, right literal 1.
+fn put_outputs(target: Target, outputs: &[u16], count: usize, k: usize, result: &mut [u8])
+    requires { ⌜ Fits target (now result) ⌝ }
+    requires { ⌜ (k + count ≤ target .gates) × (count ≤ length (now outputs)) ⌝ }
+    ensures { λ _. ⌜ now (result .exit) ≡ gatesStored (target .gates) k (now (result .entry)) (listed [] (λ q. (getD (now (outputs .entry)) q 0, 1)) count) ⌝ }
+{
+    for q in 0..count {
+        let output = outputs[q] as usize;
+        put_gate(target, k + q, output, 1, result);
+    }
+}
+
+// Draws all gates of a table.
+pub fn draw(table: &[u8], layout: Layout, target: Target, result: &mut [u8])
+    requires { ⌜ Sound (now table) ⌝ }
+    requires { ⌜ layout ≡ layoutOf (now table) ⌝ }
+    requires { ⌜ (target ≡ targetOf (now table)) × Fits target (now result) ⌝ }
+    ensures { λ _. ⌜ now (result .exit) ≡ gatesStored (target .gates) 0 (now (result .entry)) (drawn (now (table .entry))) ⌝ }
+{
+    let mut states = start_states();
+    let mut outputs = no_outputs();
+    let frames = layout.frames;
+    let mut k = 0;
+    for t in 0..frames {
+        k = put_frame(
+            table,
+            layout,
+            target,
+            t,
+            k,
+            &mut states,
+            &mut outputs,
+            result,
+        );
+    }
+    put_outputs(target, &outputs, target.outputs * frames, k, result);
 }

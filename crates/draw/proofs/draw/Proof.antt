@@ -1,0 +1,209 @@
+-- `draw::draw` meets its contract. The invariant: the gates of the first t frames are stored, and the literals of the states that they reach and
+-- of their outputs are kept.
+-- Assumes nothing.
+use mathlib.Core.Path.{_≡_, refl, sym, ap, _∙_}
+use mathlib.Core.List.{List, _∷_, []}
+use Prim.Native.Nat.{ℕ, suc, _+_, _*_, _-_, _≤_, _<_}
+use native.Mathlib.Nat.{mul-zero, mul-suc, mul-le-mul, le-trans}
+use native.Mathlib.Numerals.{add-one}
+use native.Mathlib.Omega.{arith}
+use borrow.Author.Needs.{needs}
+use denote.Ref.{now}
+use lib.ListN.{length, take, length-take}
+use lib.Seq.{sets, length-sets}
+use Rattle.circuit.specs.Lists.{listed}
+use Rattle.sizes.specs.Sizes.{outputs as outputsOf, frames as framesOf}
+use Rattle.table.proofs.Offsets.{laid}
+use Rattle.unfolded.specs.Unfolded.{outLiteral, frameOf, drawing, drawn, gatesNeeded}
+use Rattle.unfolded.proofs.Drawings.{drawn-length}
+use Rattle.draw.specs.Drawn.{Fits, targetOf, gatesStored}
+use Rattle.draw.specs.declared.Target.{Target}
+use Rattle.draw.proofs.Stored.{gates-none, gates-length, fits-still}
+use Rattle.draw.proofs.Frames.{frame-ends, frame-room, few-states, drawn-more, states-kept, outputs-kept, states-few, gates-mono, outputs-drawn}
+use Rattle.draw.proofs.draw.Statement.{statement}
+use Rattle.draw.proofs.draw.Tie as tie
+
+abbrev Inv-loop : tie.InvT-loop
+Inv-loop table layout target result₀ states₀ outputs₀ frames k₀ t₀ result states outputs k t =
+    (t ≤ frames) × (k ≡ length (drawing table t .gates)) × (result ≡ gatesStored (target .gates) 0 result₀ (drawing table t .gates))
+    × (length states ≡ 2048) × (take (length (drawing table t .states)) states ≡ drawing table t .states)
+    × (length outputs ≡ 256) × (take (target .outputs * t) outputs ≡ drawing table t .outputs)
+
+abbrev μ-loop : tie.MeasureT-loop
+μ-loop table layout target result₀ states₀ outputs₀ frames k₀ t₀ result states outputs k t = frames - t
+
+start-states-requires : tie.Need-start-states-requires Inv-loop μ-loop
+start-states-requires c κs = tt
+
+no-outputs-requires : tie.Need-no-outputs-requires Inv-loop μ-loop
+no-outputs-requires c κs = tt
+
+loop-holds : tie.Need-loop-holds Inv-loop μ-loop
+unfolding drawing
+loop-holds c =
+    let m : ℕ = c .before .before .before .before .args .target .outputs in (
+      omega arith,
+      refl,
+      sym (gates-none _ _ _),
+      search needs,
+      c .before .start-states .ensures,
+      search needs,
+      rw (mul-zero m) refl,
+    )
+
+-- at the loop's head: the entry of the function, and its circuit's gates, which have room
+abbrev start : tie.At-loop Inv-loop μ-loop → tie.Start Inv-loop μ-loop
+start l = l .before .before .before .before .before
+
+abbrev b₀ : tie.At-loop Inv-loop μ-loop → List ℕ
+b₀ l = now (start l .args .table)
+
+aim : (l : tie.At-loop Inv-loop μ-loop) → start l .args .target ≡ targetOf (b₀ l)
+aim l = start l .pre .1 .1 .0
+
+fit : (l : tie.At-loop Inv-loop μ-loop) → Fits (start l .args .target) (now (start l .args .result))
+fit l = start l .pre .1 .1 .1
+
+gates-are : (l : tie.At-loop Inv-loop μ-loop) → start l .args .target .gates ≡ gatesNeeded (b₀ l)
+gates-are l = ap (λ (target : Target). target .gates) (aim l)
+
+all-gates : (l : tie.At-loop Inv-loop μ-loop) → start l .args .target .gates ≡ length (drawing (b₀ l) (framesOf (b₀ l)) .gates) + outputsOf (b₀ l) * framesOf (b₀ l)
+unfolding gatesNeeded
+all-gates l = gates-are l ∙ drawn-length (b₀ l)
+
+frames-are : (l : tie.At-loop Inv-loop μ-loop) → start l .args .layout .frames ≡ framesOf (b₀ l)
+frames-are l = laid (b₀ l) (start l .args .layout) (start l .pre .0 .headed) (start l .pre .1 .0) .frames-is
+
+outputs-are : (l : tie.At-loop Inv-loop μ-loop) → start l .args .target .outputs ≡ outputsOf (b₀ l)
+outputs-are l = ap (λ (target : Target). target .outputs) (aim l)
+
+within : (l : tie.At-loop Inv-loop μ-loop) → length (drawing (b₀ l) (l .loop .t) .gates) ≤ start l .args .target .gates
+within l = omega (arith, all-gates l, gates-mono (b₀ l) (l .loop .t) (framesOf (b₀ l)) (omega (arith, l .loop .inv .0, frames-are l)))
+
+still : (l : tie.At-loop Inv-loop μ-loop) → Fits (start l .args .target) (l .loop .result)
+still l = fits-still (start l .args .target) (now (start l .args .result)) (l .loop .result) 0 (drawing (b₀ l) (l .loop .t) .gates) (fit l) (l .loop .inv .2) (omega (arith, within l))
+
+-- in a turn: the frame is one of the table's
+early : (i : tie.In-loop Inv-loop μ-loop) → i .before .loop .t < framesOf (b₀ (i .before))
+early i = omega (arith, i .loop-test .taken, frames-are (i .before))
+
+slice-aggregate-put-frame : tie.Need-slice-aggregate-put-frame Inv-loop μ-loop
+slice-aggregate-put-frame c = sym (c .before .before .loop .inv .3)
+
+slice-aggregate-put-frame-2 : tie.Need-slice-aggregate-put-frame-2 Inv-loop μ-loop
+slice-aggregate-put-frame-2 c = sym (c .before .before .before .loop .inv .5)
+
+put-frame-requires : tie.Need-put-frame-requires Inv-loop μ-loop
+put-frame-requires c κs =
+    let i = c .before .before .before in
+    let l = i .before in
+    let s = start l in
+    (s .pre .0, (s .pre .1 .0, ((aim l, still l), ((early i, l .loop .inv .1), ((l .loop .inv .3, l .loop .inv .4), l .loop .inv .5)))))
+
+add-t : tie.Need-add-t Inv-loop μ-loop
+add-t c = let i = c .before .before .before .before .before .before .before .before in omega (arith, early i, start (i .before) .pre .0 .headed .sized)
+
+loop-less : tie.Need-loop-less Inv-loop μ-loop
+loop-less c = omega arith
+
+-- there is a place for each output
+places : (i : tie.In-loop Inv-loop μ-loop) → start (i .before) .args .target .outputs * i .before .loop .t + start (i .before) .args .target .outputs ≤ 256
+places i =
+    let l = i .before in
+    omega (arith, mul-suc (start l .args .target .outputs) (l .loop .t), mul-le-mul (fit l .outputs-to) (le-trans (early i) (start l .pre .0 .headed .sized .frames-to)))
+
+loop-again : tie.Need-loop-again Inv-loop μ-loop
+loop-again c =
+    let p = c .before .before .before .before in
+    let i = c .before .before .before .before .before .before .before .before in
+    let l = i .before in
+    let s = start l in
+    let b = b₀ l in
+    let t : ℕ = l .loop .t in
+    let a = s .args .target in
+    let f = p .put-frame in
+    let few : length (drawing b (suc t) .states) ≤ 2048 =
+    states-few b t (λ h. few-states b (suc t) h (s .pre .0 .headed .sized .inputs-from) (omega (arith, gates-are l, fit l .gates-to))) in
+    let e : t + 1 ≡ suc t = add-one t in (
+      omega (arith, i .loop-test .taken),
+      f .ensures .1 .1 .1 ∙ ap (λ (t : ℕ). length (drawing b t .gates)) (sym e),
+      drawn-more b (a .gates) (now (s .args .result)) (l .loop .result) _ t (l .loop .k) (l .loop .inv .2) (l .loop .inv .1) (f .ensures .0)
+          (omega (arith, gates-are l, frame-ends b t, frame-room b t (early i))) (fit l .room)
+          ∙ ap (λ (t : ℕ). gatesStored (a .gates) 0 (now (s .args .result)) (drawing b t .gates)) (sym e),
+      ap length (f .ensures .1 .0) ∙ length-sets (l .loop .states) 0 (drawing b (suc t) .states) ∙ l .loop .inv .3,
+      states-kept b (l .loop .states) _ t (t + 1) e (f .ensures .1 .0) (omega (arith, few, l .loop .inv .3)),
+      ap length (f .ensures .1 .1 .0) ∙ length-sets (l .loop .outputs) (a .outputs * t) (listed [] (outLiteral (frameOf b t (drawing b t))) (a .outputs)) ∙ l .loop .inv .5,
+      ap (take (a .outputs * (t + 1))) (f .ensures .1 .1 .0) ∙ outputs-kept b (l .loop .outputs) t (a .outputs) (outputs-are l) (l .loop .inv .6) (omega (arith, places i, l .loop .inv .5))
+          ∙ ap (λ (t : ℕ). drawing b t .outputs) (sym e),
+    )
+
+-- ---- the output gates
+
+-- at the end: all frames are drawn, and there is room for the output gates
+ended : (x : tie.After-loop Inv-loop μ-loop) → x .before .loop .t ≡ framesOf (b₀ (x .before))
+ended x = omega (arith, x .loop-test .left, x .before .loop .inv .0, frames-are (x .before))
+
+total-is : (l : tie.At-loop Inv-loop μ-loop) → start l .args .target .outputs * start l .args .layout .frames ≡ outputsOf (b₀ l) * framesOf (b₀ l)
+total-is l = λ i. outputs-are l i * frames-are l i
+
+few-outputs : (l : tie.At-loop Inv-loop μ-loop) → start l .args .target .outputs * start l .args .layout .frames ≤ 256
+few-outputs l = let h : start l .args .layout .frames ≤ 16 = omega (arith, frames-are l, start l .pre .0 .headed .sized) in mul-le-mul (fit l .outputs-to) h
+
+room : (x : tie.After-loop Inv-loop μ-loop)
+    → x .before .loop .k + start (x .before) .args .target .outputs * start (x .before) .args .layout .frames ≤ start (x .before) .args .target .gates
+room x = let l = x .before in omega (arith, all-gates l, total-is l, l .loop .inv .1, ap (λ (t : ℕ). length (drawing (b₀ l) t .gates)) (ended x))
+
+slice-aggregate-put-outputs : tie.Need-slice-aggregate-put-outputs Inv-loop μ-loop
+slice-aggregate-put-outputs c = sym (c .before .before .loop .inv .5)
+
+mul-put-outputs : tie.Need-mul-put-outputs Inv-loop μ-loop
+mul-put-outputs c = omega (arith, few-outputs (c .before .before .before))
+
+put-outputs-requires : tie.Need-put-outputs-requires Inv-loop μ-loop
+put-outputs-requires c κs =
+    let x = c .before .before .before in
+    let l = x .before in
+    (still l, (room x, omega (arith, few-outputs l, l .loop .inv .5)))
+
+drawn-all : (p : tie.After-put-outputs Inv-loop μ-loop) → p .put-outputs .last .1 .1 .1 .1 .0
+    ≡ gatesStored (start (p .before .before .before .before .before) .args .target .gates) 0 (now (start (p .before .before .before .before .before) .args .result)) (drawn (b₀ (p .before .before .before .before .before)))
+drawn-all p =
+    let x = p .before .before .before .before in
+    let l = x .before in
+    let s = start l in
+    outputs-drawn (b₀ l) (s .args .target .gates) (now (s .args .result)) (l .loop .result) _ (l .loop .k) (s .args .target .outputs * s .args .layout .frames) (l .loop .outputs)
+    (l .loop .inv .2 ∙ ap (λ (t : ℕ). gatesStored (s .args .target .gates) 0 (now (s .args .result)) (drawing (b₀ l) t .gates)) (ended x))
+    (l .loop .inv .1 ∙ ap (λ (t : ℕ). length (drawing (b₀ l) t .gates)) (ended x))
+    (ap (λ (t : ℕ). take (s .args .target .outputs * t) (l .loop .outputs)) (frames-are l ∙ sym (ended x)) ∙ l .loop .inv .6 ∙ ap (λ (t : ℕ). drawing (b₀ l) t .outputs) (ended x))
+    (total-is l) (p .put-outputs .ensures) (room x) (fit l .room)
+
+same-length : tie.Need-same-length Inv-loop μ-loop
+unfolding gatesNeeded
+same-length c =
+    let p = c .before .before in
+    let l = p .before .before .before .before .before in
+    ap length (drawn-all p) ∙ gates-length _ 0 _ (drawn (b₀ l)) (omega (arith, gates-are l)) (fit l .room)
+
+returns : tie.Need-returns Inv-loop μ-loop
+returns c = drawn-all (c .before .before)
+
+pub draw-spec : {M : Type 1} → statement M
+draw-spec =
+    tie.close
+    (tie.spec
+    Inv-loop
+    μ-loop
+    start-states-requires
+    no-outputs-requires
+    loop-holds
+    slice-aggregate-put-frame
+    slice-aggregate-put-frame-2
+    put-frame-requires
+    add-t
+    loop-less
+    loop-again
+    slice-aggregate-put-outputs
+    mul-put-outputs
+    put-outputs-requires
+    same-length
+    returns)
