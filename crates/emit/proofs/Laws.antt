@@ -8,12 +8,12 @@ use native.Mathlib.Omega.{arith}
 use lib.Arith.{lt-one}
 use lib.Dec.{T, eqb→eq}
 use mathlib.Core.Logic.{⊎-elim}
-use lib.ListN.{length, getD, take, length-append, length-take}
-use lib.Seq.{take-suc, ext-getD, getD-take}
+use lib.ListN.{length, take, length-append, length-take}
+use lib.Seq.{ext-getD, getD-take}
 use native.Mathlib.Decide.{le-ind}
 use native.Mathlib.Numerals.{add-one}
 use Rattle.words.specs.Words.{stored}
-use Rattle.words.proofs.Laws.{stored-more}
+use Rattle.words.proofs.Laws.{stored-more, stored-behind}
 use Rattle.sizes.specs.Sizes.{inputs, outputs, frames}
 use Rattle.layered.specs.Search.{tally, join, tabulate}
 use Rattle.layered.specs.States.{number, count, first, history, smallest}
@@ -40,11 +40,6 @@ word-more r₀ r at w f j x er ej room ex =
     ap₂ (λ (b : List ℕ) (x : ℕ). stored 2 b j (x ∷ [])) er ex
     ∙ stored-more 2 r₀ at (tabulate w f) (f w ∷ []) j (omega arith) (omega arith)
     ∙ ap (λ (k : ℕ). stored 2 r₀ at (tabulate k f)) (sym (add-one w))
-
--- more words, stored behind those that were
-pub words-more : (r₀ r : List ℕ) (at : ℕ) (xs ys : List ℕ) (j : ℕ) → r ≡ stored 2 r₀ at xs → j ≡ at + 2 * length xs → at + 2 * length xs ≤ length r₀
-    → stored 2 r j ys ≡ stored 2 r₀ at (xs ++ ys)
-words-more r₀ r at xs ys j er ej room = ap (λ (b : List ℕ). stored 2 b j ys) er ∙ stored-more 2 r₀ at xs ys j ej room
 
 -- ---- entries, rows and layers
 
@@ -153,7 +148,7 @@ module _ (b : List ℕ) (nexts : Bool) (t h : ℕ) where
       ap length more ∙ length-append (layerWords b nexts t h) (rowWords b nexts t h) ∙ ap (λ (k : ℕ). length (layerWords b nexts t h) + k) (row-length b nexts t h) in (
         rw (add-one h) (omega (arith, tally-more here h f)),
         omega arith,
-        words-more r₀ r at (layerWords b nexts t h) (rowWords b nexts t h) end er ee room ∙ ap (stored 2 r₀ at) (sym more),
+        stored-behind 2 r₀ r at (layerWords b nexts t h) (rowWords b nexts t h) end er ee room ∙ ap (stored 2 r₀ at) (sym more),
       )
 
   -- it is not: nothing changes
@@ -177,16 +172,6 @@ module _ (b : List ℕ) (nexts : Bool) where
   array-most t u h =
       le-ind (λ u. length (arrayWords b nexts t) ≤ length (arrayWords b nexts u)) (le-refl _)
       (λ u _ p. omega (arith, array-more u, ap (λ u. length (arrayWords b nexts u)) (add-one u))) u h
-
--- ---- lists that are stored whole
-
--- one number more of the list xs
-pub taken-more : (r₀ r : List ℕ) (at i : ℕ) (xs : List ℕ) (j : ℕ) → r ≡ stored 2 r₀ at (take i xs) → j ≡ at + 2 * i → at + 2 * i ≤ length r₀ → i < length xs
-    → stored 2 r j (getD xs i 0 ∷ []) ≡ stored 2 r₀ at (take (i + 1) xs)
-taken-more r₀ r at i xs j er ej room h =
-    let l : length (take i xs) ≡ i = length-take i xs ∙ omega arith in
-    words-more r₀ r at (take i xs) (getD xs i 0 ∷ []) j er (omega arith) (omega arith)
-    ∙ ap (stored 2 r₀ at) (sym (take-suc xs i 0 h) ∙ ap (λ (k : ℕ). take k xs) (sym (add-one i)))
 
 -- ---- the whole table, part after part
 
@@ -216,12 +201,12 @@ module _ (b : List ℕ) where
     head-stored plan C h r₁ r₂ layers el e₁ e₂ =
         e₂
         ∙ ap (λ (k : ℕ). stored 2 r₁ 6 (take k (plan .counts))) el
-        ∙ words-more r r₁ 0 (inputs b ∷ outputs b ∷ frames b ∷ []) _ 6 e₁ refl (omega (arith, all-length))
+        ∙ stored-behind 2 r r₁ 0 (inputs b ∷ outputs b ∷ frames b ∷ []) _ 6 e₁ refl (omega (arith, all-length))
         ∙ ap (λ (c : List ℕ). stored 2 r 0 (inputs b ∷ outputs b ∷ frames b ∷ c)) (counts-taken plan C h)
 
     pub outputs-stored : (r₂ r₃ : List ℕ) (at : ℕ) → at ≡ 8 + 2 * frames b → r₂ ≡ stored 2 r 0 (headWords b) → r₃ ≡ stored 2 r₂ at (arrayWords b false (frames b))
         → r₃ ≡ stored 2 r 0 (headWords b ++ arrayWords b false (frames b))
-    outputs-stored r₂ r₃ at ea e₂ e₃ = e₃ ∙ words-more r r₂ 0 (headWords b) _ at e₂ (omega (arith, head-length)) (omega (arith, all-length, head-length))
+    outputs-stored r₂ r₃ at ea e₂ e₃ = e₃ ∙ stored-behind 2 r r₂ 0 (headWords b) _ at e₂ (omega (arith, head-length)) (omega (arith, all-length, head-length))
 
     pub nexts-stored : (r₃ r₄ : List ℕ) (at : ℕ) → at ≡ 8 + 2 * frames b + 2 * length (arrayWords b false (frames b))
         → r₃ ≡ stored 2 r 0 (headWords b ++ arrayWords b false (frames b)) → r₄ ≡ stored 2 r₃ at (arrayWords b true (frames b)) → r₄ ≡ stored 2 r 0 (allWords b)
@@ -229,7 +214,7 @@ module _ (b : List ℕ) where
     nexts-stored r₃ r₄ at ea e₃ e₄ =
         let l : length (headWords b ++ arrayWords b false (frames b)) ≡ 4 + frames b + length (arrayWords b false (frames b)) = length-append (headWords b) _ ∙ omega (arith, head-length) in
         e₄
-        ∙ words-more r r₃ 0 (headWords b ++ arrayWords b false (frames b)) _ at e₃ (omega arith) (omega (arith, all-length))
+        ∙ stored-behind 2 r r₃ 0 (headWords b ++ arrayWords b false (frames b)) _ at e₃ (omega arith) (omega (arith, all-length))
         ∙ ap (stored 2 r 0) (append-assoc (headWords b) (arrayWords b false (frames b)) (arrayWords b true (frames b)))
 
 -- ---- the words are the table's

@@ -5,9 +5,10 @@ use classify::histories;
 use classify::layer_at;
 use responses::respond;
 use words::store;
+use words::store_all;
 ghost use mathlib.Core.Path.{_≡_};
 ghost use Prim.Native.Nat.{suc, _+_, _*_, _^_, _≤_, _<_};
-ghost use lib.ListN.{length, take};
+ghost use lib.ListN.{length};
 ghost use Rattle.words.specs.Words.{stored};
 ghost use Rattle.sizes.specs.Sizes.{inputs, frames};
 ghost use Rattle.circuit.specs.Circuit.{allInputs};
@@ -118,16 +119,6 @@ fn put_array(
     end
 }
 
-// Stores `count` numbers from byte offset `at` on.
-fn put_words(numbers: &[u16], count: usize, result: &mut [u8], at: usize)
-    requires { ⌜ (count ≤ length (now numbers)) × (at + 2 * count ≤ length (now result)) ⌝ }
-    ensures { λ _. ⌜ now (result .exit) ≡ stored 2 (now (result .entry)) at (take count (now (numbers .entry))) ⌝ }
-{
-    for i in 0..count {
-        store(result, at + 2 * i, numbers[i]);
-    }
-}
-
 // Writes the table to the front of the result.
 pub fn write_table(circuit: &[u8], head: Head, plan: Plan, scratch: &[u16], result: &mut [u8])
     requires { ⌜ Headed (now circuit) ⌝ }
@@ -138,10 +129,10 @@ pub fn write_table(circuit: &[u8], head: Head, plan: Plan, scratch: &[u16], resu
     ensures { λ _. ⌜ now (result .exit) ≡ stored 2 (now (result .entry)) 0 (allWords (now (circuit .entry))) ⌝ }
 {
     let sizes = [head.inputs as u16, head.outputs as u16, head.frames as u16];
-    put_words(&sizes, 3, result, 0);
+    store_all(&sizes, 3, result, 0);
     let counts = plan.counts;
     let layers = head.frames + 1;
-    put_words(&counts, layers, result, 6);
+    store_all(&counts, layers, result, 6);
     let outputs_at = 6 + 2 * layers;
     let nexts_at = put_array(circuit, head, scratch, false, result, outputs_at);
     put_array(circuit, head, scratch, true, result, nexts_at);

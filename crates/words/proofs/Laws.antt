@@ -8,7 +8,7 @@ use native.Mathlib.Omega.{arith}
 use lib.Arith.{lt-one}
 use lib.Dec.{lit<}
 use lib.ListN.{length, getD, take, drop, set, length-append, length-take, length-drop, take-append-drop}
-use lib.Seq.{set-comm, sets, sets-eq, getD-drop, getD-take, getD-append-add, drop-drop, drop-append-add, take-at, drop-at}
+use lib.Seq.{set-comm, sets, sets-eq, getD-drop, getD-take, getD-append-add, drop-drop, drop-append-add, take-at, take-suc, drop-at}
 use Rattle.words.specs.Words.{numberAt, bytesOf, allBytes, Fit, none, more, stored, wordAt}
 
 -- ---- one number
@@ -156,6 +156,19 @@ stored-more k b i xs ys j e h =
     ap₂ (λ (x y : List ℕ). x ++ (allBytes k ys ++ y)) front rest
     ∙ append-assoc f a (allBytes k ys ++ drop (i + k * length (xs ++ ys)) b)
     ∙ ap (λ (x : List ℕ). f ++ x) (sym (append-assoc a (allBytes k ys) (drop (i + k * length (xs ++ ys)) b)) ∙ ap (λ (x : List ℕ). x ++ drop (i + k * length (xs ++ ys)) b) (sym (allBytes-append k xs ys)))
+
+-- the same of the buffer r, which is b with xs stored
+pub stored-behind : (k : ℕ) (b r : List ℕ) (i : ℕ) (xs ys : List ℕ) (j : ℕ) → r ≡ stored k b i xs → j ≡ i + k * length xs → i + k * length xs ≤ length b
+    → stored k r j ys ≡ stored k b i (xs ++ ys)
+stored-behind k b r i xs ys j er ej room = ap (λ (b : List ℕ). stored k b j ys) er ∙ stored-more k b i xs ys j ej room
+
+-- one number more of the list xs, of which the first n are stored
+pub taken-more : (k : ℕ) (b r : List ℕ) (i n : ℕ) (xs : List ℕ) (j : ℕ) → r ≡ stored k b i (take n xs) → j ≡ i + k * n → i + k * n ≤ length b → n < length xs
+    → stored k r j (getD xs n 0 ∷ []) ≡ stored k b i (take (n + 1) xs)
+taken-more k b r i n xs j er ej room h =
+    let l : length (take n xs) ≡ n = length-take n xs ∙ omega arith in
+    stored-behind k b r i (take n xs) (getD xs n 0 ∷ []) j er (rw l ej) (rw l room)
+    ∙ ap (stored k b i) (sym (take-suc xs n 0 h) ∙ ap (λ (n : ℕ). take n xs) (sym (add-one n)))
 
 -- ---- two stores that do not meet, in either order
 

@@ -1,8 +1,8 @@
 // Words of 16 bits in byte slices, low byte first.
 ghost use mathlib.Core.Path.{_≡_};
 ghost use mathlib.Core.List.{_∷_, []};
-ghost use Prim.Native.Nat.{_+_, _<_};
-ghost use lib.ListN.{length};
+ghost use Prim.Native.Nat.{_+_, _*_, _≤_, _<_};
+ghost use lib.ListN.{length, take};
 ghost use Rattle.words.specs.Words.{wordAt, stored};
 
 // The word at byte offset `at`.
@@ -22,4 +22,14 @@ pub fn store(bytes: &mut [u8], at: usize, word: u16)
 {
     bytes[at] = (word % 256) as u8;
     bytes[at + 1] = (word / 256 % 256) as u8;
+}
+
+// Stores the first `count` of the numbers, one behind the other, from byte offset `at` on.
+pub fn store_all(numbers: &[u16], count: usize, bytes: &mut [u8], at: usize)
+    requires { ⌜ (count ≤ length (now numbers)) × (at + 2 * count ≤ length (now bytes)) ⌝ }
+    ensures { λ _. ⌜ now (bytes .exit) ≡ stored 2 (now (bytes .entry)) at (take count (now (numbers .entry))) ⌝ }
+{
+    for i in 0..count {
+        store(bytes, at + 2 * i, numbers[i]);
+    }
 }

@@ -6,11 +6,11 @@ use native.Mathlib.Omega.{arith}
 use denote.Ref.{now}
 use lib.ListN.{length}
 use Rattle.words.specs.Words.{stored}
-use Rattle.words.proofs.Laws.{stored-none, stored-length}
+use Rattle.words.proofs.Laws.{stored-none, stored-length, stored-behind}
 use Rattle.sizes.specs.Sizes.{frames as framesOf}
 use Rattle.layered.specs.Search.{join}
 use Rattle.emit.specs.Emitted.{arrayWords}
-use Rattle.emit.proofs.Laws.{words-more, array-layer, array-more, array-most}
+use Rattle.emit.proofs.Laws.{array-layer, array-more, array-most}
 use Rattle.emit.proofs.put_array.Statement.{statement}
 use Rattle.emit.proofs.put_array.Tie as tie
 
@@ -76,7 +76,7 @@ loop-again c =
       omega arith,
       omega (arith, p .put-layer .ensures .1, l .loop .inv .1, array-more b n (l .loop .t)),
       p .put-layer .ensures .0
-          ∙ words-more (now (a .args .result)) (l .loop .result) (a .args .at) (arrayWords b n (l .loop .t)) _ (l .loop .end) (l .loop .inv .2) (l .loop .inv .1) (room l)
+          ∙ stored-behind 2 (now (a .args .result)) (l .loop .result) (a .args .at) (arrayWords b n (l .loop .t)) _ (l .loop .end) (l .loop .inv .2) (l .loop .inv .1) (room l)
           ∙ ap (stored 2 (now (a .args .result)) (a .args .at)) (sym (array-layer b n (l .loop .t))),
     )
 

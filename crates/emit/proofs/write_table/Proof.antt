@@ -24,31 +24,31 @@ cast-t12 c = search needs
 cast-t13 : tie.Need-cast-t13
 cast-t13 c = search needs
 
-slice-aggregate-put-words : tie.Need-slice-aggregate-put-words
-slice-aggregate-put-words c = search needs
+slice-aggregate-store-all : tie.Need-slice-aggregate-store-all
+slice-aggregate-store-all c = search needs
 
-put-words-requires : tie.Need-put-words-requires
-put-words-requires c κs =
+store-all-requires : tie.Need-store-all-requires
+store-all-requires c κs =
     let a = c .before .before .before .before .before .before .before .before in
     (omega arith, omega (arith, all-length (now (a .args .circuit)), a .pre .1 .1 .1 .1 .1))
 
 add-layers : tie.Need-add-layers
 add-layers c = search needs
 
-slice-aggregate-put-words-2 : tie.Need-slice-aggregate-put-words-2
-slice-aggregate-put-words-2 c =
+slice-aggregate-store-all-2 : tie.Need-slice-aggregate-store-all-2
+slice-aggregate-store-all-2 c =
     let a = c .before .before .before .before .before .before .before .before .before .before .before .before .before .before in
     sym (a .pre .1 .1 .0 .1 .places)
 
 -- the entry of the function, from each part
-abbrev start : tie.After-put-words → tie.Start
+abbrev start : tie.After-store-all → tie.Start
 start p = p .before .before .before .before .before .before .before .before .before
 
-put-words-requires-2 : tie.Need-put-words-requires-2
-put-words-requires-2 c κs =
+store-all-requires-2 : tie.Need-store-all-requires-2
+store-all-requires-2 c κs =
     let p = c .before .before .before .before .before .before in
     let a = start p in
-    (omega (arith, a .pre .1 .1 .0 .1 .places, a .pre .1 .0, a .pre .0 .sizes), omega (arith, all-length (now (a .args .circuit)), a .pre .1 .1 .1 .1 .1, p .put-words .kept .1 .1 .0, a .pre .1 .0))
+    (omega (arith, a .pre .1 .1 .0 .1 .places, a .pre .1 .0, a .pre .0 .sizes), omega (arith, all-length (now (a .args .circuit)), a .pre .1 .1 .1 .1 .1, p .store-all .kept .1 .1 .0, a .pre .1 .0))
 
 mul-outputs-at : tie.Need-mul-outputs-at
 mul-outputs-at c = search needs
@@ -56,7 +56,7 @@ mul-outputs-at c = search needs
 add-outputs-at : tie.Need-add-outputs-at
 add-outputs-at c = search needs
 
-abbrev start₂ : tie.After-put-words2 → tie.Start
+abbrev start₂ : tie.After-store-all2 → tie.Start
 start₂ p = start (p .before .before .before .before .before .before .before)
 
 -- the sizes are the circuit's
@@ -64,19 +64,19 @@ first-words : (n m t : ℕ) (b : List ℕ) → n ≡ inputs b → m ≡ outputs 
 first-words n m t b e f g = ap₂ (λ (x : ℕ) (l : List ℕ). x ∷ l) e (ap₂ (λ (x y : ℕ). x ∷ y ∷ []) f g)
 
 -- what is stored after the counts, and how long the result is
-head₂ : (p : tie.After-put-words2) → p .put-words2 .last .1 .1 .0 ≡ stored 2 (now (start₂ p .args .result)) 0 (headWords (now (start₂ p .args .circuit)))
+head₂ : (p : tie.After-store-all2) → p .store-all2 .last .1 .1 .0 ≡ stored 2 (now (start₂ p .args .result)) 0 (headWords (now (start₂ p .args .circuit)))
 head₂ p =
     let w = p .before .before .before .before .before .before .before in
     let a = start₂ p in
     let b = now (a .args .circuit) in
     let h = a .pre .1 .0 in
     head-stored b (now (a .args .result)) (a .pre .1 .1 .1 .1 .1) (a .args .plan) (a .pre .1 .1 .0 .1) (a .pre .0 .sizes .frames-to)
-    (w .put-words .last .1 .1 .0) (p .put-words2 .last .1 .1 .0) (a .args .head .frames + 1) (ap (λ (t : ℕ). t + 1) (h .frames-is))
-    (w .put-words .ensures ∙ ap (stored 2 (now (a .args .result)) 0) (first-words _ _ _ b (h .inputs-is) (h .outputs-is) (h .frames-is)))
-    (p .put-words2 .ensures)
+    (w .store-all .last .1 .1 .0) (p .store-all2 .last .1 .1 .0) (a .args .head .frames + 1) (ap (λ (t : ℕ). t + 1) (h .frames-is))
+    (w .store-all .ensures ∙ ap (stored 2 (now (a .args .result)) 0) (first-words _ _ _ b (h .inputs-is) (h .outputs-is) (h .frames-is)))
+    (p .store-all2 .ensures)
 
-len₂ : (p : tie.After-put-words2) → length (p .put-words2 .last .1 .1 .0) ≡ length (now (start₂ p .args .result))
-len₂ p = p .put-words2 .kept .1 .1 .0 ∙ p .before .before .before .before .before .before .before .put-words .kept .1 .1 .0
+len₂ : (p : tie.After-store-all2) → length (p .store-all2 .last .1 .1 .0) ≡ length (now (start₂ p .args .result))
+len₂ p = p .store-all2 .kept .1 .1 .0 ∙ p .before .before .before .before .before .before .before .store-all .kept .1 .1 .0
 
 put-array-requires : tie.Need-put-array-requires
 put-array-requires c κs =
@@ -112,7 +112,7 @@ returns c =
     let a = start₂ p in
     let b = now (a .args .circuit) in
     nexts-stored b (now (a .args .result)) (a .pre .1 .1 .1 .1 .1) (q .put-array .last .1 .1 .1 .1 .0) (s .put-array2 .last .1 .1 .1 .1 .0) (q .put-array .result) (end₃ q)
-    (outputs-stored b (now (a .args .result)) (a .pre .1 .1 .1 .1 .1) (p .put-words2 .last .1 .1 .0) (q .put-array .last .1 .1 .1 .1 .0) _ (omega (arith, a .pre .1 .0)) (head₂ p) (q .put-array .ensures .0))
+    (outputs-stored b (now (a .args .result)) (a .pre .1 .1 .1 .1 .1) (p .store-all2 .last .1 .1 .0) (q .put-array .last .1 .1 .1 .1 .0) _ (omega (arith, a .pre .1 .0)) (head₂ p) (q .put-array .ensures .0))
     (s .put-array2 .ensures .0)
 
 pub write-table-spec : {M : Type 1} → statement M
@@ -122,11 +122,11 @@ write-table-spec =
     cast-t11
     cast-t12
     cast-t13
-    slice-aggregate-put-words
-    put-words-requires
+    slice-aggregate-store-all
+    store-all-requires
     add-layers
-    slice-aggregate-put-words-2
-    put-words-requires-2
+    slice-aggregate-store-all-2
+    store-all-requires-2
     mul-outputs-at
     add-outputs-at
     put-array-requires

@@ -1,30 +1,29 @@
--- `emit::put_words` meets its contract. The invariant: the numbers so far are stored.
+-- `words::store_all` meets its contract. The invariant: the numbers so far are stored.
 -- Assumes nothing.
 use mathlib.Core.Path.{_≡_, refl, sym, ap, _∙_}
 use Prim.Native.Nat.{ℕ, _-_, _≤_}
 use native.Mathlib.Omega.{arith}
 use denote.Ref.{now}
 use lib.ListN.{length, take, length-take}
 use Rattle.words.specs.Words.{stored}
-use Rattle.words.proofs.Laws.{stored-none, stored-length}
-use Rattle.emit.proofs.Laws.{taken-more}
-use Rattle.emit.proofs.put_words.Statement.{statement}
-use Rattle.emit.proofs.put_words.Tie as tie
+use Rattle.words.proofs.Laws.{stored-none, stored-length, taken-more}
+use Rattle.words.proofs.store_all.Statement.{statement}
+use Rattle.words.proofs.store_all.Tie as tie
 
 abbrev Inv-loop : tie.InvT-loop
-Inv-loop numbers count result₀ at i₀ result i = (i ≤ count) × (result ≡ stored 2 result₀ at (take i numbers))
+Inv-loop numbers count bytes₀ at i₀ bytes i = (i ≤ count) × (bytes ≡ stored 2 bytes₀ at (take i numbers))
 
 abbrev μ-loop : tie.MeasureT-loop
-μ-loop numbers count result₀ at i₀ result i = count - i
+μ-loop numbers count bytes₀ at i₀ bytes i = count - i
 
 loop-holds : tie.Need-loop-holds Inv-loop μ-loop
 loop-holds c = (omega arith, sym (stored-none 2 _ _))
 
--- at the loop's head: the entry of the function, and the result's length
+-- at the loop's head: the entry of the function, and that the buffer is as long as it was
 abbrev start : tie.At-loop Inv-loop μ-loop → tie.Start Inv-loop μ-loop
 start l = l .before .before .before
 
-len : (l : tie.At-loop Inv-loop μ-loop) → length (l .loop .result) ≡ length (now (start l .args .result))
+len : (l : tie.At-loop Inv-loop μ-loop) → length (l .loop .bytes) ≡ length (now (start l .args .bytes))
 len l =
     let a = start l in
     let n : length (take (l .loop .i) (now (a .args .numbers))) ≡ l .loop .i = length-take (l .loop .i) (now (a .args .numbers)) ∙ omega (arith, a .pre, l .loop .inv .0) in
@@ -67,7 +66,7 @@ loop-again c =
     let i = s .before .before .before in
     let l = i .before in
     let a = start l in
-    (omega arith, s .store .ensures ∙ taken-more (now (a .args .result)) (l .loop .result) (a .args .at) (l .loop .i) (now (a .args .numbers)) _ (l .loop .inv .1) refl (omega (arith, a .pre)) (omega (arith, a .pre)))
+    (omega arith, s .store .ensures ∙ taken-more 2 (now (a .args .bytes)) (l .loop .bytes) (a .args .at) (l .loop .i) (now (a .args .numbers)) _ (l .loop .inv .1) refl (omega (arith, a .pre)) (omega (arith, a .pre)))
 
 same-length : tie.Need-same-length Inv-loop μ-loop
 same-length c = len (c .before)
@@ -77,10 +76,10 @@ returns c =
     let l = c .before in
     let a = start l in
     let e : l .loop .i ≡ a .args .count = omega arith in
-    l .loop .inv .1 ∙ ap (λ (i : ℕ). stored 2 (now (a .args .result)) (a .args .at) (take i (now (a .args .numbers)))) e
+    l .loop .inv .1 ∙ ap (λ (i : ℕ). stored 2 (now (a .args .bytes)) (a .args .at) (take i (now (a .args .numbers)))) e
 
-pub put-words-spec : {M : Type 1} → statement M
-put-words-spec =
+pub store-all-spec : {M : Type 1} → statement M
+store-all-spec =
     tie.close
     (tie.spec
     Inv-loop
