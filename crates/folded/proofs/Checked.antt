@@ -20,7 +20,7 @@ use Rattle.sizes.specs.Sized.{Sized}
 use Rattle.sizes.proofs.Laws.{inside, sized}
 use Rattle.table.specs.Table.{countAt, states, headLength, entriesBelow, entryCount, outputsAt, nextsAt, tableLength, layerPart, entryAt, machine, countsChecked, headChecked, partChecked, outputsChecked, nextsChecked, checked}
 use Rattle.layered.specs.Machines.{Machine, Legal}
-use Rattle.layered.proofs.Lists.{total}
+use Rattle.layered.specs.Search.{total}
 use Rattle.folded.proofs.Places.{before, layer-within, place-below, entry-at}
 
 -- ---- judgements that find nothing

@@ -6,7 +6,8 @@ use native.Mathlib.Decide.{decLt}
 use native.Mathlib.Omega.{arith}
 use lib.Arith.{digits-lt}
 use Rattle.layered.specs.Machines.{Machine}
-use Rattle.layered.proofs.Lists.{total, total-le}
+use Rattle.layered.specs.Search.{total}
+use Rattle.layered.proofs.Lists.{total-le}
 
 -- how many entries the layers below t have
 abbrev pub before : (K : ℕ) → Machine → (t : ℕ) → ℕ

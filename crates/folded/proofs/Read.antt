@@ -9,9 +9,9 @@ use lib.Seq.{take-suc, take-all}
 use Rattle.words.specs.Words.{wordAt, wordBytes, bytesOf, allBytes}
 use Rattle.words.proofs.Laws.{word-is, allBytes-append}
 use Rattle.sizes.specs.Sizes.{inputs, outputs, frames}
-use Rattle.layered.specs.Search.{join, tabulate}
+use Rattle.layered.specs.Search.{join, tabulate, total}
 use Rattle.layered.specs.Machines.{Machine, entries, tableWords}
-use Rattle.layered.proofs.Lists.{total, total-each, join-cong, tabulate-cong}
+use Rattle.layered.proofs.Lists.{total-each, join-cong, tabulate-cong}
 use Rattle.layered.proofs.Entries.{entries-cong, entries-counts}
 use Rattle.table.specs.Table.{countAt, states, headLength, entryCount, outputsAt, nextsAt, tableLength, entryAt, machine}
 use Rattle.folded.proofs.Agreement.{Agree}

@@ -13,7 +13,7 @@ use Rattle.sizes.specs.Sizes.{inputs, outputs, frames}
 use Rattle.sizes.specs.Sized.{Sized}
 use Rattle.layered.specs.States.{count}
 use Rattle.layered.specs.Machines.{Machine, tableWords, folded}
-use Rattle.layered.proofs.Lists.{total}
+use Rattle.layered.specs.Search.{total}
 use Rattle.layered.proofs.States.{number-below, count-at-most, count-first, count-last}
 use Rattle.layered.proofs.Machines.{legal}
 use Rattle.layered.proofs.Rows.{pow-mul, rows}

@@ -12,9 +12,9 @@ use Rattle.words.specs.Words.{wordAt, wordBytes, numberAt, bytesOf, allBytes, F
 use Rattle.words.proofs.Laws.{allBytes-length, read-back, fit-append, fit-at}
 use Rattle.verdict.specs.Figures.{answer}
 use Rattle.sizes.specs.Sizes.{inputs, outputs, frames}
-use Rattle.layered.specs.Search.{join, tabulate}
+use Rattle.layered.specs.Search.{join, tabulate, total}
 use Rattle.layered.specs.Machines.{Machine, entries, tableWords}
-use Rattle.layered.proofs.Lists.{total, total-mul, tabulate-length, tabulate-at}
+use Rattle.layered.proofs.Lists.{total-mul, tabulate-length, tabulate-at}
 use Rattle.layered.proofs.Entries.{entries-length, entries-at}
 use Rattle.table.specs.Table.{countAt, states, headLength, entriesBelow, entryCount, outputsAt, nextsAt, tableLength, entryAt, machine, checked}
 use Rattle.folded.proofs.Agreement.{Agree, agree-legal}

@@ -10,7 +10,7 @@ use native.Mathlib.Omega.{arith}
 use lib.Dec.{T}
 use lib.ListN.{length, getD, take, drop, length-append, List·getD-append}
 use lib.Seq.{getD-append-add, take-at, drop-at}
-use Rattle.layered.specs.Search.{tally, join, tabulate}
+use Rattle.layered.specs.Search.{tally, join, tabulate, total}
 
 -- lists of equal length at the front of equal lists are equal, and so is what follows them
 pub parts : (a b c d : List ℕ) → length a ≡ length b → a ++ c ≡ b ++ d → (a ≡ b) × (c ≡ d)
@@ -18,11 +18,6 @@ parts a b c d l e =
     (sym (take-at a c _ refl) ∙ ap (take (length a)) e ∙ take-at b d _ (sym l), sym (drop-at a c _ refl) ∙ ap (drop (length a)) e ∙ drop-at b d _ (sym l))
 
 -- ---- total
-
--- f 0 + .. + f (n - 1)
-unfoldable pub total : ℕ → (ℕ → ℕ) → ℕ
-total zero f = 0
-total (suc n) f = total n f + f n
 
 pub total-cong : (n : ℕ) (f g : ℕ → ℕ) → ((i : ℕ) → i < n → f i ≡ g i) → total n f ≡ total n g
 unfolding total

@@ -1,5 +1,4 @@
--- How many gates are needed, without drawing them: in each frame n·2^n match gates, an edge for each entry, for each edge a gate of its next
--- state's gather chain (none in the last frame), and a gate for each bit 1 of its output; and the m·T output gates.
+-- The gates needed, counted without drawing them, are those that are drawn.
 use mathlib.Core.Path.{_≡_, refl, ap, ap₂, _∙_}
 use mathlib.Core.Bool.{Bool, true, false, cond}
 use mathlib.Core.Logic.{⊎-elim}
@@ -13,11 +12,12 @@ use lib.ListN.{length, length-append}
 use borrow.Author.Tests.{eq-eqb, ne-eqb}
 use Rattle.sizes.specs.Sizes.{inputs, outputs, frames}
 use Rattle.circuit.specs.Lists.{bit}
-use Rattle.layered.specs.Search.{tally}
+use Rattle.layered.specs.Search.{tally, total}
 use Rattle.layered.specs.Machines.{Legal}
-use Rattle.layered.proofs.Lists.{total, total-cong, total-each}
+use Rattle.layered.proofs.Lists.{total-cong, total-each}
 use Rattle.table.specs.Table.{states, machine}
 use Rattle.unfolded.specs.Unfolded.{chains, Frame, inputLiteral, matching, matchGates, edgesAt, edgeGate, edgeGates, invertedEdges, entering, nextGates, nextGatesAt, withBit, outGates, outGatesAt, frameGates, Drawing, frameOf, withFrame, drawing, gatesNeeded}
+use Rattle.unfolded.specs.Counted.{ones, frameNeeds}
 use Rattle.unfolded.proofs.Lists.{listed-length}
 use Rattle.unfolded.proofs.Gates.{chains-more}
 use Rattle.unfolded.proofs.Drawings.{drawn-length}
@@ -109,15 +109,6 @@ module _ (F : Frame) where
 -- ---- a table
 
 module _ (b : List ℕ) where
-  -- how many bits 1 the outputs of layer t have
-  unfoldable pub ones : (t : ℕ) → ℕ
-  ones t = total (states b t * 2 ^ inputs b) (λ e. tally (outputs b) (bit (machine b .out t (e / 2 ^ inputs b) (e % 2 ^ inputs b))))
-
-  -- how many gates the frame from layer t needs
-  unfoldable pub frameNeeds : (t : ℕ) → ℕ
-  frameNeeds t =
-      2 ^ inputs b * inputs b + (states b t * 2 ^ inputs b + (cond (ltb (suc t) (frames b)) (states b t * 2 ^ inputs b) 0 + ones t))
-
   module _ (L : Legal (2 ^ inputs b) (outputs b) (frames b) (machine b)) where
     nexts-count : (t : ℕ) (d : Drawing) → t < frames b → length (nextGates (frameOf b t d)) ≡ cond (ltb (suc t) (frames b)) (states b t * 2 ^ inputs b) 0
     unfolding frameOf
@@ -139,18 +130,18 @@ module _ (b : List ℕ) where
         go true = total-cong E _ (λ e. 1) one ∙ total-each E 1 ∙ omega arith
         go false = total-cong E _ (λ e. 0) (λ e l. no-states (to e)) ∙ total-each E 0 ∙ mul-zero E
 
-    frame-needs : (t : ℕ) (d : Drawing) → t < frames b → length (frameGates (frameOf b t d)) ≡ frameNeeds t
+    frame-needs : (t : ℕ) (d : Drawing) → t < frames b → length (frameGates (frameOf b t d)) ≡ frameNeeds b t
     unfolding frameOf frameNeeds ones
     frame-needs t d h =
         let F : Frame = frameOf b t d in
         frame-count F ∙ ap₂ _+_ (match-count F) (ap₂ _+_ (edge-count F) (ap₂ _+_ (nexts-count t d h) (out-count F)))
 
-    drawing-length : (t : ℕ) → t ≤ frames b → length (drawing b t .gates) ≡ total t frameNeeds
+    drawing-length : (t : ℕ) → t ≤ frames b → length (drawing b t .gates) ≡ total t (frameNeeds b)
     unfolding drawing withFrame total
     drawing-length zero h = refl
     drawing-length (suc t) h =
         length-append (drawing b t .gates) _ ∙ ap₂ _+_ (drawing-length t (omega arith)) (frame-needs t (drawing b t) h)
 
-    pub gates-needed : gatesNeeded b ≡ total (frames b) frameNeeds + outputs b * frames b
+    pub gates-needed : gatesNeeded b ≡ total (frames b) (frameNeeds b) + outputs b * frames b
     unfolding gatesNeeded
     gates-needed = drawn-length b ∙ ap (λ k. k + outputs b * frames b) (drawing-length (frames b) (le-refl (frames b)))

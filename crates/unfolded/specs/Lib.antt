@@ -1,2 +1,3 @@
 pub mod Unfolded
+pub mod Counted
 pub mod Theorems

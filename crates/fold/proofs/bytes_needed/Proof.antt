@@ -8,7 +8,7 @@ use native.Mathlib.Omega.{arith}
 use denote.Ref.{now}
 use lib.ListN.{getD}
 use Rattle.sizes.specs.Sizes.{inputs, frames as framesOf}
-use Rattle.layered.proofs.Lists.{total}
+use Rattle.layered.specs.Search.{total}
 use Rattle.circuit.specs.Theorems.{response}
 use Rattle.classify.specs.Classified.{stateCount}
 use Rattle.classify.proofs.Layers.{two-words, power-fits}

@@ -1,0 +1,130 @@
+// Unfolds a table into a circuit that gives its outputs.
+use circuit::Limits;
+use circuit::is_set;
+use draw::Target;
+use draw::draw;
+use sizes::Sizes;
+use table::Layout;
+use table::check;
+use table::head::entries_below;
+use table::head::states_of;
+use verdict::Refusal;
+use verdict::Verdict;
+use words::read;
+use words::store_all;
+ghost use mathlib.Core.Path.{_≡_};
+ghost use Prim.Native.Nat.{_*_, _/_, _+_, _≤_, _<_};
+ghost use lib.ListN.{length};
+ghost use Rattle.words.specs.Words.{wordAt, stored};
+ghost use Rattle.verdict.specs.Figures.{figures};
+ghost use Rattle.sizes.specs.Sizes.{inputs, outputs, frames};
+ghost use Rattle.sizes.specs.Sized.{sizesOf};
+ghost use Rattle.circuit.specs.Lists.{bit};
+ghost use Rattle.layered.specs.Search.{tally, total};
+ghost use Rattle.table.specs.Headed.{Headed, Sound, layoutOf};
+ghost use Rattle.unfolded.specs.Unfolded.{drawn, gatesNeeded, circuitWords, unfoldChecked, unfoldResult};
+ghost use Rattle.unfolded.specs.Counted.{frameNeeds};
+ghost use Rattle.unfold.specs.Unfold.{Promised};
+
+// How many of the lowest `count` bits of a word are 1.
+fn ones_of(word: usize, count: usize) -> usize
+    requires { ⌜ count ≤ 16 ⌝ }
+    ensures { λ r. ⌜ (r ≡ tally count (bit word)) × (r ≤ 16) ⌝ }
+{
+    let mut ones = 0;
+    for j in 0..count {
+        if is_set(word, j) {
+            ones += 1;
+        }
+    }
+    ones
+}
+
+// How many they are in all words of a part.
+fn ones_in(part: &[u8], count: usize) -> usize
+    requires { ⌜ (count ≤ 16) × (length (now part) ≤ 1073741824) ⌝ }
+    ensures { λ r. ⌜ (r ≡ total (length (now (part .entry)) / 2) (λ e. tally count (bit (wordAt (now (part .entry)) (2 * e))))) × (r ≤ 8589934592) ⌝ }
+{
+    let entries = part.len() / 2;
+    let mut ones = 0;
+    for e in 0..entries {
+        ones += ones_of(read(part, 2 * e), count);
+    }
+    ones
+}
+
+// How many gates the frame from layer t needs.
+fn frame_needs(table: &[u8], layout: Layout, sizes: Sizes, t: usize) -> usize
+    requires { ⌜ Headed (now table) ⌝ }
+    requires { ⌜ (layout ≡ layoutOf (now table)) × (sizes ≡ sizesOf (now table)) × (t < frames (now table)) ⌝ }
+    ensures { λ r. ⌜ (r ≡ frameNeeds (now (table .entry)) t) × (r ≤ 17179869184) ⌝ }
+{
+    let edges = states_of(table, t) * layout.words;
+    let from = layout.outputs + 2 * entries_below(table, layout.words, t);
+    let to = from + 2 * edges;
+    let ones = ones_in(&table[from..to], sizes.outputs);
+    let gathered = if t + 1 < layout.frames { edges } else { 0 };
+    layout.words * sizes.inputs + (edges + (gathered + ones))
+}
+
+// How many gates a table needs, the output gates included.
+fn gates_needed(table: &[u8], layout: Layout, sizes: Sizes) -> usize
+    requires { ⌜ Sound (now table) ⌝ }
+    requires { ⌜ (layout ≡ layoutOf (now table)) × (sizes ≡ sizesOf (now table)) ⌝ }
+    ensures { λ r. ⌜ (r ≡ gatesNeeded (now (table .entry))) × (r ≤ 1099511627776) ⌝ }
+{
+    let frames = layout.frames;
+    let mut gates = sizes.outputs * frames;
+    for t in 0..frames {
+        gates += frame_needs(table, layout, sizes, t);
+    }
+    gates
+}
+
+// Writes the circuit to the front of the result: its head, then its gates.
+fn write_circuit(table: &[u8], layout: Layout, sizes: Sizes, gates: usize, result: &mut [u8])
+    requires { ⌜ Sound (now table) ⌝ }
+    requires { ⌜ (layout ≡ layoutOf (now table)) × (sizes ≡ sizesOf (now table)) × (gates ≡ gatesNeeded (now table)) ⌝ }
+    requires { ⌜ (gates ≤ 4096) × (8 + 4 * gates ≤ length (now result)) ⌝ }
+    ensures { λ _. ⌜ now (result .exit) ≡ stored 2 (now (result .entry)) 0 (circuitWords (inputs (now (table .entry))) (outputs (now (table .entry))) (frames (now (table .entry))) (drawn (now (table .entry)))) ⌝ }
+{
+    let head = [
+        sizes.inputs as u16,
+        sizes.outputs as u16,
+        sizes.frames as u16,
+        gates as u16,
+    ];
+    store_all(&head, 4, result, 0);
+    let target = Target {
+        inputs: sizes.inputs,
+        words: layout.words,
+        outputs: sizes.outputs,
+        base: 1 + sizes.inputs * sizes.frames,
+        gates,
+    };
+    draw(table, layout, target, result);
+}
+
+// Unfolds a table.
+pub fn unfold(table: &[u8], result: &mut [u8]) -> Verdict
+    ensures verdict { λ r. ⌜ figures r ≡ unfoldChecked (now (table .entry)) (length (now (result .entry))) ⌝ }
+    ensures result { λ r. ⌜ now (result .exit) ≡ unfoldResult (now (table .entry)) (now (result .entry)) ⌝ }
+    ensures promised { λ r. ⌜ Promised (now (table .entry)) (figures r) (now (result .exit)) ⌝ }
+{
+    let judged = check(table);
+    let Verdict::Accepted(_) = judged else {
+        return judged;
+    };
+    let layout = Layout::read(table);
+    let sizes = Sizes::read(table);
+    let gates = gates_needed(table, layout, sizes);
+    if Limits::GATES < gates {
+        return Verdict::Refused(Refusal::Gates(gates));
+    }
+    let bytes = Limits::HEAD + 4 * gates;
+    if result.len() < bytes {
+        return Verdict::Refused(Refusal::Room(bytes));
+    }
+    write_circuit(table, layout, sizes, gates, result);
+    Verdict::Accepted(bytes)
+}
