@@ -3,7 +3,7 @@ use mathlib.Core.Path.{_≡_, refl, sym, ap, ap₂, _∙_, fun-ext}
 use mathlib.Core.Bool.{Bool, true, false, cond}
 use mathlib.Core.List.{List, [], _∷_, _++_, append-assoc}
 use Prim.Native.Nat.{ℕ, zero, suc, _+_, _*_, _-_, _/_, _%_, _^_, _≤_, _<_}
-use native.Mathlib.Nat.{le-refl, mod-lt, div-add-mod', div-lt-iff-lt-mul, mul-le-mul-left, mul-suc}
+use native.Mathlib.Nat.{le-refl, div-lt-iff-lt-mul, mul-le-mul-left, mul-suc}
 use native.Mathlib.Numerals.{add-one}
 use native.Mathlib.Decide.{le-ind}
 use native.Mathlib.Omega.{arith}
@@ -15,9 +15,9 @@ use borrow.Author.Tests.{ne-eqb, ltb-true}
 use Rattle.words.specs.Words.{wordAt}
 use Rattle.sizes.specs.Sizes.{inputs, outputs, frames}
 use Rattle.circuit.specs.Lists.{grown, listed, bit}
-use Rattle.table.specs.Table.{states, entriesBelow, entryCount, outputsAt, nextsAt, entryAt, layerPart, machine}
+use Rattle.table.specs.Table.{states, entryCount, outputsAt, nextsAt, entryAt, layerPart, machine}
 use Rattle.table.specs.Headed.{Headed}
-use Rattle.table.proofs.Offsets.{arrays-stand, part-word}
+use Rattle.table.proofs.Offsets.{arrays-stand}
 use Rattle.unfolded.specs.Unfolded.{lastOf, chains, ending, inverted, Frame, matching, matchGates, matchLiteral, edgesAt, edgeGate, edgeGates, invertedEdges, nextGatesAt, entering, nextGates, nextLiteral, outGatesAt, withBit, outGates, outLiteral, frameGates, Drawing, frameOf, drawing, withFrame, outputGate, drawn, gatesNeeded}
 use Rattle.unfolded.proofs.Lists.{listed-length, listed-cong}
 use Rattle.unfolded.proofs.Drawings.{drawn-length, frame-nexts}
@@ -26,7 +26,7 @@ use Rattle.draw.specs.Drawn.{targetOf, gatesStored, endOf, matchOf, edge
 use Rattle.draw.specs.declared.Target.{Target}
 use Rattle.draw.proofs.Laws.{match-length}
 use Rattle.draw.proofs.Stored.{gates-append, end-is}
-use Rattle.draw.proofs.Parts.{part-length}
+use Rattle.draw.proofs.Parts.{part-length, part-entry}
 
 -- ---- parts of a frame
 
@@ -52,16 +52,6 @@ module _ (b : List ℕ) (H : Headed b) (t : ℕ) (h : t < frames b) where
   abbrev E : ℕ
   E = states b t * 2 ^ inputs b
 
-  abbrev from : (start : ℕ) → ℕ
-  from start = start + 2 * entriesBelow b t
-
-  -- an entry of the layer's part
-  part-entry : (start e : ℕ) → e < E → wordAt (layerPart b start t) (2 * e) ≡ wordAt b (entryAt b start t (e / 2 ^ inputs b) (e % 2 ^ inputs b))
-  unfolding layerPart entryAt
-  part-entry start e l =
-      let q : from start + 2 * e ≡ start + 2 * (entriesBelow b t + (e / 2 ^ inputs b * 2 ^ inputs b + e % 2 ^ inputs b)) = omega (arith, div-add-mod' e (2 ^ inputs b)) in
-      part-word b (from start) (2 * E) (2 * e) (omega arith) ∙ ap (wordAt b) q
-
   -- the edges that are gathered, by their entries
   abbrev gathers : (start : ℕ) (nexts : Bool) (which e : ℕ) → Bool
   gathers start nexts which e = chosen nexts which (wordAt b (entryAt b start t (e / 2 ^ inputs b) (e % 2 ^ inputs b)))
@@ -72,7 +62,7 @@ module _ (b : List ℕ) (H : Headed b) (t : ℕ) (h : t < frames b) where
   part-edges start at nexts which room =
       let c : length (layerPart b start t) / 2 ≡ E = omega (arith, part-length b start t room h) in
       ap (invertedEdges at (λ e. chosen nexts which (wordAt (layerPart b start t) (2 * e)))) c
-      ∙ edges-cong at _ _ E (λ e l. ap (chosen nexts which) (part-entry start e l))
+      ∙ edges-cong at _ _ E (λ e l. ap (chosen nexts which) (part-entry b start t e l))
 
   outputs-in : outputsAt b + 2 * entryCount b ≤ length b
   outputs-in = omega (arith, H .whole, arrays-stand b)

@@ -13,7 +13,9 @@ use verdict::Verdict;
 use words::read;
 use words::store_all;
 ghost use mathlib.Core.Path.{_≡_};
-ghost use Prim.Native.Nat.{_*_, _/_, _+_, _≤_, _<_};
+ghost use mathlib.Core.Bool.{cond};
+ghost use Prim.Native.Nat.{suc, _*_, _/_, _+_, _≤_, _<_};
+ghost use lib.Dec.{ltb};
 ghost use lib.ListN.{length};
 ghost use Rattle.words.specs.Words.{wordAt, stored};
 ghost use Rattle.verdict.specs.Figures.{figures};
@@ -42,8 +44,8 @@ fn ones_of(word: usize, count: usize) -> usize
 
 // How many they are in all words of a part.
 fn ones_in(part: &[u8], count: usize) -> usize
-    requires { ⌜ (count ≤ 16) × (length (now part) ≤ 1073741824) ⌝ }
-    ensures { λ r. ⌜ (r ≡ total (length (now (part .entry)) / 2) (λ e. tally count (bit (wordAt (now (part .entry)) (2 * e))))) × (r ≤ 8589934592) ⌝ }
+    requires { ⌜ (count ≤ 16) × (length (now part) ≤ 33554432) ⌝ }
+    ensures { λ r. ⌜ (r ≡ total (length (now (part .entry)) / 2) (λ e. tally count (bit (wordAt (now (part .entry)) (2 * e))))) × (r ≤ 268435456) ⌝ }
 {
     let entries = part.len() / 2;
     let mut ones = 0;
@@ -53,25 +55,33 @@ fn ones_in(part: &[u8], count: usize) -> usize
     ones
 }
 
+// How many of the edges of the frame from layer t are gathered into next states: all, but none in the last frame.
+fn gathered(edges: usize, t: usize, frames: usize) -> usize
+    requires { ⌜ t < frames ⌝ }
+    ensures { λ r. ⌜ r ≡ cond (ltb (suc t) frames) edges 0 ⌝ }
+{
+    if t + 1 < frames { edges } else { 0 }
+}
+
 // How many gates the frame from layer t needs.
 fn frame_needs(table: &[u8], layout: Layout, sizes: Sizes, t: usize) -> usize
     requires { ⌜ Headed (now table) ⌝ }
     requires { ⌜ (layout ≡ layoutOf (now table)) × (sizes ≡ sizesOf (now table)) × (t < frames (now table)) ⌝ }
-    ensures { λ r. ⌜ (r ≡ frameNeeds (now (table .entry)) t) × (r ≤ 17179869184) ⌝ }
+    ensures { λ r. ⌜ (r ≡ frameNeeds (now (table .entry)) t) × (r ≤ 536870912) ⌝ }
 {
     let edges = states_of(table, t) * layout.words;
     let from = layout.outputs + 2 * entries_below(table, layout.words, t);
     let to = from + 2 * edges;
     let ones = ones_in(&table[from..to], sizes.outputs);
-    let gathered = if t + 1 < layout.frames { edges } else { 0 };
-    layout.words * sizes.inputs + (edges + (gathered + ones))
+    let entering = gathered(edges, t, layout.frames);
+    layout.words * sizes.inputs + (edges + (entering + ones))
 }
 
 // How many gates a table needs, the output gates included.
 fn gates_needed(table: &[u8], layout: Layout, sizes: Sizes) -> usize
     requires { ⌜ Sound (now table) ⌝ }
     requires { ⌜ (layout ≡ layoutOf (now table)) × (sizes ≡ sizesOf (now table)) ⌝ }
-    ensures { λ r. ⌜ (r ≡ gatesNeeded (now (table .entry))) × (r ≤ 1099511627776) ⌝ }
+    ensures { λ r. ⌜ (r ≡ gatesNeeded (now (table .entry))) × (r ≤ 17179869184) ⌝ }
 {
     let frames = layout.frames;
     let mut gates = sizes.outputs * frames;

@@ -105,8 +105,11 @@ put-edges-requires c κs =
     let m = m₁ n in
     let s = s₁ m in (
       fits₁ m,
-      (omega (arith, m .put-matches .ensures .1), omega (arith, m .put-matches .ensures .1, matches s, count-is n, edge-length s, frame-count (F₀ s), room s),
-          mul-le-mul-right (s .args .target .words) (omega (arith, n .states-of .ensures .0, s .pre .1 .1 .1 .1 .0 .0, few s (s .args .t) (early s)))),
+      (
+        omega (arith, m .put-matches .ensures .1),
+        omega (arith, m .put-matches .ensures .1, matches s, count-is n, edge-length s, frame-count (F₀ s), room s),
+        mul-le-mul-right (s .args .target .words) (omega (arith, n .states-of .ensures .0, s .pre .1 .1 .1 .1 .0 .0, few s (s .args .t) (early s))),
+      ),
     )
 
 abbrev n₂ : tie.After-put-edges → tie.After-states-of
@@ -210,8 +213,10 @@ put-layer-requires c κs =
     let s = s₃ n in
     let l = laid (b₀ s) (s .args .layout) (head s) (s .pre .1 .0) in (
       head s,
-      ((omega arith, early s, ap (λ (target : Target). target .words) (aim s)),
-          (fits₂ x, ((λ e. absurd (true≢false e)), ((edges-in x, omega (arith, nexts-few n, s .pre .1 .1 .1 .1 .0 .0)), omega (arith, ap length (chains₃-are n), nexts-in n))))),
+      (
+        (omega arith, early s, ap (λ (target : Target). target .words) (aim s)),
+        (fits₂ x, ((λ e. absurd (true≢false e)), ((edges-in x, omega (arith, nexts-few n, s .pre .1 .1 .1 .1 .0 .0)), omega (arith, ap length (chains₃-are n), nexts-in n)))),
+      ),
     )
 
 abbrev n₄ : tie.After-put-layer → tie.After-drawn-states
@@ -282,8 +287,10 @@ put-layer-requires-2 c κs =
     let x = x₃ (n₄ l) in
     let a = laid (b₀ s) (s .args .layout) (head s) (s .pre .1 .0) in (
       head s,
-      ((omega arith, early s, ap (λ (target : Target). target .words) (aim s)),
-          (fits₃ l, ((λ e. s .pre .1 .1 .0 .1 .outputs-to), ((edges-in x, omega (arith, seen-in s, s .pre .1 .1 .1 .1 .1)), omega (arith, ap length (chains₄-are l), outs-end l, room s))))),
+      (
+        (omega arith, early s, ap (λ (target : Target). target .words) (aim s)),
+        (fits₃ l, ((λ e. s .pre .1 .1 .0 .1 .outputs-to), ((edges-in x, omega (arith, seen-in s, s .pre .1 .1 .1 .1 .1)), omega (arith, ap length (chains₄-are l), outs-end l, room s)))),
+      ),
     )
 
 abbrev l₅ : tie.After-put-layer2 → tie.After-put-layer
@@ -320,10 +327,14 @@ returns c =
     let l = l₅ o in
     let s = s₄ l in (
       stored₄ o,
-      (l .put-layer .ensures .1 .0 ∙ ap (sets (now (s .args .states)) 0) (kept₃-are (n₄ l)),
-          (o .put-layer2 .ensures .1 .0 ∙ ap (sets (now (s .args .outputs)) (s .args .target .outputs * s .args .t)) (kept₄-are l),
-              o .put-layer2 .ensures .1 .1 ∙ ap (λ (gs : List (ℕ × ℕ)). l .put-layer .result + length gs) (chains₄-are l) ∙ outs-end l
-                  ∙ omega (arith, s .pre .1 .1 .1 .0 .1, frame-ends (b₀ s) (s .args .t)))),
+      (
+        l .put-layer .ensures .1 .0 ∙ ap (sets (now (s .args .states)) 0) (kept₃-are (n₄ l)),
+        (
+          o .put-layer2 .ensures .1 .0 ∙ ap (sets (now (s .args .outputs)) (s .args .target .outputs * s .args .t)) (kept₄-are l),
+          o .put-layer2 .ensures .1 .1 ∙ ap (λ (gs : List (ℕ × ℕ)). l .put-layer .result + length gs) (chains₄-are l) ∙ outs-end l
+              ∙ omega (arith, s .pre .1 .1 .1 .0 .1, frame-ends (b₀ s) (s .args .t)),
+        ),
+      ),
     )
 
 pub put-frame-spec : {M : Type 1} → statement M

@@ -113,8 +113,10 @@ returns c =
     let a = s .args in
     let q = part-whole r in (
       p .put-gathers .ensures .0 ∙ ap (λ (p : List ℕ). gatesStored (a .target .gates) (a .k) (now (a .result)) (stored-chains s p)) q,
-      (p .put-gathers .ensures .1 .0 ∙ ap (λ (p : List ℕ). sets (now (a .literals)) (a .at) (kept-literals s p)) q,
-          p .put-gathers .ensures .1 .1 ∙ ap (λ (p : List ℕ). a .k + length (stored-chains s p)) q),
+      (
+        p .put-gathers .ensures .1 .0 ∙ ap (λ (p : List ℕ). sets (now (a .literals)) (a .at) (kept-literals s p)) q,
+        p .put-gathers .ensures .1 .1 ∙ ap (λ (p : List ℕ). a .k + length (stored-chains s p)) q,
+      ),
     )
 
 pub put-layer-spec : {M : Type 1} → statement M
