@@ -47,23 +47,25 @@ entry-in l k = digits-lt l k
 
 module _ (K : ℕ) (out next : ℕ → ℕ) where
   -- the entries of g and h for the word w are the same
-  abbrev pub Same : (g h w : ℕ) → Bool
-  Same g h w = eqb (out (g * K + w)) (out (h * K + w)) && eqb (next (g * K + w)) (next (h * K + w))
+  abbrev pub Alike : (g h w : ℕ) → Type 0
+  Alike g h w = (out (g * K + w) ≡ out (h * K + w)) × (next (g * K + w) ≡ next (h * K + w))
 
-  pub rows-equal : (g h : ℕ) → ((w : ℕ) → w < K → T (Same g h w)) → T (equalRows K out next g h)
+  abbrev test : (g h w : ℕ) → Bool
+  test g h w = eqb (out (g * K + w)) (out (h * K + w)) && eqb (next (g * K + w)) (next (h * K + w))
+
+  pub row-entries : (g h : ℕ) → T (equalRows K out next g h) → (w : ℕ) → w < K → Alike g h w
   unfolding equalRows
-  rows-equal g h f = all-every _ K f
+  row-entries g h t w l =
+      let b = both (eqb (out (g * K + w)) (out (h * K + w))) (eqb (next (g * K + w)) (next (h * K + w))) .0 (every-all (test g h) K t w l) in
+      (eqb→eq _ _ (b .0), eqb→eq _ _ (b .1))
 
-  -- a word tells the rows apart
-  pub rows-differ : (g h w : ℕ) → w < K → (T (Same g h w) → ⊥) → T (equalRows K out next g h) → ⊥
+  pub entries-row : (g h : ℕ) → ((w : ℕ) → w < K → Alike g h w) → T (equalRows K out next g h)
   unfolding equalRows
-  rows-differ g h w l f t = f (every-all (Same g h) K t w l)
+  entries-row g h f =
+      all-every (test g h) K λ w l.
+      both (eqb (out (g * K + w)) (out (h * K + w))) (eqb (next (g * K + w)) (next (h * K + w))) .1 (eq-eqb (f w l .0), eq-eqb (f w l .1))
 
-  pub found : (g h : ℕ) → g < h → ((k : ℕ) → k < g → T (equalRows K out next k h) → ⊥) → T (equalRows K out next g h) → g ≡ firstWith K out next h
-  unfolding firstWith
-  found g h l none t = sym (least-is h g _ (omega arith) t none)
-
-  pub not-found : (h : ℕ) → ((k : ℕ) → k < h → T (equalRows K out next k h) → ⊥) → h ≡ firstWith K out next h
+  not-found : (h : ℕ) → ((k : ℕ) → k < h → T (equalRows K out next k h) → ⊥) → h ≡ firstWith K out next h
   unfolding firstWith
   not-found h none = sym (least-none h _ none)
 
@@ -71,15 +73,15 @@ module _ (K : ℕ) (out next : ℕ → ℕ) where
   unfolding firstWith
   first-le h = least-le h _
 
+  rows-sym : (g h : ℕ) → T (equalRows K out next g h) → T (equalRows K out next h g)
+  rows-sym g h t = entries-row h g λ w l. let a = row-entries g h t w l in (sym (a .0), sym (a .1))
+
   rows-trans : (f g h : ℕ) → T (equalRows K out next f g) → T (equalRows K out next g h) → T (equalRows K out next f h)
-  unfolding equalRows
   rows-trans f g h s t =
-      all-every (Same f h) K (λ w l.
-      let a = both (eqb (out (f * K + w)) (out (g * K + w))) _ .0 (every-all (Same f g) K s w l) in
-      let b = both (eqb (out (g * K + w)) (out (h * K + w))) _ .0 (every-all (Same g h) K t w l) in
-      let o : out (f * K + w) ≡ out (h * K + w) = eqb→eq (out (f * K + w)) (out (g * K + w)) (a .0) ∙ eqb→eq (out (g * K + w)) (out (h * K + w)) (b .0) in
-      let n : next (f * K + w) ≡ next (h * K + w) = eqb→eq (next (f * K + w)) (next (g * K + w)) (a .1) ∙ eqb→eq (next (g * K + w)) (next (h * K + w)) (b .1) in
-      both (eqb (out (f * K + w)) (out (h * K + w))) (eqb (next (f * K + w)) (next (h * K + w))) .1 (eq-eqb o, eq-eqb n))
+      entries-row f h λ w l.
+      let a = row-entries f g s w l in
+      let b = row-entries g h t w l in
+      (a .0 ∙ b .0, a .1 ∙ b .1)
 
   -- the first history with a row is the first with its own
   first-first : (g h : ℕ) → g ≡ firstWith K out next h → g < h → g ≡ firstWith K out next g
@@ -88,6 +90,22 @@ module _ (K : ℕ) (out next : ℕ → ℕ) where
       let p : ℕ → Bool = λ k. equalRows K out next k h in
       let t : T (p g) = subst (λ k. T (p k)) (sym e) (least-holds h p (omega arith)) in
       not-found g (λ k b s. omega (arith, least-finds h k p (omega arith) (rows-trans k g h s t) .1))
+
+  -- a history that is the first with its row, and has the row of h
+  pub first-found : (g h : ℕ) → g < h → T (isFirst K out next g) → T (equalRows K out next g h) → g ≡ firstWith K out next h
+  unfolding firstWith isFirst
+  first-found g h l f t =
+      let none : (k : ℕ) → k < g → T (equalRows K out next k h) → ⊥ =
+      λ k b s. omega (arith, eqb→eq (firstWith K out next g) g f, least-finds g k (λ j. equalRows K out next j g) (omega arith) (rows-trans k h g s (rows-sym g h t)) .1) in
+      sym (least-is h g _ (omega arith) t none)
+
+  -- where no such history comes before h, h is the first itself
+  pub none-first : (h : ℕ) → ((g : ℕ) → g < h → T (isFirst K out next g) → T (equalRows K out next g h) → ⊥) → h ≡ firstWith K out next h
+  unfolding firstWith isFirst
+  none-first h none =
+      ⊎-elim (λ (e : firstWith K out next h ≡ h). sym e)
+      (λ (b : firstWith K out next h < h). absurd (none _ b (eq-eqb (sym (first-first _ h refl b))) (least-holds h (λ k. equalRows K out next k h) b)))
+      (eq-or-lt-of-le (first-le h))
 
   -- a history after the first with its row has that one's number, and adds none
   pub later-number : (g h : ℕ) → g ≡ firstWith K out next h → g < h → (rowNumber K out next h ≡ rowNumber K out next g) × (rowCount K out next (suc h) ≡ rowCount K out next h)
@@ -183,31 +201,35 @@ pub placed-same : (s r : List ℕ) (layer : Layer) → length r ≡ length s →
 placed-same s r layer e P =
     record { own-before = P .own-before; nexts-before = P .nexts-before; responses-in = omega arith; small = P .small }
 
--- ---- a turn of the loop that numbers: s is the scratch s₀ with the numbers of the histories before h, g the first history with the row of h
+-- ---- a turn of the loop that numbers: s is the scratch s₀ with the numbers of the histories before h
+
+module _ (s₀ s : List ℕ) (layer : Layer) (P : Placed s₀ layer) (h : ℕ) (b : h < layer .size) (es : s ≡ numberedTo s₀ layer h) where
+  -- whatever is made of the outputs and next states is as before
+  pub kept {ℓ} : {A : Type ℓ} (f : (out next : ℕ → ℕ) → A) → f (outIn s layer) (nextIn s layer) ≡ f (outIn s₀ layer) (nextIn s₀ layer)
+  kept f =
+      ap (λ r. f (outIn r layer) (nextIn r layer)) es
+      ∙ ap₂ f (out-kept s₀ layer P h (omega arith)) (next-kept s₀ layer P h (omega arith))
+
+-- g is the first history with the row of h
 
 module _ (s₀ s : List ℕ) (layer : Layer) (P : Placed s₀ layer) (h g fresh : ℕ) (b : h < layer .size) (es : s ≡ numberedTo s₀ layer h)
-    (ef : fresh ≡ rowCount (layer .fan) (outIn s₀ layer) (nextIn s₀ layer) h) (eg : g ≡ firstWith (layer .fan) (outIn s layer) (nextIn s layer) h) where
-  first-of : g ≡ firstWith (layer .fan) (outIn s₀ layer) (nextIn s₀ layer) h
-  first-of =
-      eg ∙ ap (λ r. firstWith (layer .fan) (outIn r layer) (nextIn r layer) h) es
-      ∙ ap₂ (λ o n. firstWith (layer .fan) o n h) (out-kept s₀ layer P h (omega arith)) (next-kept s₀ layer P h (omega arith))
-
-  pub turn-later : g < h → (set s (layer .at + h) (getD s (layer .at + g) 0) ≡ numberedTo s₀ layer (h + 1))
+    (ef : fresh ≡ rowCount (layer .fan) (outIn s₀ layer) (nextIn s₀ layer) h) (eg : g ≡ firstWith (layer .fan) (outIn s₀ layer) (nextIn s₀ layer) h) where
+  pub turn-later : (number : ℕ) → number ≡ getD s (layer .at + g) 0 → g < h → (set s (layer .at + h) number ≡ numberedTo s₀ layer (h + 1))
       × (fresh ≡ rowCount (layer .fan) (outIn s₀ layer) (nextIn s₀ layer) (h + 1))
-  turn-later l =
-      let n = later-number (layer .fan) (outIn s₀ layer) (nextIn s₀ layer) g h first-of l in
+  turn-later number q l =
+      let n = later-number (layer .fan) (outIn s₀ layer) (nextIn s₀ layer) g h eg l in
       let r = ap (λ r. getD r (layer .at + g) 0) es ∙ numbered-read s₀ layer P h g (omega arith) l in (
-        ap (λ r. set r (layer .at + h) (getD s (layer .at + g) 0)) es ∙ numbered-more s₀ layer P h _ b (r ∙ sym (n .0)),
+        ap (λ r. set r (layer .at + h) number) es ∙ numbered-more s₀ layer P h number b (q ∙ r ∙ sym (n .0)),
         rw (add-one h) (ef ∙ sym (n .1)),
       )
 
-  pub turn-new : h ≤ g → (set s (layer .at + h) fresh ≡ numberedTo s₀ layer (h + 1))
+  pub turn-new : (number : ℕ) → number ≡ fresh → h ≤ g → (set s (layer .at + h) number ≡ numberedTo s₀ layer (h + 1))
       × (fresh + 1 ≡ rowCount (layer .fan) (outIn s₀ layer) (nextIn s₀ layer) (h + 1))
-  turn-new l =
+  turn-new number q l =
       let f = first-le (layer .fan) (outIn s₀ layer) (nextIn s₀ layer) h in
-      let e : h ≡ firstWith (layer .fan) (outIn s₀ layer) (nextIn s₀ layer) h = omega (arith, first-of) in
+      let e : h ≡ firstWith (layer .fan) (outIn s₀ layer) (nextIn s₀ layer) h = omega arith in
       let n = new-number (layer .fan) (outIn s₀ layer) (nextIn s₀ layer) h e in (
-        ap (λ r. set r (layer .at + h) fresh) es ∙ numbered-more s₀ layer P h _ b (ef ∙ sym (n .0)),
+        ap (λ r. set r (layer .at + h) number) es ∙ numbered-more s₀ layer P h number b (q ∙ ef ∙ sym (n .0)),
         rw (add-one h, add-one fresh) (ap suc ef ∙ sym (n .1)),
       )
 

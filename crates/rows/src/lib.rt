@@ -1,10 +1,10 @@
 // Histories of a layer, numbered by their rows (document 01, "States"), in a scratch list that holds the layer's outputs and the numbers of
 // the next layer's histories.
 ghost use mathlib.Core.Path.{_≡_};
-ghost use mathlib.Core.Bool.{_&&_};
 ghost use Prim.Native.Nat.{_*_, _<_};
-ghost use lib.Dec.{eqb};
+ghost use lib.ListN.{replicate};
 ghost use Rattle.rows.specs.Rows.{Placed, outIn, nextIn, firstWith, rowCount, numbered};
+ghost use Rattle.rows.specs.Chains.{Entry, Linked, hashIn, chainIn};
 
 // Where a layer lies in scratch: `size` histories whose numbers go to `at`, `fan` words each; the entry of history h and word w has its output
 // at `responses` + h * fan + w, and its next state at `nexts` + h * fan + w, or 0 in the last layer.
@@ -17,42 +17,70 @@ pub struct Layer {
     pub last: bool,
 }
 
-// The next state of entry i.
-fn next_state(scratch: &[u16], layer: Layer, i: usize) -> u16
+// The entry i as one number.
+fn entry(scratch: &[u16], layer: Layer, i: usize) -> usize
     requires { ⌜ Placed (now scratch) layer ⌝ }
     requires { ⌜ i < layer .size * layer .fan ⌝ }
-    ensures { λ r. ⌜ r ≡ nextIn (now (scratch .entry)) layer i ⌝ }
-{
-    if layer.last {
-        return 0;
-    }
-    let at = layer.nexts + i;
-    scratch[at]
-}
-
-// Whether the entries i and j are the same: output and next state.
-fn same_entry(scratch: &[u16], layer: Layer, i: usize, j: usize) -> bool
-    requires { ⌜ Placed (now scratch) layer ⌝ }
-    requires { ⌜ (i < layer .size * layer .fan) × (j < layer .size * layer .fan) ⌝ }
-    ensures { λ r. ⌜ r ≡ (eqb (outIn (now (scratch .entry)) layer i) (outIn (now (scratch .entry)) layer j) && eqb (nextIn (now (scratch .entry)) layer i) (nextIn (now (scratch .entry)) layer j)) ⌝ }
+    ensures { λ r. ⌜ Entry (outIn (now (scratch .entry)) layer) (nextIn (now (scratch .entry)) layer) i r ⌝ }
 {
     let responses = layer.responses;
-    if scratch[responses + i] != scratch[responses + j] {
-        return false;
+    let nexts = layer.nexts;
+    let out = scratch[responses + i] as usize;
+    if layer.last {
+        return out;
     }
-    next_state(scratch, layer, i) == next_state(scratch, layer, j)
+    out + 65536 * scratch[nexts + i] as usize
 }
 
-// The first history with the row of h. Two rows differ as soon as one word tells them apart.
-fn seek(scratch: &[u16], layer: Layer, h: usize) -> usize
+// As many chains as there are hashes.
+const CHAINS: usize = 8161;
+
+// A link for each history: a layer has no more.
+const LINKS: usize = 32768;
+
+// No chain has a history yet.
+fn no_chains() -> [u16; CHAINS]
+    ensures { λ r. ⌜ r ≡ replicate 8161 0 ⌝ }
+{
+    [0; CHAINS]
+}
+
+fn no_links() -> [u16; LINKS]
+    ensures { λ r. ⌜ r ≡ replicate 32768 0 ⌝ }
+{
+    [0; LINKS]
+}
+
+// The hash of h's row.
+fn row_hash(scratch: &[u16], layer: Layer, h: usize) -> usize
     requires { ⌜ Placed (now scratch) layer ⌝ }
     requires { ⌜ h < layer .size ⌝ }
+    ensures { λ r. ⌜ r ≡ hashIn (now (scratch .entry)) layer h ⌝ }
+{
+    let fan = layer.fan;
+    let mut hash: usize = 0;
+    for w in 0..fan {
+        hash = (hash * 769 + entry(scratch, layer, h * fan + w)) % CHAINS;
+    }
+    hash
+}
+
+// The first history with the row of h, sought along the chain of its hash, which starts at `start` and goes on by links. Two rows differ as soon
+// as one word tells them apart.
+fn seek(scratch: &[u16], layer: Layer, links: &[u16], start: u16, h: usize) -> usize
+    requires { ⌜ Placed (now scratch) layer ⌝ }
+    requires { ⌜ h < layer .size ⌝ }
+    requires { ⌜ Linked (layer .fan) (outIn (now scratch) layer) (nextIn (now scratch) layer) (now links) h ⌝ }
+    requires { ⌜ start ≡ chainIn (now scratch) layer h ⌝ }
     ensures { λ r. ⌜ r ≡ firstWith (layer .fan) (outIn (now (scratch .entry)) layer) (nextIn (now (scratch .entry)) layer) h ⌝ }
 {
     let fan = layer.fan;
-    'earlier: for g in 0..h {
+    let mut rest = start as usize;
+    'earlier: while 0 < rest {
+        let g = rest - 1;
+        rest = links[g] as usize;
         for w in 0..fan {
-            if !same_entry(scratch, layer, g * fan + w, h * fan + w) {
+            if entry(scratch, layer, g * fan + w) != entry(scratch, layer, h * fan + w) {
                 continue 'earlier;
             }
         }
@@ -61,7 +89,8 @@ fn seek(scratch: &[u16], layer: Layer, h: usize) -> usize
     h
 }
 
-// Stores the number of each history of a layer, and answers how many different numbers there are.
+// Stores the number of each history of a layer, and answers how many different numbers there are. The first history with each row is in the chain
+// of the row's hash, the latest foremost, so that a row is compared with few others.
 pub fn number_layer(scratch: &mut [u16], layer: Layer) -> usize
     requires { ⌜ Placed (now scratch) layer ⌝ }
     ensures numbers { λ _. ⌜ now (scratch .exit) ≡ numbered (now (scratch .entry)) layer ⌝ }
@@ -69,15 +98,22 @@ pub fn number_layer(scratch: &mut [u16], layer: Layer) -> usize
 {
     let at = layer.at;
     let size = layer.size;
+    let mut chains = no_chains();
+    let mut links = no_links();
     let mut fresh: u16 = 0;
     for h in 0..size {
-        let g = seek(scratch, layer, h);
+        let hash = row_hash(scratch, layer, h);
+        let start = chains[hash];
+        let g = seek(scratch, layer, &links, start, h);
+        let mut number = fresh;
         if g < h {
-            scratch[at + h] = scratch[at + g];
+            number = scratch[at + g];
         } else {
-            scratch[at + h] = fresh;
             fresh += 1;
+            links[h] = start;
+            chains[hash] = (h + 1) as u16;
         }
+        scratch[at + h] = number;
     }
     fresh as usize
 }

@@ -1,16 +1,19 @@
--- `rows::number_layer` meets its contract. The invariant: the numbers of the histories so far are stored, and `fresh` is how many there are.
+-- `rows::number_layer` meets its contract. The invariant: the numbers of the histories so far are stored, `fresh` is how many there are, and the
+-- chains are theirs.
 -- Assumes nothing.
-use mathlib.Core.Path.{_≡_, refl, sym, ap, _∙_}
+use mathlib.Core.Path.{_≡_, refl, sym, ap, _∙_, subst}
 use mathlib.Core.Logic.{⊎-elim}
 use mathlib.Core.List.{List}
-use Prim.Native.Nat.{ℕ, _-_, _≤_}
+use Prim.Native.Nat.{ℕ, _-_, _≤_, _<_}
 use native.Mathlib.Omega.{arith}
 use denote.Ref.{now}
-use lib.ListN.{length}
+use lib.ListN.{length, getD}
 use Rattle.layered.specs.Search.{tally}
-use Rattle.rows.specs.Rows.{outIn, nextIn, rowCount, numbered}
+use Rattle.rows.specs.Rows.{outIn, nextIn, firstWith, rowCount, numbered}
+use Rattle.rows.specs.Chains.{rowHash, chain, Linked}
 use Rattle.rows.specs.declared.Layer.{Layer}
-use Rattle.rows.proofs.Laws.{numberedTo, numbered-length, numbered-none, placed-same, count-most, turn-later, turn-new}
+use Rattle.rows.proofs.Laws.{numberedTo, numbered-length, numbered-none, placed-same, count-most, first-le, kept, turn-later, turn-new}
+use Rattle.rows.proofs.Chains.{hash-below, Chained, chained-none, chained-later, chained-new}
 use Rattle.rows.proofs.number_layer.Statement.{statement}
 use Rattle.rows.proofs.number_layer.Tie as tie
 
@@ -19,80 +22,153 @@ abbrev countTo : List ℕ → Layer → ℕ → ℕ
 countTo s layer h = rowCount (layer .fan) (outIn s layer) (nextIn s layer) h
 
 abbrev Inv-loop : tie.InvT-loop
-Inv-loop scratch₀ layer at size fresh₀ h₀ scratch fresh h = (h ≤ size) × (scratch ≡ numberedTo scratch₀ layer h) × (fresh ≡ countTo scratch₀ layer h)
+Inv-loop scratch₀ layer at size chains₀ links₀ fresh₀ h₀ scratch chains links fresh h =
+    (h ≤ size) × (scratch ≡ numberedTo scratch₀ layer h) × (fresh ≡ countTo scratch₀ layer h) × Chained (layer .fan) (outIn scratch₀ layer) (nextIn scratch₀ layer) chains links h
 
 abbrev μ-loop : tie.MeasureT-loop
-μ-loop scratch₀ layer at size fresh₀ h₀ scratch fresh h = size - h
+μ-loop scratch₀ layer at size chains₀ links₀ fresh₀ h₀ scratch chains links fresh h = size - h
 
 -- the entry of the function, from the loop's head, and the scratch's length there
 abbrev entry : tie.At-loop Inv-loop μ-loop → tie.Start Inv-loop μ-loop
-entry c = c .before .before
+entry c = c .before .before .before .before
 
 len : (c : tie.At-loop Inv-loop μ-loop) → length (c .loop .scratch) ≡ length (now (entry c .args .scratch))
 len c = ap length (c .loop .inv .1) ∙ numbered-length (now (entry c .args .scratch)) (entry c .args .layer) (entry c .pre) (c .loop .h) (c .loop .inv .0)
 
+-- the layer's fan, and its outputs and next states as they were at the entry
+abbrev fan : tie.At-loop Inv-loop μ-loop → ℕ
+fan c = entry c .args .layer .fan
+
+abbrev out : tie.At-loop Inv-loop μ-loop → ℕ → ℕ
+out c = outIn (now (entry c .args .scratch)) (entry c .args .layer)
+
+abbrev next : tie.At-loop Inv-loop μ-loop → ℕ → ℕ
+next c = nextIn (now (entry c .args .scratch)) (entry c .args .layer)
+
+-- a turn still finds these outputs and next states
+same {ℓ} : (c : tie.In-loop Inv-loop μ-loop) {A : Type ℓ} (f : (o n : ℕ → ℕ) → A) → let l = c .before in
+    f (outIn (l .loop .scratch) (entry l .args .layer)) (nextIn (l .loop .scratch) (entry l .args .layer)) ≡ f (out l) (next l)
+same c f = kept _ _ _ (entry (c .before) .pre) (c .before .loop .h) (omega arith) (c .before .loop .inv .1) f
+
 -- `fresh` is small
 few : (c : tie.At-loop Inv-loop μ-loop) → c .loop .fresh ≤ c .loop .h
-few c = let l = entry c .args .layer in let s = now (entry c .args .scratch) in omega (arith, c .loop .inv .2, count-most (l .fan) (outIn s l) (nextIn s l) (c .loop .h))
+few c = omega (arith, c .loop .inv .2, count-most (fan c) (out c) (next c) (c .loop .h))
+
+-- the hash, and where its chain starts
+hashed : (c : tie.After-row-hash Inv-loop μ-loop) → let l = c .before .before .before in
+    c .row-hash .result ≡ rowHash (fan l) (out l) (next l) (l .loop .h)
+hashed c = let l = c .before .before .before in c .row-hash .ensures ∙ same (c .before .before) (λ o n. rowHash (fan l) o n (l .loop .h))
+
+hash-small : (c : tie.After-row-hash Inv-loop μ-loop) → c .row-hash .result < 8161
+hash-small c =
+    let l = c .before .before .before in
+    omega (arith, hashed c, hash-below (fan l) (out l) (next l) (l .loop .h) (fan l))
+
+started : (c : tie.After-row-hash Inv-loop μ-loop) → let l = c .before .before .before in
+    getD (l .loop .chains) (c .row-hash .result) 0 ≡ chain (fan l) (out l) (next l) (rowHash (fan l) (out l) (next l) (l .loop .h)) (l .loop .h)
+started c =
+    let l = c .before .before .before in
+    l .loop .inv .3 .start (c .row-hash .result) (hash-small c) ∙ ap (λ k. chain (fan l) (out l) (next l) k (l .loop .h)) (hashed c)
+
+-- the history that is found
+sought : (c : tie.After-seek Inv-loop μ-loop) → let l = c .before .before .before .before .before .before in
+    c .seek .result ≡ firstWith (fan l) (out l) (next l) (l .loop .h)
+sought c =
+    let l = c .before .before .before .before .before .before in
+    c .seek .ensures ∙ same (c .before .before .before .before .before) (λ o n. firstWith (fan l) o n (l .loop .h))
+
+no-chains-requires : tie.Need-no-chains-requires Inv-loop μ-loop
+no-chains-requires c κs = tt
+
+no-links-requires : tie.Need-no-links-requires Inv-loop μ-loop
+no-links-requires c κs = tt
 
 loop-holds : tie.Need-loop-holds Inv-loop μ-loop
 unfolding rowCount tally
-loop-holds c = (omega arith, sym (numbered-none _ _ (c .before .pre)), refl)
+loop-holds c =
+    let a = c .before .before .before in
+    (omega arith, sym (numbered-none _ _ (a .pre)), refl, chained-none _ _ _ (c .before .no-chains .result) (c .no-links .result) (c .before .no-chains .ensures) (c .no-links .ensures))
 
-seek-requires : tie.Need-seek-requires Inv-loop μ-loop
-seek-requires c κs =
+row-hash-requires : tie.Need-row-hash-requires Inv-loop μ-loop
+row-hash-requires c κs =
     let l = c .before .before in
     (placed-same _ _ _ (len l) (entry l .pre), omega arith)
 
-add-scratch : tie.Need-add-scratch Inv-loop μ-loop
-add-scratch c =
-    let l = c .before .before .before .before in
+mul-start : tie.Need-mul-start Inv-loop μ-loop
+mul-start c = omega (arith, hash-small c)
+
+array-read-start : tie.Need-array-read-start Inv-loop μ-loop
+array-read-start c = hash-small c
+
+slice-aggregate-seek : tie.Need-slice-aggregate-seek Inv-loop μ-loop
+slice-aggregate-seek c = sym (c .before .before .before .before .before .loop .inv .3 .long)
+
+seek-requires : tie.Need-seek-requires Inv-loop μ-loop
+seek-requires c κs =
+    let i = c .before .before .before .before in
+    let l = i .before in (
+      placed-same _ _ _ (len l) (entry l .pre),
+      (
+        omega arith,
+        (
+          subst (λ X. X) (sym (same i (λ o n. Linked (fan l) o n (l .loop .links) (l .loop .h)))) (l .loop .inv .3 .linked),
+          started (c .before .before) ∙ sym (same i (λ o n. chain (fan l) o n (rowHash (fan l) o n (l .loop .h)) (l .loop .h))),
+        ),
+      ),
+    )
+
+add-number : tie.Need-add-number Inv-loop μ-loop
+add-number c =
+    let l = c .before .before .before .before .before .before .before in
     omega (arith, len l, entry l .pre, entry l .good)
 
-mul-scratch : tie.Need-mul-scratch Inv-loop μ-loop
-mul-scratch c =
-    let l = c .before .before .before .before in
+mul-number : tie.Need-mul-number Inv-loop μ-loop
+mul-number c =
+    let l = c .before .before .before .before .before .before .before in
     omega (arith, len l, entry l .pre, entry l .good)
 
-slice-read-scratch : tie.Need-slice-read-scratch Inv-loop μ-loop
-slice-read-scratch c =
-    let l = c .before .before .before .before .before in
-    omega (arith, len l, entry l .pre)
-
-add-scratch-2 : tie.Need-add-scratch-2 Inv-loop μ-loop
-add-scratch-2 c =
-    let l = c .before .before .before .before .before in
-    omega (arith, len l, entry l .pre, entry l .good)
-
-mul-scratch-2 : tie.Need-mul-scratch-2 Inv-loop μ-loop
-mul-scratch-2 c =
-    let l = c .before .before .before .before .before in
-    omega (arith, len l, entry l .pre, entry l .good)
-
-slice-write-scratch : tie.Need-slice-write-scratch Inv-loop μ-loop
-slice-write-scratch c =
-    let l = c .before .before .before .before .before in
-    omega (arith, len l, entry l .pre)
-
-add-scratch-3 : tie.Need-add-scratch-3 Inv-loop μ-loop
-add-scratch-3 c =
-    let l = c .before .before .before .before in
-    omega (arith, len l, entry l .pre, entry l .good)
-
-mul-scratch-3 : tie.Need-mul-scratch-3 Inv-loop μ-loop
-mul-scratch-3 c =
-    let l = c .before .before .before .before in
-    omega (arith, len l, entry l .pre, entry l .good)
-
-slice-write-scratch-2 : tie.Need-slice-write-scratch-2 Inv-loop μ-loop
-slice-write-scratch-2 c =
-    let l = c .before .before .before .before in
+slice-read-number : tie.Need-slice-read-number Inv-loop μ-loop
+slice-read-number c =
+    let l = c .before .before .before .before .before .before .before .before in
     omega (arith, len l, entry l .pre)
 
 add-fresh : tie.Need-add-fresh Inv-loop μ-loop
 add-fresh c =
-    let l = c .before .before .before .before in
+    let l = c .before .before .before .before .before .before .before in
     omega (arith, few l, entry l .pre)
+
+mul-links : tie.Need-mul-links Inv-loop μ-loop
+mul-links c = omega (arith, entry (c .before .before .before .before .before .before .before) .pre)
+
+array-write-links : tie.Need-array-write-links Inv-loop μ-loop
+array-write-links c = omega (arith, entry (c .before .before .before .before .before .before .before) .pre)
+
+add-chains : tie.Need-add-chains Inv-loop μ-loop
+add-chains c = omega (arith, entry (c .before .before .before .before .before .before .before) .pre)
+
+cast-chains : tie.Need-cast-chains Inv-loop μ-loop
+cast-chains c = omega (arith, entry (c .before .before .before .before .before .before .before) .pre)
+
+mul-chains : tie.Need-mul-chains Inv-loop μ-loop
+mul-chains c = omega (arith, hash-small (c .before .before .before .before))
+
+array-write-chains : tie.Need-array-write-chains Inv-loop μ-loop
+array-write-chains c = hash-small (c .before .before .before .before)
+
+add-scratch : tie.Need-add-scratch Inv-loop μ-loop
+add-scratch c =
+    let l = c .before .before .before .before .before .before .before in
+    omega (arith, len l, entry l .pre, entry l .good)
+
+mul-scratch : tie.Need-mul-scratch Inv-loop μ-loop
+mul-scratch c =
+    let l = c .before .before .before .before .before .before .before in
+    omega (arith, len l, entry l .pre, entry l .good)
+
+slice-write-scratch : tie.Need-slice-write-scratch Inv-loop μ-loop
+slice-write-scratch c =
+    let l = c .before .before .before .before .before .before .before in
+    omega (arith, len l, entry l .pre)
 
 add-h : tie.Need-add-h Inv-loop μ-loop
 add-h c = omega arith
@@ -103,15 +179,18 @@ loop-less c = omega arith
 loop-again : tie.Need-loop-again Inv-loop μ-loop
 loop-again c =
     let k = c .before in
-    let l = k .before .before .before in
+    let l = k .before .before .before .before .before .before in
     let a = entry l in
+    let r = k .before .before .before in
     ⊎-elim
     (λ w.
-    let t = turn-later (now (a .args .scratch)) (l .loop .scratch) (a .args .layer) (a .pre) (l .loop .h) (k .seek .result) (l .loop .fresh) (omega arith) (l .loop .inv .1) (l .loop .inv .2) (k .seek .ensures) (w .0 .taken) in
-    (omega arith, w .2 ∙ t .0, w .3 ∙ t .1))
+    let t = turn-later (now (a .args .scratch)) (l .loop .scratch) (a .args .layer) (a .pre) (l .loop .h) (k .seek .result) (l .loop .fresh) (omega arith) (l .loop .inv .1) (l .loop .inv .2) (sought k) (c .if1 .number) (w .5) (w .0 .taken) in
+    let C = chained-later (fan l) (out l) (next l) (l .loop .chains) (l .loop .links) (l .loop .h) (l .loop .inv .3) (omega (arith, a .pre)) (omega (arith, sought k)) in
+    (omega arith, t .0, w .4 ∙ t .1, rw (w .2, w .3) C))
     (λ w.
-    let t = turn-new (now (a .args .scratch)) (l .loop .scratch) (a .args .layer) (a .pre) (l .loop .h) (k .seek .result) (l .loop .fresh) (omega arith) (l .loop .inv .1) (l .loop .inv .2) (k .seek .ensures) (w .0 .left) in
-    (omega arith, w .1 ∙ t .0, w .2 ∙ t .1))
+    let t = turn-new (now (a .args .scratch)) (l .loop .scratch) (a .args .layer) (a .pre) (l .loop .h) (k .seek .result) (l .loop .fresh) (omega arith) (l .loop .inv .1) (l .loop .inv .2) (sought k) (c .if1 .number) (w .4) (w .0 .left) in
+    let C = chained-new (fan l) (out l) (next l) (l .loop .chains) (l .loop .links) (l .loop .h) (l .loop .inv .3) (omega (arith, a .pre)) (r .row-hash .result) (hashed r) (omega (arith, sought k, first-le (fan l) (out l) (next l) (l .loop .h))) in
+    (omega arith, t .0, w .3 ∙ t .1, rw (w .1, w .2) C))
     (c .if1 .came)
 
 cast-result : tie.Need-cast-result Inv-loop μ-loop
@@ -135,18 +214,27 @@ number-layer-spec =
     (tie.spec
     Inv-loop
     μ-loop
+    no-chains-requires
+    no-links-requires
     loop-holds
+    row-hash-requires
+    mul-start
+    array-read-start
+    slice-aggregate-seek
     seek-requires
+    add-number
+    mul-number
+    slice-read-number
+    add-fresh
+    mul-links
+    array-write-links
+    add-chains
+    cast-chains
+    mul-chains
+    array-write-chains
     add-scratch
     mul-scratch
-    slice-read-scratch
-    add-scratch-2
-    mul-scratch-2
     slice-write-scratch
-    add-scratch-3
-    mul-scratch-3
-    slice-write-scratch-2
-    add-fresh
     add-h
     loop-less
     loop-again
