@@ -1,14 +1,14 @@
 -- Laws of the words of a history, of the response that is packed from signals, and of a list that is filled with responses. Assumes nothing.
 use mathlib.Core.Path.{_≡_, refl, sym, ap, ap₂, _∙_}
 use mathlib.Core.Bool.{Bool}
-use mathlib.Core.List.{List, [], _∷_, _++_}
+use mathlib.Core.List.{List, [], _∷_, _++_, map}
 use Prim.Native.Nat.{ℕ, zero, suc, _+_, _*_, _-_, _/_, _%_, _^_, _≤_, _<_}
-use native.Mathlib.Nat.{mod-lt, lt-of-lt-of-le, mul-le-mul-left}
+use native.Mathlib.Nat.{add-zero, mod-lt, lt-of-lt-of-le, mul-le-mul-left}
 use native.Mathlib.Numerals.{add-one}
 use native.Mathlib.Omega.{arith}
-use lib.ListN.{length, take, drop, set, replicate, length-append, length-replicate, take-append-drop, replicate-append-replicate}
+use lib.ListN.{length, getD, take, drop, set, replicate, length-append, length-replicate, take-append-drop, replicate-append-replicate}
 use lib.Pow.{pow-pos, pow-mono}
-use lib.Seq.{lt-length-set, drop-cons, append-snoc, take-append-add, getD-set-same, drop-set-lt, take-suc-set, take-at, drop-at}
+use lib.Seq.{take-suc, take-all, getD-drop, lt-length-set, drop-cons, append-snoc, take-append-add, getD-set-same, drop-set-lt, take-suc-set, take-at, drop-at}
 use Rattle.sizes.specs.Sizes.{inputs, outputs, frames}
 use Rattle.sizes.proofs.Laws.{power-is}
 use Rattle.layered.specs.Search.{join, tabulate}
@@ -102,6 +102,23 @@ module _ (b : List ℕ) (head : Head) (H : Headed b) (O : HeadOf b head) (t : �
       word-is b (take (head .frames) words) v (head .outputs) (firstOutput head t) (t - 1) ev (O .outputs-is) first-is are-signals
       ∙ ap (λ (s : List ℕ). outputWord b s (t - 1)) fed
 
+-- ---- the responses to given histories
+
+module _ (f : ℕ → ℕ) where
+  map-snoc : (l : List ℕ) (x : ℕ) → map f (l ++ (x ∷ [])) ≡ map f l ++ (f x ∷ [])
+  map-snoc [] x = refl
+  map-snoc (y ∷ l) x = ap (λ (s : List ℕ). f y ∷ s) (map-snoc l x)
+
+  pub each-more : (v v₀ : List ℕ) (i x : ℕ) → i < length v → length v ≡ length v₀ → take i v ≡ map f (take i v₀) → drop i v ≡ drop i v₀ → x ≡ f (getD v i 0)
+      → take (i + 1) (set v i x) ≡ map f (take (i + 1) v₀)
+  each-more v v₀ i x h el et ed ex =
+      let same : getD v i 0 ≡ getD v₀ i 0 = ap (λ k. getD v k 0) (sym (add-zero i)) ∙ sym (getD-drop i v 0 0) ∙ ap (λ s. getD s 0 0) ed ∙ getD-drop i v₀ 0 0 ∙ ap (λ k. getD v₀ k 0) (add-zero i) in
+      rw (add-one i, take-suc-set v i x h, take-suc v₀ i 0 (omega arith), map-snoc (take i v₀) (getD v₀ i 0), ← same, ← ex)
+      (ap (λ (s : List ℕ). s ++ (x ∷ [])) et)
+
+  pub each-all : (v v₀ : List ℕ) (i : ℕ) → length v ≤ i → length v ≡ length v₀ → take i v ≡ map f (take i v₀) → v ≡ map f v₀
+  each-all v v₀ i h el e = sym (take-all i v h) ∙ e ∙ ap (map f) (take-all i v₀ (omega arith))
+
 -- ---- all histories
 
 -- how many there are of t words, by `1 << n * t`
@@ -112,12 +129,22 @@ module _ (b : List ℕ) (H : Headed b) (n t : ℕ) (en : n ≡ inputs b) (l : t 
   pub count-is : (1 * 2 ^ (n * t)) % 2 ^ 64 ≡ (2 ^ inputs b) ^ t
   count-is = power-is (n * t) bits-to ∙ pow-mul 2 n t ∙ ap (λ k. (2 ^ k) ^ t) en
 
--- one response more is stored
-pub fill-more : (f : ℕ → ℕ) (v : List ℕ) (k x : ℕ) → k < length v → take k v ≡ tabulate k f → x ≡ f k → take (k + 1) (set v k x) ≡ tabulate (k + 1) f
-unfolding tabulate join
-fill-more f v k x h e q = rw (add-one k, take-suc-set v k x h) (ap₂ (λ (l : List ℕ) (a : ℕ). l ++ (a ∷ [])) e q)
+  -- each history is a number of 16 bits
+  pub count-to : (1 * 2 ^ (n * t)) % 2 ^ 64 ≤ 65536
+  count-to = rw (power-is (n * t) bits-to) (pow-mono {j = 16} bits-to)
 
--- all are stored
-pub all-filled : (b v v₀ : List ℕ) (t k : ℕ) → k ≡ (2 ^ inputs b) ^ t → take k v ≡ tabulate k (response b t) → drop k v ≡ drop k v₀ → v ≡ filled b t v₀
+-- one number more is stored
+pub fill-more : (v : List ℕ) (k : ℕ) → k < length v → take k v ≡ tabulate k (λ i. i) → take (k + 1) (set v k k) ≡ tabulate (k + 1) (λ i. i)
+unfolding tabulate join
+fill-more v k h e = rw (add-one k, take-suc-set v k k h) (ap (λ (l : List ℕ). l ++ (k ∷ [])) e)
+
+map-tabulate : (f : ℕ → ℕ) (k : ℕ) → map f (tabulate k (λ i. i)) ≡ tabulate k f
+unfolding tabulate join
+map-tabulate f zero = refl
+map-tabulate f (suc k) = map-snoc f (tabulate k (λ i. i)) k ∙ ap (λ (l : List ℕ). l ++ (f k ∷ [])) (map-tabulate f k)
+
+-- all are stored, and the part that they fill is replaced by r
+pub all-filled : (b v v₀ r : List ℕ) (t h k : ℕ) → h ≡ k → k ≡ (2 ^ inputs b) ^ t → take h v ≡ tabulate h (λ i. i) → drop h v ≡ drop h v₀
+    → r ≡ map (response b t) (take k v) → r ++ drop k v ≡ filled b t v₀
 unfolding filled
-all-filled b v v₀ t k ek e₁ e₂ = rw (← ek, ← e₁, ← e₂) (sym (take-append-drop k v))
+all-filled b v v₀ r t h k eh ek e₁ e₂ er = rw (er, ← ek, ← eh, e₁, ← e₂, map-tabulate (response b t) h)

@@ -4,7 +4,7 @@ use circuit::pack;
 use circuit::signal_values;
 use sizes::Limits;
 ghost use mathlib.Core.Path.{_≡_};
-ghost use mathlib.Core.List.{_++_};
+ghost use mathlib.Core.List.{_++_, map};
 ghost use Prim.Native.Nat.{_-_, _^_, _≤_};
 ghost use lib.ListN.{length, replicate};
 ghost use Rattle.sizes.specs.Sizes.{inputs, frames};
@@ -44,6 +44,20 @@ pub fn respond(circuit: &[u8], head: Head, t: usize, h: usize) -> u16
     pack(&values, at, head.outputs)
 }
 
+// Replaces each history by the response of frame t, from 1, to it.
+pub fn respond_each(circuit: &[u8], head: Head, t: usize, histories: &mut [u16])
+    requires { ⌜ Headed (now circuit) ⌝ }
+    requires { ⌜ HeadOf (now circuit) head ⌝ }
+    requires { ⌜ Legal (now circuit) ⌝ }
+    requires { ⌜ (1 ≤ t) × (t ≤ frames (now circuit)) ⌝ }
+    ensures { λ _. ⌜ now (histories .exit) ≡ map (response (now (circuit .entry)) t) (now (histories .entry)) ⌝ }
+{
+    let count = histories.len();
+    for i in 0..count {
+        histories[i] = respond(circuit, head, t, histories[i] as usize);
+    }
+}
+
 // Stores the responses of frame t, from 1, to all its histories.
 pub fn fill(circuit: &[u8], head: Head, t: usize, responses: &mut [u16])
     requires { ⌜ Headed (now circuit) ⌝ }
@@ -55,6 +69,7 @@ pub fn fill(circuit: &[u8], head: Head, t: usize, responses: &mut [u16])
 {
     let count: usize = 1 << (head.inputs * t);
     for h in 0..count {
-        responses[h] = respond(circuit, head, t, h);
+        responses[h] = h as u16;
     }
+    respond_each(circuit, head, t, &mut responses[..count]);
 }
