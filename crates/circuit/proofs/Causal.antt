@@ -169,7 +169,7 @@ module _ (b : List ℕ) (A : Accepted b) where
 -- ---- sequences
 
 -- the words of a history with one word more
-words-more : (K t h w : ℕ) → w < K → historyWords K (suc t) (h * K + w) ≡ historyWords K t h ++ (w ∷ [])
+pub words-more : (K t h w : ℕ) → w < K → historyWords K (suc t) (h * K + w) ≡ historyWords K t h ++ (w ∷ [])
 unfolding historyWords
 words-more K t h w l = ap₂ (λ q r. historyWords K t q ++ (r ∷ [])) (digits-div h l) (digits-mod h l)
 

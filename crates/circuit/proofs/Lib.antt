@@ -1,3 +1,4 @@
+pub mod Bits
 pub mod Laws
 pub mod Accepted
 pub mod Stages

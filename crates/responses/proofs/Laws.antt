@@ -1,24 +1,26 @@
--- Laws of the words of a history, of the response that is packed from signals, and of a list that is filled with responses. Assumes nothing.
+-- Laws of the words of a history, of lists that are replaced part by part, of the response that is packed from signals, and of a list that is filled with responses. Assumes nothing.
 use mathlib.Core.Path.{_≡_, refl, sym, ap, ap₂, _∙_}
 use mathlib.Core.Bool.{Bool}
-use mathlib.Core.List.{List, [], _∷_, _++_, map}
+use mathlib.Core.List.{List, [], _∷_, _++_, map, map-append, append-nil, append-assoc}
 use Prim.Native.Nat.{ℕ, zero, suc, _+_, _*_, _-_, _/_, _%_, _^_, _≤_, _<_}
-use native.Mathlib.Nat.{add-zero, mod-lt, lt-of-lt-of-le, mul-le-mul-left}
+use native.Mathlib.Nat.{mod-lt, lt-of-lt-of-le, mul-le-mul-left}
 use native.Mathlib.Numerals.{add-one}
 use native.Mathlib.Omega.{arith}
-use lib.ListN.{length, getD, take, drop, set, replicate, length-append, length-replicate, take-append-drop, replicate-append-replicate}
+use lib.ListN.{length, getD, length-map, drop-of-length-le, take, drop, set, replicate, length-replicate, replicate-append-replicate}
 use lib.Pow.{pow-pos, pow-mono}
-use lib.Seq.{take-suc, take-all, getD-drop, lt-length-set, drop-cons, append-snoc, take-append-add, getD-set-same, drop-set-lt, take-suc-set, take-at, drop-at}
+use lib.Seq.{take-suc, take-length, take-all, take-add, drop-drop, length-take-le, length-front, lt-length-set, drop-cons, append-snoc, take-append-add, getD-set-same, drop-set-lt, take-suc-set, take-at, drop-at}
 use Rattle.sizes.specs.Sizes.{inputs, outputs, frames}
 use Rattle.sizes.proofs.Laws.{power-is}
 use Rattle.layered.specs.Search.{join, tabulate}
 use Rattle.layered.proofs.Rows.{pow-mul}
-use Rattle.circuit.specs.Lists.{packed}
+use Rattle.circuit.specs.Lists.{grown, listed, packed}
 use Rattle.circuit.specs.Circuit.{gates, gateSignal, outputSignal, signalValues, outputWord}
 use Rattle.circuit.specs.Legal.{Headed, HeadOf}
 use Rattle.circuit.specs.declared.Head.{Head}
 use Rattle.circuit.specs.Theorems.{historyWords, response}
 use Rattle.circuit.proofs.Laws.{signals-fit, output-at, output-room, word-is}
+use Rattle.lanes.specs.Lanes.{lane, sequence, Lanes, SignalLanes}
+use Rattle.lanes.proofs.Laws.{history-length}
 use Rattle.responses.specs.Responses.{filled}
 
 -- ---- the words of a history
@@ -35,11 +37,6 @@ module _ {A : Type 0} (a : A) (k n : ℕ) (h : k ≤ n) where
   drop-replicate = ap (drop k) parts ∙ drop-at (replicate k a) _ k (length-replicate k a)
 
 module _ (K : ℕ) where
-  history-length : (t h : ℕ) → length (historyWords K t h) ≡ t
-  unfolding historyWords
-  history-length zero h = refl
-  history-length (suc t) h = length-append (historyWords K t (h / K)) _ ∙ add-one _ ∙ ap suc (history-length t (h / K))
-
   -- the words are stored from the last to the first: at first none is, and the list holds zeros
   pub words-none : (t h : ℕ) → t ≤ 16 → historyWords K (t - 0) h ++ drop (t - 0) (replicate 16 0) ≡ historyWords K t h ++ replicate (16 - t) 0
   words-none t h l =
@@ -65,7 +62,7 @@ module _ (K : ℕ) where
   -- the words of T frames, of which t are the history's
   words-of : (t h T : ℕ) → t ≤ T → T ≤ 16 → take T (historyWords K t h ++ replicate (16 - t) 0) ≡ historyWords K t h ++ replicate (T - t) 0
   words-of t h T l m =
-      let e : T ≡ length (historyWords K t h) + (T - t) = omega (arith, history-length t h) in
+      let e : T ≡ length (historyWords K t h) + (T - t) = omega (arith, history-length K t h) in
       ap (λ k. take k (historyWords K t h ++ replicate (16 - t) 0)) e
       ∙ take-append-add (historyWords K t h) (replicate (16 - t) 0) (T - t)
       ∙ ap (λ s. historyWords K t h ++ s) (take-replicate 0 (T - t) (16 - t) (omega arith))
@@ -73,6 +70,43 @@ module _ (K : ℕ) where
 -- a word of n bits, by `1 << n`
 pub word-fits : (n q : ℕ) → n ≤ 16 → (0 < (1 * 2 ^ n) % 2 ^ 64) × (q % ((1 * 2 ^ n) % 2 ^ 64) < 65536)
 word-fits n q h = rw (power-is n h) (pow-pos n, lt-of-lt-of-le (mod-lt q (pow-pos n)) (pow-mono {j = 16} h))
+
+-- ---- lists under a function
+
+module _ (f : ℕ → ℕ) where
+  -- a list that is made by the places of another
+  listed-map : (g : ℕ → ℕ) (l : List ℕ) → ((j : ℕ) → j < length l → g j ≡ f (getD l j 0)) → listed [] g (length l) ≡ map f l
+  unfolding grown
+  listed-map g l e = upto (length l) (omega arith) ∙ ap (map f) (take-length l)
+    where
+      upto : (k : ℕ) → k ≤ length l → listed [] g k ≡ map f (take k l)
+      upto zero h = refl
+      upto (suc k) h =
+          ap₂ (λ (s : List ℕ) (x : ℕ). s ++ (x ∷ [])) (upto k (omega arith)) (e k h) ∙ sym (map-append f (take k l) (getD l k 0 ∷ [])) ∙ ap (map f) (sym (take-suc l k 0 h))
+
+  -- the list in which the first k are replaced
+  abbrev pub replaced : (k : ℕ) → List ℕ → List ℕ
+  replaced k l = map f (take k l) ++ drop k l
+
+  front-length : (k : ℕ) (l : List ℕ) → k ≤ length l → length (map f (take k l)) ≡ k
+  front-length k l h = length-map (take k l) f ∙ length-take-le k l h
+
+  pub replaced-length : (k : ℕ) (l : List ℕ) → length (replaced k l) ≡ length l
+  replaced-length k l = length-front l (map f (take k l)) k (length-map (take k l) f)
+
+  pub replaced-all : (k : ℕ) (l : List ℕ) → length l ≤ k → replaced k l ≡ map f l
+  replaced-all k l h = ap₂ (λ (x y : List ℕ). map f x ++ y) (take-all k l h) (drop-of-length-le l h) ∙ append-nil (map f l)
+
+  -- the part from a to e is replaced after the first a
+  pub replaced-more : (v l r : List ℕ) (a e : ℕ) → a ≤ e → e ≤ length l → v ≡ replaced a l → r ≡ map f (take (e - a) (drop a v))
+      → take a v ++ (r ++ drop (e - a) (drop a v)) ≡ replaced e l
+  replaced-more v l r a e h m ev er =
+      let k = e - a in
+      let front : take a v ≡ map f (take a l) = ap (take a) ev ∙ take-at (map f (take a l)) (drop a l) a (front-length a l (omega arith)) in
+      let rest : drop a v ≡ drop a l = ap (drop a) ev ∙ drop-at (map f (take a l)) (drop a l) a (front-length a l (omega arith)) in
+      let whole : a + k ≡ e = omega arith in
+      let part : r ≡ map f (take k (drop a l)) = er ∙ ap (λ (s : List ℕ). map f (take k s)) rest in
+      rw (front, rest, part, ← append-assoc (map f (take a l)) (map f (take k (drop a l))) (drop k (drop a l)), ← map-append f (take a l) (take k (drop a l)), ← take-add a k l, drop-drop k a l, whole)
 
 -- ---- the response
 
@@ -102,22 +136,14 @@ module _ (b : List ℕ) (head : Head) (H : Headed b) (O : HeadOf b head) (t : �
       word-is b (take (head .frames) words) v (head .outputs) (firstOutput head t) (t - 1) ev (O .outputs-is) first-is are-signals
       ∙ ap (λ (s : List ℕ). outputWord b s (t - 1)) fed
 
--- ---- the responses to given histories
-
-module _ (f : ℕ → ℕ) where
-  map-snoc : (l : List ℕ) (x : ℕ) → map f (l ++ (x ∷ [])) ≡ map f l ++ (f x ∷ [])
-  map-snoc [] x = refl
-  map-snoc (y ∷ l) x = ap (λ (s : List ℕ). f y ∷ s) (map-snoc l x)
-
-  pub each-more : (v v₀ : List ℕ) (i x : ℕ) → i < length v → length v ≡ length v₀ → take i v ≡ map f (take i v₀) → drop i v ≡ drop i v₀ → x ≡ f (getD v i 0)
-      → take (i + 1) (set v i x) ≡ map f (take (i + 1) v₀)
-  each-more v v₀ i x h el et ed ex =
-      let same : getD v i 0 ≡ getD v₀ i 0 = ap (λ k. getD v k 0) (sym (add-zero i)) ∙ sym (getD-drop i v 0 0) ∙ ap (λ s. getD s 0 0) ed ∙ getD-drop i v₀ 0 0 ∙ ap (λ k. getD v₀ k 0) (add-zero i) in
-      rw (add-one i, take-suc-set v i x h, take-suc v₀ i 0 (omega arith), map-snoc (take i v₀) (getD v₀ i 0), ← same, ← ex)
-      (ap (λ (s : List ℕ). s ++ (x ∷ [])) et)
-
-  pub each-all : (v v₀ : List ℕ) (i : ℕ) → length v ≤ i → length v ≡ length v₀ → take i v ≡ map f (take i v₀) → v ≡ map f v₀
-  each-all v v₀ i h el e = sym (take-all i v h) ∙ e ∙ ap (map f) (take-all i v₀ (omega arith))
+  -- the same of all histories side by side, where v has the lanes of all signals
+  pub responses-are : (hs v w : List ℕ) → SignalLanes b t hs v
+      → w ≡ listed [] (λ j. packed (take (head .outputs) (drop (firstOutput head t) (lane j v)))) (length hs) → w ≡ map (response b t) hs
+  unfolding response Lanes
+  responses-are hs v w L ew =
+      ew
+      ∙ listed-map (response b t) (λ j. packed (take (head .outputs) (drop (firstOutput head t) (lane j v)))) hs
+      (λ j hj. word-is b (sequence (2 ^ inputs b) (frames b) t (getD hs j 0)) (lane j v) (head .outputs) (firstOutput head t) (t - 1) (L j hj) (O .outputs-is) first-is are-signals)
 
 -- ---- all histories
 
@@ -141,7 +167,7 @@ fill-more v k h e = rw (add-one k, take-suc-set v k k h) (ap (λ (l : List ℕ).
 map-tabulate : (f : ℕ → ℕ) (k : ℕ) → map f (tabulate k (λ i. i)) ≡ tabulate k f
 unfolding tabulate join
 map-tabulate f zero = refl
-map-tabulate f (suc k) = map-snoc f (tabulate k (λ i. i)) k ∙ ap (λ (l : List ℕ). l ++ (f k ∷ [])) (map-tabulate f k)
+map-tabulate f (suc k) = map-append f (tabulate k (λ i. i)) (k ∷ []) ∙ ap (λ (l : List ℕ). l ++ (f k ∷ [])) (map-tabulate f k)
 
 -- all are stored, and the part that they fill is replaced by r
 pub all-filled : (b v v₀ r : List ℕ) (t h k : ℕ) → h ≡ k → k ≡ (2 ^ inputs b) ^ t → take h v ≡ tabulate h (λ i. i) → drop h v ≡ drop h v₀

@@ -2,10 +2,13 @@
 use circuit::Head;
 use circuit::pack;
 use circuit::signal_values;
+use lanes::pack_lanes;
+use lanes::room;
+use lanes::store_signals;
 use sizes::Limits;
 ghost use mathlib.Core.Path.{_≡_};
 ghost use mathlib.Core.List.{_++_, map};
-ghost use Prim.Native.Nat.{_-_, _^_, _≤_};
+ghost use Prim.Native.Nat.{_+_, _-_, _^_, _≤_, min};
 ghost use lib.ListN.{length, replicate};
 ghost use Rattle.sizes.specs.Sizes.{inputs, frames};
 ghost use Rattle.circuit.specs.Legal.{Headed, HeadOf, Legal};
@@ -44,6 +47,29 @@ pub fn respond(circuit: &[u8], head: Head, t: usize, h: usize) -> u16
     pack(&values, at, head.outputs)
 }
 
+// Replaces each of up to 64 histories by the response of frame t, from 1, to it. All are simulated side by side.
+fn respond_part(circuit: &[u8], head: Head, t: usize, lanes: &mut [u64], histories: &mut [u16])
+    requires { ⌜ Headed (now circuit) ⌝ }
+    requires { ⌜ HeadOf (now circuit) head ⌝ }
+    requires { ⌜ Legal (now circuit) ⌝ }
+    requires { ⌜ (1 ≤ t) × (t ≤ frames (now circuit)) ⌝ }
+    requires { ⌜ (4113 ≤ length (now lanes)) × (length (now histories) ≤ 64) ⌝ }
+    ensures { λ _. ⌜ now (histories .exit) ≡ map (response (now (circuit .entry)) t) (now (histories .entry)) ⌝ }
+{
+    store_signals(circuit, head, t, histories, lanes);
+    let first = head.base + (head.gates - head.total);
+    let at = first + head.outputs * (t - 1);
+    pack_lanes(lanes, at, head.outputs, histories);
+}
+
+// Where the part of at most 64 that begins at `at` ends.
+fn part_end(at: usize, count: usize) -> usize
+    requires { ⌜ at ≤ count ⌝ }
+    ensures { λ r. ⌜ r ≡ min (at + 64) count ⌝ }
+{
+    if count - at < 64 { count } else { at + 64 }
+}
+
 // Replaces each history by the response of frame t, from 1, to it.
 pub fn respond_each(circuit: &[u8], head: Head, t: usize, histories: &mut [u16])
     requires { ⌜ Headed (now circuit) ⌝ }
@@ -52,9 +78,13 @@ pub fn respond_each(circuit: &[u8], head: Head, t: usize, histories: &mut [u16])
     requires { ⌜ (1 ≤ t) × (t ≤ frames (now circuit)) ⌝ }
     ensures { λ _. ⌜ now (histories .exit) ≡ map (response (now (circuit .entry)) t) (now (histories .entry)) ⌝ }
 {
+    let mut lanes = room();
     let count = histories.len();
-    for i in 0..count {
-        histories[i] = respond(circuit, head, t, histories[i] as usize);
+    let mut at = 0;
+    while at < count {
+        let end = part_end(at, count);
+        respond_part(circuit, head, t, &mut lanes, &mut histories[at..end]);
+        at = end;
     }
 }
 

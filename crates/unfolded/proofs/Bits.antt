@@ -4,12 +4,13 @@ use mathlib.Core.Bool.{Bool, true, false, not, _&&_, cond}
 use mathlib.Core.Logic.{⊎-elim}
 use mathlib.Core.List.{List, [], _∷_}
 use Prim.Native.Nat.{ℕ, zero, suc, _*_, _/_, _%_, _^_, _<_}
-use native.Mathlib.Nat.{le-of-suc-le-suc, eq-or-lt-of-le, le-refl, le-suc, le-trans, pow-zero, pow-suc, mul-comm, div-one, div-div-eq-div-mul}
+use native.Mathlib.Nat.{le-of-suc-le-suc, eq-or-lt-of-le, le-refl, le-suc, le-trans, pow-zero, pow-suc}
 use native.Mathlib.Omega.{arith}
 use lib.Dec.{eqb}
 use lib.ListN.{length, getD}
 use borrow.Author.Tests.{eqb-true, eqb-false}
 use Rattle.circuit.specs.Lists.{listed, bit, packed}
+use Rattle.circuit.proofs.Bits.{bit-zero, bit-suc, digit}
 use Rattle.layered.specs.Search.{every}
 use Rattle.unfolded.proofs.Lists.{listed-length, listed-at}
 
@@ -73,21 +74,6 @@ module _ (p : ℕ → Bool) where
       (eq-or-lt-of-le (le-of-suc-le-suc h))
 
 -- ---- bits
-
-bit-zero : (w : ℕ) → bit w 0 ≡ eqb (w % 2) 1
-unfolding bit
-bit-zero w = ap (λ k. eqb (w / k % 2) 1) (pow-zero 2) ∙ ap (λ k. eqb (k % 2) 1) (div-one w)
-
-bit-suc : (w j : ℕ) → bit w (suc j) ≡ bit (w / 2) j
-unfolding bit
-bit-suc w j = ap (λ k. eqb (k % 2) 1) (ap (λ k. w / k) (pow-suc 2 j ∙ mul-comm (2 ^ j) 2) ∙ sym (div-div-eq-div-mul w 2 (2 ^ j)))
-
-digit : (w : ℕ) → cond (eqb (w % 2) 1) 1 0 ≡ w % 2
-digit w = go (eqb (w % 2) 1) refl
-  where
-    go : (t : Bool) → eqb (w % 2) 1 ≡ t → cond t 1 0 ≡ w % 2
-    go true e = sym (eqb-true (w % 2) 1 e)
-    go false e = let n : w % 2 ≡ 1 → ⊥ = eqb-false (w % 2) 1 e in omega (arith, n)
 
 -- a word below 2^m is what its m bits pack to
 pub packed-bits : (m w : ℕ) (vs : List Bool) → w < 2 ^ m → length vs ≡ m → ((j : ℕ) → j < m → getD vs j false ≡ bit w j) → packed vs ≡ w

@@ -1,0 +1,92 @@
+-- Bits of a conjunction, of a complement, of a packed list and of a part of a number. Assumes nothing.
+use mathlib.Core.Path.{_≡_, refl, ap, _∙_}
+use mathlib.Core.Bool.{Bool, true, false, not, _&&_, cond}
+use mathlib.Core.List.{List, [], _∷_}
+use Prim.Native.Nat.{ℕ, zero, suc, _+_, _*_, _-_, _/_, _%_, _^_, _<_}
+use native.Mathlib.Nat.{mod-lt, pow-suc, add-mul}
+use native.Mathlib.Omega.{arith}
+use lib.Dec.{eqb, lit<}
+use lib.ListN.{getD}
+use lib.Pow.{pow-pos, split, high, ones-split, shr-lt, shr-shr, field, mod-mod-pow}
+use lib.Bits.{bitAnd, and-shr, and-mod}
+use Rattle.circuit.specs.Lists.{bit, packed}
+use Rattle.circuit.proofs.Bits.{bit-zero, bit-suc}
+
+-- ---- a conjunction
+
+digit-and : (p q : ℕ) → p < 2 → q < 2 → eqb (bitAnd p q) 1 ≡ (eqb p 1 && eqb q 1)
+digit-and zero q hp hq = refl
+digit-and (suc zero) zero hp hq = refl
+digit-and (suc zero) (suc zero) hp hq = refl
+digit-and (suc zero) (suc (suc q)) hp hq = absurd (omega arith)
+digit-and (suc (suc p)) q hp hq = absurd (omega arith)
+
+pub bit-and : (x y j : ℕ) → bit (bitAnd x y) j ≡ (bit x j && bit y j)
+unfolding bit
+bit-and x y j =
+    ap (λ k. eqb (k % 2) 1) (and-shr x y j) ∙ ap (λ k. eqb k 1) (and-mod (x / 2 ^ j) (y / 2 ^ j) 1)
+    ∙ digit-and (x / 2 ^ j % 2) (y / 2 ^ j % 2) (mod-lt (x / 2 ^ j) (lit< tt)) (mod-lt (y / 2 ^ j) (lit< tt))
+
+-- ---- a complement
+
+digit-not : (p q : ℕ) → p + q ≡ 1 → eqb p 1 ≡ not (eqb q 1)
+digit-not zero zero e = absurd (omega arith)
+digit-not zero (suc zero) e = refl
+digit-not zero (suc (suc q)) e = absurd (omega arith)
+digit-not (suc zero) zero e = refl
+digit-not (suc zero) (suc q) e = absurd (omega arith)
+digit-not (suc (suc p)) q e = absurd (omega arith)
+
+-- of w bits, above bit j of which there are k
+complement-shr : (x j k w : ℕ) → w ≡ suc k + j → x < 2 ^ w → (2 ^ w - 1 - x) / 2 ^ j ≡ 2 ^ suc k - 1 - x / 2 ^ j
+complement-shr x j k w ew h =
+    let P = 2 ^ j in
+    let A = 2 ^ suc k - 1 in
+    let q = x / 2 ^ j in
+    let ones : 2 ^ w - 1 ≡ A * P + (P - 1) = ap (λ i. 2 ^ i - 1) ew ∙ ones-split (suc k) j in
+    let below : q < 2 ^ suc k = shr-lt (suc k) j (rw ew at h) in
+    let e : A ≡ (A - q) + q = omega arith in
+    let parts : A * P ≡ (A - q) * P + q * P = ap (λ i. i * P) e ∙ add-mul (A - q) q P in
+    let apart : 2 ^ w - 1 - x ≡ (A - q) * P + (P - 1 - x % P) = omega (arith, split x j, mod-lt x (pow-pos j)) in
+    ap (λ i. i / P) apart ∙ high (A - q) j (omega (arith, pow-pos j))
+
+pub bit-not : (x j w : ℕ) → j < w → x < 2 ^ w → bit (2 ^ w - 1 - x) j ≡ not (bit x j)
+unfolding bit
+bit-not x j w hj h =
+    let k = w - 1 - j in
+    let q = x / 2 ^ j in
+    let ew : w ≡ suc k + j = omega arith in
+    let below : q < 2 ^ suc k = shr-lt (suc k) j (rw ew at h) in
+    ap (λ i. eqb (i % 2) 1) (complement-shr x j k w ew h)
+    ∙ digit-not ((2 ^ suc k - 1 - q) % 2) (q % 2) (omega (arith, pow-suc 2 k))
+
+-- ---- a packed list
+
+pub bit-none : (j : ℕ) → bit 0 j ≡ false
+bit-none zero = bit-zero 0
+bit-none (suc j) = bit-suc 0 j ∙ bit-none j
+
+-- a digit below the others
+lowest : (v : Bool) (x : ℕ) → eqb ((cond v 1 0 + 2 * x) % 2) 1 ≡ v
+lowest true x = let e : (1 + 2 * x) % 2 ≡ 1 = omega arith in ap (λ k. eqb k 1) e
+lowest false x = let e : (0 + 2 * x) % 2 ≡ 0 = omega arith in ap (λ k. eqb k 1) e
+
+above : (v : Bool) (x : ℕ) → (cond v 1 0 + 2 * x) / 2 ≡ x
+above true x = omega arith
+above false x = omega arith
+
+pub bit-packed : (l : List Bool) (j : ℕ) → bit (packed l) j ≡ getD l j false
+unfolding packed
+bit-packed [] j = bit-none j
+bit-packed (v ∷ l) zero = bit-zero _ ∙ lowest v (packed l)
+bit-packed (v ∷ l) (suc j) = bit-suc _ j ∙ ap (λ x. bit x j) (above v (packed l)) ∙ bit-packed l j
+
+-- ---- a part: n bits of x from bit a on
+
+pub bit-part : (x a n i : ℕ) → i < n → bit (x / 2 ^ a % 2 ^ n) i ≡ bit x (a + i)
+unfolding bit
+bit-part x a n i h =
+    let k = n - 1 - i in
+    let e : n ≡ k + 1 + i = omega arith in
+    ap (λ m. eqb (x / 2 ^ a % 2 ^ m / 2 ^ i % 2) 1) e ∙ ap (λ y. eqb (y % 2) 1) (field (x / 2 ^ a) (k + 1) i)
+    ∙ ap (λ y. eqb y 1) (mod-mod-pow (x / 2 ^ a / 2 ^ i) k 1) ∙ ap (λ y. eqb (y % 2) 1) (shr-shr x a i)

@@ -1,0 +1,70 @@
+-- `responses::respond_part` meets its contract: each lane holds the values of all signals on its history, and the outputs of frame t stand among them.
+-- Assumes nothing.
+use Prim.Native.Nat.{_+_, _≤_}
+use native.Mathlib.Omega.{arith}
+use denote.Ref.{now}
+use Rattle.responses.proofs.Laws.{firstOutput, outputs-fit, responses-are}
+use borrow.Author.Needs.{needs}
+use Rattle.responses.proofs.respond_part.Statement.{statement}
+use Rattle.responses.proofs.respond_part.Tie as tie
+
+-- there is room for the outputs of frame t
+fit : (c : tie.Start) → firstOutput (c .args .head) (c .args .t) + c .args .head .outputs ≤ 4113
+fit c = let p = c .pre in outputs-fit (now (c .args .circuit)) (c .args .head) (p .0) (p .1 .0) (c .args .t) (p .1 .1 .1 .0 .0) (p .1 .1 .1 .0 .1)
+
+-- once the lanes are there: the entry
+abbrev start : tie.After-struct-known3 → tie.Start
+start c = c .before .before .before .before .before .before .before .before .before .before .before
+
+store-signals-requires : tie.Need-store-signals-requires
+store-signals-requires c κs = search needs
+
+sub-first : tie.Need-sub-first
+sub-first c = search needs
+
+add-first : tie.Need-add-first
+add-first c = search needs
+
+sub-at : tie.Need-sub-at
+sub-at c = search needs
+
+mul-at : tie.Need-mul-at
+mul-at c = omega (arith, fit (start c))
+
+add-at : tie.Need-add-at
+add-at c = omega (arith, fit (start c))
+
+pack-lanes-requires : tie.Need-pack-lanes-requires
+pack-lanes-requires c κs =
+    let s = start (c .before .before) in
+    (omega (arith, s .pre), omega (arith, fit s, s .pre, c .before .before .before .before .before .before .before .store-signals .kept .1 .1 .1 .1 .0), omega (arith, s .pre))
+
+same-length : tie.Need-same-length
+same-length c = search needs
+
+same-length-2 : tie.Need-same-length-2
+same-length-2 c = search needs
+
+returns : tie.Need-returns
+returns c =
+    let a = c .before .before .before in
+    let s = start (a .before .before) in
+    let p = s .pre in
+    let v = a .before .before .before .before .before .before .before .store-signals in
+    responses-are (now (s .args .circuit)) (s .args .head) (p .0) (p .1 .0) (s .args .t) (p .1 .1 .1 .0 .0) (p .1 .1 .1 .0 .1)
+    (now (s .args .histories)) (v .last .1 .1 .1 .1 .0) (c .before .before .pack-lanes .last .1 .1 .1 .0) (v .ensures) (c .before .before .pack-lanes .ensures)
+
+pub respond-part-spec : {M : Type 1} → statement M
+respond-part-spec =
+    tie.close
+    (tie.spec
+    store-signals-requires
+    sub-first
+    add-first
+    sub-at
+    mul-at
+    add-at
+    pack-lanes-requires
+    same-length
+    same-length-2
+    returns)
