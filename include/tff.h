@@ -81,6 +81,12 @@ void tff_step(const uint8_t *table, size_t table_len,
               uint16_t layer, uint16_t state, uint16_t word,
               uint64_t *answer, size_t answer_len);
 
+/* Puts into result a circuit whose outputs are the table's.
+ * Refuses as the check, then 8, 7. Accepted: place is the bytes written. */
+void tff_unfold(const uint8_t *table, size_t table_len,
+                uint8_t *result, size_t result_len,
+                uint64_t *answer, size_t answer_len);
+
 #ifdef __cplusplus
 }
 #endif

@@ -7,12 +7,14 @@
 mod circuit;
 mod fold;
 mod table;
+mod unfold;
 
 pub mod raw;
 
 pub use circuit::{check_circuit, simulate};
 pub use fold::fold;
 pub use table::{check_table, run, step, Stepped};
+pub use unfold::unfold;
 
 /// What a call answers: 0 or the reason of its refusal, and a place.
 #[derive(Clone, Copy, Debug, PartialEq, Eq)]

@@ -57,4 +57,13 @@ extern "C" {
         answer: *mut u64,
         answer_len: usize,
     );
+
+    pub fn tff_unfold(
+        table: *const u8,
+        table_len: usize,
+        result: *mut u8,
+        result_len: usize,
+        answer: *mut u64,
+        answer_len: usize,
+    );
 }

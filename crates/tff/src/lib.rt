@@ -10,6 +10,7 @@ ghost use Rattle.verdict.specs.Figures.{figures};
 ghost use Rattle.circuit.specs.Circuit.{checked, simulated, simulationResult};
 ghost use Rattle.table.specs.Table.{checked as tableChecked, ran, runResult, stepped};
 ghost use Rattle.folded.specs.Folded.{foldChecked, foldResult, foldScratch};
+ghost use Rattle.unfolded.specs.Unfolded.{unfoldChecked, unfoldResult};
 ghost use Rattle.tff.specs.Answer.{answered, stepAnswered, ifRoom};
 
 // Puts the figures of a verdict into `answer`, which has room for them.
@@ -111,4 +112,15 @@ pub extern "C" fn tff_fold(
         return;
     }
     put(fold::fold(circuit, scratch, result), answer);
+}
+
+#[no_mangle]
+pub extern "C" fn tff_unfold(table: &[u8], result: &mut [u8], answer: &mut [u64])
+    ensures answer { λ _. ⌜ now (answer .exit) ≡ ifRoom (now (answer .entry)) 2 (answered (unfoldChecked (now (table .entry)) (length (now (result .entry)))) (now (answer .entry))) (now (answer .entry)) ⌝ }
+    ensures result { λ _. ⌜ now (result .exit) ≡ ifRoom (now (answer .entry)) 2 (unfoldResult (now (table .entry)) (now (result .entry))) (now (result .entry)) ⌝ }
+{
+    if answer.len() < 2 {
+        return;
+    }
+    put(unfold::unfold(table, result), answer);
 }
