@@ -1,6 +1,7 @@
 -- Where the layers' numbers lie: one after the other, all before the end of the half. Assumes nothing.
+use mathlib.Core.Path.{_≡_, ap, _∙_}
 use Prim.Native.Nat.{ℕ, zero, suc, _+_, _*_, _^_, _≤_, _<_}
-use native.Mathlib.Nat.{pow-zero, pow-suc, mul-le-mul-left, le-refl, pow-le-pow-right}
+use native.Mathlib.Nat.{pow-zero, pow-suc, one-mul, mul-le-mul-left, le-refl, pow-le-pow-right}
 use native.Mathlib.Decide.{le-ind}
 use native.Mathlib.Omega.{arith}
 use lib.Pow.{pow-mono}
@@ -29,6 +30,10 @@ module _ (K : ℕ) (two : 2 ≤ K) where
 -- two words at least are below 2^n
 pub two-words : (n : ℕ) → 1 ≤ n → 2 ≤ 2 ^ n
 two-words n h = pow-mono {i = 1} h
+
+-- the histories of one word are the words
+pub one-word : (K : ℕ) → K ^ 1 ≡ K
+one-word K = pow-suc K 0 ∙ ap (λ (x : ℕ). x * K) (pow-zero K) ∙ one-mul K
 
 -- K^t fits, where n·t is at most 16
 pub power-fits : (n t : ℕ) → n * t ≤ 16 → (2 ^ n) ^ t ≤ 65536

@@ -2,16 +2,27 @@
 use Prim.Native.Nat.{ℕ, zero, suc, _+_, _^_, _≤_, _<_}
 use mathlib.Core.Path.{_≡_}
 use mathlib.Core.List.{List}
+use lib.Dec.{eqb}
 use lib.ListN.{length, getD}
 use Rattle.sizes.specs.Sizes.{inputs, frames}
 use Rattle.layered.specs.States.{count, number}
 use Rattle.circuit.specs.Theorems.{response}
+use Rattle.rows.specs.declared.Layer.{Layer}
 use Rattle.classify.specs.declared.Plan.{Plan}
 
 -- where the numbers of the histories of t words begin: after those of shorter ones
 unfoldable pub layerAt : (K t : ℕ) → ℕ
 layerAt K zero = 0
 layerAt K (suc t) = layerAt K t + K ^ t
+
+-- where layer t of T lies in scratch, with K words: the responses of its frame behind the half that holds the numbers
+pub record LayerOf (K T t : ℕ) (layer : Layer) : Type 0 where
+  pub fan-is : layer .fan ≡ K
+  pub size-is : layer .size ≡ K ^ t
+  pub at-is : layer .at ≡ layerAt K t
+  pub nexts-is : layer .nexts ≡ layerAt K (suc t)
+  pub responses-is : layer .responses ≡ K ^ T
+  pub last-is : layer .last ≡ eqb (suc t) T
 
 -- the state of the circuit's history h of t words, and how many states layer t has
 abbrev pub stateOf : List ℕ → (t h : ℕ) → ℕ

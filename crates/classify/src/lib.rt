@@ -9,7 +9,7 @@ ghost use lib.ListN.{length};
 ghost use Rattle.sizes.specs.Sizes.{frames};
 ghost use Rattle.circuit.specs.Circuit.{allInputs};
 ghost use Rattle.circuit.specs.Legal.{Headed, HeadOf, Legal};
-ghost use Rattle.classify.specs.Classified.{layerAt, stateCount, Known, Counted};
+ghost use Rattle.classify.specs.Classified.{layerAt, LayerOf, stateCount, Known, Counted};
 
 // What is known of a table before it is written: the counts of layers 0 to T, and 0 beyond.
 pub struct Plan {
@@ -36,6 +36,23 @@ pub fn layer_at(inputs: usize, t: usize) -> usize
     at
 }
 
+// Where layer t lies in scratch.
+pub fn layer_of(head: Head, t: usize) -> Layer
+    requires { ⌜ (1 ≤ head .inputs) × (head .inputs * head .frames ≤ 16) × (t < head .frames) ⌝ }
+    ensures { λ r. ⌜ LayerOf (2 ^ head .inputs) (head .frames) t r ⌝ }
+{
+    let size = histories(head.inputs, t);
+    let at = layer_at(head.inputs, t);
+    Layer {
+        fan: histories(head.inputs, 1),
+        size,
+        at,
+        nexts: at + size,
+        responses: histories(head.inputs, head.frames),
+        last: t + 1 == head.frames,
+    }
+}
+
 // Numbers the histories of layer t, given those of the next, and answers how many states it has.
 fn classify_layer(circuit: &[u8], head: Head, scratch: &mut [u16], t: usize) -> usize
     requires { ⌜ Headed (now circuit) ⌝ }
@@ -47,18 +64,9 @@ fn classify_layer(circuit: &[u8], head: Head, scratch: &mut [u16], t: usize) -> 
     ensures { λ r. ⌜ Known (now (circuit .entry)) (now (scratch .exit)) t ⌝ }
     ensures { λ r. ⌜ r ≡ stateCount (now (circuit .entry)) t ⌝ }
 {
-    let half = histories(head.inputs, head.frames);
-    let size = histories(head.inputs, t);
-    let at = layer_at(head.inputs, t);
+    let layer = layer_of(head, t);
+    let half = layer.responses;
     fill(circuit, head, t + 1, &mut scratch[half..]);
-    let layer = Layer {
-        fan: histories(head.inputs, 1),
-        size,
-        at,
-        nexts: at + size,
-        responses: half,
-        last: t + 1 == head.frames,
-    };
     number_layer(scratch, layer)
 }
 

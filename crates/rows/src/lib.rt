@@ -17,6 +17,19 @@ pub struct Layer {
     pub last: bool,
 }
 
+// The next state of entry i.
+pub fn next_state(scratch: &[u16], layer: Layer, i: usize) -> u16
+    requires { ⌜ Placed (now scratch) layer ⌝ }
+    requires { ⌜ i < layer .size * layer .fan ⌝ }
+    ensures { λ r. ⌜ r ≡ nextIn (now (scratch .entry)) layer i ⌝ }
+{
+    if layer.last {
+        return 0;
+    }
+    let at = layer.nexts + i;
+    scratch[at]
+}
+
 // The entry i as one number.
 fn entry(scratch: &[u16], layer: Layer, i: usize) -> usize
     requires { ⌜ Placed (now scratch) layer ⌝ }
@@ -24,12 +37,8 @@ fn entry(scratch: &[u16], layer: Layer, i: usize) -> usize
     ensures { λ r. ⌜ Entry (outIn (now (scratch .entry)) layer) (nextIn (now (scratch .entry)) layer) i r ⌝ }
 {
     let responses = layer.responses;
-    let nexts = layer.nexts;
     let out = scratch[responses + i] as usize;
-    if layer.last {
-        return out;
-    }
-    out + 65536 * scratch[nexts + i] as usize
+    out + 65536 * next_state(scratch, layer, i) as usize
 }
 
 // As many chains as there are hashes.
