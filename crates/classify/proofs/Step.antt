@@ -67,7 +67,7 @@ module _ (b : List ℕ) (H : Headed b) (t : ℕ) (bt : t < frames b) (layer : La
   two : 2 ≤ 2 ^ inputs b
   two = two-words (inputs b) (H .sizes .inputs-from)
 
-  entries : layer .size * layer .fan ≡ (2 ^ inputs b) ^ suc t
+  pub entries : layer .size * layer .fan ≡ (2 ^ inputs b) ^ suc t
   entries = ap₂ (λ (x y : ℕ). x * y) (L .size-is) (L .fan-is) ∙ sym (pow-suc (2 ^ inputs b) t)
 
   nexts-end : layer .nexts + cond (layer .last) 0 (layer .size * layer .fan) ≤ layer .responses

@@ -29,56 +29,40 @@ use Rattle.classify.specs.declared.Plan.{Plan}
 use Rattle.classify.proofs.Layers.{two-words}
 use Rattle.emit.specs.Emitted.{entryOf, rowWords, layerWords, arrayWords, headWords, allWords}
 
--- ---- storing word after word
+-- ---- parts for the numbers that p holds of, one after the other
 
--- the buffer r is r₀ with the first w words stored from `at` on; one more is stored behind them
-pub word-more : (r₀ r : List ℕ) (at w : ℕ) (f : ℕ → ℕ) (j x : ℕ) → r ≡ stored 2 r₀ at (tabulate w f) → j ≡ at + 2 * w → at + 2 * w ≤ length r₀ → x ≡ f w
-    → stored 2 r j (x ∷ []) ≡ stored 2 r₀ at (tabulate (w + 1) f)
-unfolding tabulate join
-word-more r₀ r at w f j x er ej room ex =
-    let l : length (tabulate w f) ≡ w = tabulate-length w f in
-    ap₂ (λ (b : List ℕ) (x : ℕ). stored 2 b j (x ∷ [])) er ex
-    ∙ stored-more 2 r₀ at (tabulate w f) (f w ∷ []) j (omega arith) (omega arith)
-    ∙ ap (λ (k : ℕ). stored 2 r₀ at (tabulate k f)) (sym (add-one w))
+module _ (p : ℕ → Bool) (f : ℕ → List ℕ) where
+  abbrev joined : ℕ → List ℕ
+  joined n = join n (λ i. cond (p i) (f i) [])
 
--- ---- entries, rows and layers
-
--- the histories of one word are the words
-pub fan-is : (b : List ℕ) (n : ℕ) {r : ℕ} → n ≡ inputs b → r ≡ (2 ^ n) ^ 1 → r ≡ 2 ^ inputs b
-fan-is b n e q =
-    q ∙ ap (λ (n : ℕ). (2 ^ n) ^ 1) e ∙ pow-suc (2 ^ inputs b) 0 ∙ ap (λ (x : ℕ). x * 2 ^ inputs b) (pow-zero (2 ^ inputs b)) ∙ one-mul (2 ^ inputs b)
-
--- the next states of the last layer are 0
-pub last-next : (b : List ℕ) → Headed b → (t i : ℕ) → suc t ≡ frames b → i < (2 ^ inputs b) ^ suc t → stateOf b (suc t) i ≡ 0
-last-next b H t i e l =
-    let K : ℕ = 2 ^ inputs b in
-    let last : number K (frames b) (response b) (frames b) i < 1 =
-    subst (λ c. number K (frames b) (response b) (frames b) i < c) (count-last K (frames b) (response b) (omega (arith, two-words (inputs b) (H .sizes .inputs-from))))
-    (number-below K (frames b) (response b) (frames b) i (rw (← e) l)) in
-    ap (λ u. stateOf b u i) e ∙ lt-one last
-
-module _ (b : List ℕ) (nexts : Bool) where
-  pub row-length : (t h : ℕ) → length (rowWords b nexts t h) ≡ 2 ^ inputs b
-  unfolding rowWords
-  row-length t h = tabulate-length (2 ^ inputs b) _
-
-  -- one history more
-  pub layer-row : (t h : ℕ) → T (first (2 ^ inputs b) (frames b) (response b) t h) → layerWords b nexts t (suc h) ≡ layerWords b nexts t h ++ rowWords b nexts t h
-  unfolding layerWords join
-  layer-row t h f = ap (λ r. layerWords b nexts t h ++ r) (chosen (first (2 ^ inputs b) (frames b) (response b) t h) f)
+  pub joined-more : (n : ℕ) → T (p n) → joined (suc n) ≡ joined n ++ f n
+  unfolding join
+  joined-more n h = ap (λ r. joined n ++ r) (go (p n) h)
     where
-      chosen : (c : Bool) → T c → cond c (rowWords b nexts t h) [] ≡ rowWords b nexts t h
-      chosen true f = refl
-      chosen false f = absurd f
+      go : (c : Bool) → T c → cond c (f n) [] ≡ f n
+      go true h = refl
+      go false h = absurd h
 
-  -- a history that is not the smallest of its class adds nothing
-  pub layer-none : (t h : ℕ) → (T (first (2 ^ inputs b) (frames b) (response b) t h) → ⊥) → layerWords b nexts t (suc h) ≡ layerWords b nexts t h
-  unfolding layerWords join
-  layer-none t h f = ap (λ r. layerWords b nexts t h ++ r) (chosen (first (2 ^ inputs b) (frames b) (response b) t h) f) ∙ append-nil (layerWords b nexts t h)
+  pub joined-none : (n : ℕ) → (T (p n) → ⊥) → joined (suc n) ≡ joined n
+  unfolding join
+  joined-none n h = ap (λ r. joined n ++ r) (go (p n) h) ∙ append-nil (joined n)
     where
-      chosen : (c : Bool) → (T c → ⊥) → cond c (rowWords b nexts t h) [] ≡ []
-      chosen true f = absurd (f tt)
-      chosen false f = refl
+      go : (c : Bool) → (T c → ⊥) → cond c (f n) [] ≡ []
+      go true h = absurd (h tt)
+      go false h = refl
+
+  -- parts of k numbers each
+  pub joined-length : (k : ℕ) → ((i : ℕ) → length (f i) ≡ k) → (n : ℕ) → length (joined n) ≡ tally n p * k
+  unfolding join tally
+  joined-length k e zero = sym (zero-mul k)
+  joined-length k e (suc n) =
+      ⊎-elim
+      (λ (h : T (p n)).
+      ap length (joined-more n h) ∙ length-append (joined n) (f n) ∙ omega (arith, joined-length k e n, e n, suc-mul (tally n p) k) ∙ ap (λ c. c * k) (sym (tally-more p n h)))
+      (λ (h : T (p n) → ⊥). ap length (joined-none n h) ∙ joined-length k e n ∙ ap (λ c. c * k) (sym (tally-none p n h)))
+      (case (p n))
+
+-- ---- states and layers
 
 -- a history's number is the next new one exactly where it is the smallest of its class
 module _ (b : List ℕ) (t h : ℕ) where
@@ -100,60 +84,11 @@ module _ (b : List ℕ) (t h : ℕ) where
   unfolding number first
   first-new f = ap (λ g. tally g (first (2 ^ inputs b) (frames b) (response b) t)) (eqb→eq (smallest (2 ^ inputs b) (frames b) (response b) t h) h f)
 
--- ---- lengths
-
-module _ (b : List ℕ) (nexts : Bool) (t : ℕ) where
-  abbrev chosen : ℕ → Bool
-  chosen = first (2 ^ inputs b) (frames b) (response b) t
-
-  pub layer-length : (h : ℕ) → length (layerWords b nexts t h) ≡ tally h chosen * 2 ^ inputs b
-  unfolding layerWords join tally
-  layer-length zero = sym (zero-mul (2 ^ inputs b))
-  layer-length (suc h) =
-      ⊎-elim
-      (λ (f : T (chosen h)).
-      ap length (layer-row b nexts t h f) ∙ length-append (layerWords b nexts t h) (rowWords b nexts t h)
-      ∙ omega (arith, layer-length h, row-length b nexts t h, suc-mul (tally h chosen) (2 ^ inputs b))
-      ∙ ap (λ c. c * 2 ^ inputs b) (sym (tally-more chosen h f)))
-      (λ (f : T (chosen h) → ⊥). ap length (layer-none b nexts t h f) ∙ layer-length h ∙ ap (λ c. c * 2 ^ inputs b) (sym (tally-none chosen h f)))
-      (case (chosen h))
-
-  -- the rows so far, and one more where h is the smallest of its class, are no more than the layer's
-  pub layer-room : (h : ℕ) → h < (2 ^ inputs b) ^ t → T (chosen h) → tally h chosen * 2 ^ inputs b + 2 ^ inputs b ≤ stateCount b t * 2 ^ inputs b
-  unfolding count
-  layer-room h l f = omega (arith, suc-mul (tally h chosen) (2 ^ inputs b), mul-le-mul-right (2 ^ inputs b) (tally-lt chosen h ((2 ^ inputs b) ^ t) l f))
-
-  pub layer-most : (h : ℕ) → h ≤ (2 ^ inputs b) ^ t → tally h chosen * 2 ^ inputs b ≤ stateCount b t * 2 ^ inputs b
-  unfolding count
-  layer-most h l = mul-le-mul-right (2 ^ inputs b) (tally-le chosen h ((2 ^ inputs b) ^ t) l)
-
-  pub layer-whole : length (layerWords b nexts t ((2 ^ inputs b) ^ t)) ≡ stateCount b t * 2 ^ inputs b
-  unfolding count
-  layer-whole = layer-length ((2 ^ inputs b) ^ t)
-
--- ---- a turn of the loop that stores a layer's rows
-
-module _ (b : List ℕ) (nexts : Bool) (t h : ℕ) where
-  abbrev here : ℕ → Bool
-  here = first (2 ^ inputs b) (frames b) (response b) t
-
-  -- h is the smallest of its class: its row is stored behind the others
-  pub turn-row : (r₀ r : List ℕ) (at end fresh fan : ℕ) → T (here h) → fresh ≡ tally h here → end ≡ at + 2 * length (layerWords b nexts t h)
-      → r ≡ stored 2 r₀ at (layerWords b nexts t h) → fan ≡ 2 ^ inputs b → at + 2 * length (layerWords b nexts t h) ≤ length r₀
-      → (fresh + 1 ≡ tally (h + 1) here) × (end + 2 * fan ≡ at + 2 * length (layerWords b nexts t (h + 1)))
-      × (stored 2 r end (rowWords b nexts t h) ≡ stored 2 r₀ at (layerWords b nexts t (h + 1)))
-  turn-row r₀ r at end fresh fan f ef ee er en room =
-      let more : layerWords b nexts t (h + 1) ≡ layerWords b nexts t h ++ rowWords b nexts t h = ap (layerWords b nexts t) (add-one h) ∙ layer-row b nexts t h f in
-      let n : length (layerWords b nexts t (h + 1)) ≡ length (layerWords b nexts t h) + 2 ^ inputs b =
-      ap length more ∙ length-append (layerWords b nexts t h) (rowWords b nexts t h) ∙ ap (λ (k : ℕ). length (layerWords b nexts t h) + k) (row-length b nexts t h) in (
-        rw (add-one h) (omega (arith, tally-more here h f)),
-        omega arith,
-        stored-behind 2 r₀ r at (layerWords b nexts t h) (rowWords b nexts t h) end er ee room ∙ ap (stored 2 r₀ at) (sym more),
-      )
-
-  -- it is not: nothing changes
-  pub turn-none : (T (here h) → ⊥) → (tally h here ≡ tally (h + 1) here) × (layerWords b nexts t h ≡ layerWords b nexts t (h + 1))
-  turn-none f = (rw (add-one h) (sym (tally-none here h f)), rw (add-one h) (sym (layer-none b nexts t h f)))
+-- how many words a layer has
+pub layer-length : (b : List ℕ) (nexts : Bool) (t : ℕ) → length (layerWords b nexts t ((2 ^ inputs b) ^ t)) ≡ stateCount b t * 2 ^ inputs b
+unfolding layerWords rowWords count
+layer-length b nexts t =
+    joined-length (first (2 ^ inputs b) (frames b) (response b) t) (rowWords b nexts t) (2 ^ inputs b) (λ h. tabulate-length (2 ^ inputs b) _) ((2 ^ inputs b) ^ t)
 
 -- ---- arrays
 
@@ -166,7 +101,7 @@ module _ (b : List ℕ) (nexts : Bool) where
   pub array-more : (t : ℕ) → length (arrayWords b nexts (t + 1)) ≡ length (arrayWords b nexts t) + stateCount b t * 2 ^ inputs b
   array-more t =
       ap length (array-layer t) ∙ length-append (arrayWords b nexts t) _
-      ∙ ap (λ (k : ℕ). length (arrayWords b nexts t) + k) (layer-whole b nexts t)
+      ∙ ap (λ (k : ℕ). length (arrayWords b nexts t) + k) (layer-length b nexts t)
 
   pub array-most : (t u : ℕ) → t ≤ u → length (arrayWords b nexts t) ≤ length (arrayWords b nexts u)
   array-most t u h =

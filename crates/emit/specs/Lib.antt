@@ -1,1 +1,2 @@
 pub mod Emitted
+pub mod Listed

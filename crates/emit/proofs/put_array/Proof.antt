@@ -1,28 +1,32 @@
--- `emit::put_array` meets its contract. The invariant: the layers so far are stored.
+-- `emit::put_array` meets its contract. The invariant: the layers so far are stored, and the half of the scratch is as it was.
 -- Assumes nothing.
-use mathlib.Core.Path.{_≡_, sym, ap, _∙_}
-use Prim.Native.Nat.{ℕ, _+_, _*_, _-_, _≤_, _<_}
+use mathlib.Core.Path.{_≡_, refl, sym, ap, _∙_}
+use Prim.Native.Nat.{ℕ, _+_, _*_, _-_, _^_, _≤_, _<_}
 use native.Mathlib.Omega.{arith}
 use denote.Ref.{now}
-use lib.ListN.{length}
+use lib.ListN.{length, take}
 use Rattle.words.specs.Words.{stored}
 use Rattle.words.proofs.Laws.{stored-none, stored-length, stored-behind}
 use Rattle.sizes.specs.Sizes.{frames as framesOf}
 use Rattle.layered.specs.Search.{join}
+use Rattle.circuit.specs.Circuit.{allInputs}
+use Rattle.classify.proofs.Step.{half-is, known-kept}
 use Rattle.emit.specs.Emitted.{arrayWords}
 use Rattle.emit.proofs.Laws.{array-layer, array-more, array-most}
 use Rattle.emit.proofs.put_array.Statement.{statement}
 use Rattle.emit.proofs.put_array.Tie as tie
 
 abbrev Inv-loop : tie.InvT-loop
-Inv-loop circuit head scratch nexts result₀ at frames end₀ t₀ result end t = (t ≤ frames) × (end ≡ at + 2 * length (arrayWords circuit nexts t)) × (result ≡ stored 2 result₀ at (arrayWords circuit nexts t))
+Inv-loop circuit head scratch₀ nexts result₀ at frames end₀ t₀ scratch result end t =
+    (t ≤ frames) × (end ≡ at + 2 * length (arrayWords circuit nexts t)) × (result ≡ stored 2 result₀ at (arrayWords circuit nexts t))
+    × (length scratch ≡ length scratch₀) × (take (2 ^ allInputs circuit) scratch ≡ take (2 ^ allInputs circuit) scratch₀)
 
 abbrev μ-loop : tie.MeasureT-loop
-μ-loop circuit head scratch nexts result₀ at frames end₀ t₀ result end t = frames - t
+μ-loop circuit head scratch₀ nexts result₀ at frames end₀ t₀ scratch result end t = frames - t
 
 loop-holds : tie.Need-loop-holds Inv-loop μ-loop
 unfolding arrayWords join
-loop-holds c = (omega arith, omega arith, sym (stored-none 2 _ _))
+loop-holds c = (omega arith, omega arith, sym (stored-none 2 _ _), refl, refl)
 
 -- at the loop's head: the entry of the function, and that what is stored fits
 abbrev start : tie.At-loop Inv-loop μ-loop → tie.Start Inv-loop μ-loop
@@ -52,14 +56,16 @@ layer-room i =
 
 put-layer-requires : tie.Need-put-layer-requires Inv-loop μ-loop
 put-layer-requires c κs =
-    let i = c .before in
+    let i = c .before .before in
     let l = i .before in
     let a = start l in
-    (a .pre .0, (a .pre .1 .0, (a .pre .1 .1 .0, (a .pre .1 .1 .1 .0, (a .pre .1 .1 .1 .1 .0, below i, omega (arith, layer-room i, len l, l .loop .inv .1, array-more (now (a .args .circuit)) (a .args .nexts) (l .loop .t)))))))
+    let b = now (a .args .circuit) in
+    let known = known-kept b (a .pre .0) _ (half-is b) (now (a .args .scratch)) (l .loop .scratch) (l .loop .inv .4) 0 (a .pre .1 .1 .1 .1 .0) in
+    (a .pre .0, (a .pre .1 .0, (a .pre .1 .1 .0, (l .loop .inv .3 ∙ a .pre .1 .1 .1 .0, (known, below i, omega (arith, layer-room i, len l, l .loop .inv .1, array-more (now (a .args .circuit)) (a .args .nexts) (l .loop .t)))))))
 
 add-t : tie.Need-add-t Inv-loop μ-loop
 add-t c =
-    let i = c .before .before .before .before in
+    let i = c .before .before .before .before .before .before .before in
     omega (arith, below i, start (i .before) .pre .0 .sizes)
 
 loop-less : tie.Need-loop-less Inv-loop μ-loop
@@ -67,21 +73,26 @@ loop-less c = omega arith
 
 loop-again : tie.Need-loop-again Inv-loop μ-loop
 loop-again c =
-    let p = c .before .before in
-    let i = p .before .before in
+    let p = c .before .before .before .before in
+    let i = p .before .before .before in
     let l = i .before in
     let a = start l in
     let b = now (a .args .circuit) in
     let n = a .args .nexts in (
       omega arith,
-      omega (arith, p .put-layer .ensures .1, l .loop .inv .1, array-more b n (l .loop .t)),
-      p .put-layer .ensures .0
+      omega (arith, p .put-layer .ensures .1 .1, l .loop .inv .1, array-more b n (l .loop .t)),
+      p .put-layer .ensures .1 .0
           ∙ stored-behind 2 (now (a .args .result)) (l .loop .result) (a .args .at) (arrayWords b n (l .loop .t)) _ (l .loop .end) (l .loop .inv .2) (l .loop .inv .1) (room l)
           ∙ ap (stored 2 (now (a .args .result)) (a .args .at)) (sym (array-layer b n (l .loop .t))),
+      p .put-layer .kept .1 .1 .0 ∙ l .loop .inv .3,
+      p .put-layer .ensures .0 ∙ l .loop .inv .4,
     )
 
 same-length : tie.Need-same-length Inv-loop μ-loop
-same-length c = len (c .before)
+same-length c = c .before .loop .inv .3
+
+same-length-2 : tie.Need-same-length-2 Inv-loop μ-loop
+same-length-2 c = len (c .before)
 
 returns : tie.Need-returns Inv-loop μ-loop
 returns c =
@@ -89,8 +100,11 @@ returns c =
     let a = start l in
     let b = now (a .args .circuit) in
     let e : l .loop .t ≡ framesOf b = omega (arith, a .pre .1 .0) in (
-      l .loop .inv .2 ∙ ap (λ (t : ℕ). stored 2 (now (a .args .result)) (a .args .at) (arrayWords b (a .args .nexts) t)) e,
-      l .loop .inv .1 ∙ ap (λ (t : ℕ). a .args .at + 2 * length (arrayWords b (a .args .nexts) t)) e,
+      l .loop .inv .4,
+      (
+        l .loop .inv .2 ∙ ap (λ (t : ℕ). stored 2 (now (a .args .result)) (a .args .at) (arrayWords b (a .args .nexts) t)) e,
+        l .loop .inv .1 ∙ ap (λ (t : ℕ). a .args .at + 2 * length (arrayWords b (a .args .nexts) t)) e,
+      ),
     )
 
 pub put-array-spec : {M : Type 1} → statement M
@@ -105,4 +119,5 @@ put-array-spec =
     loop-less
     loop-again
     same-length
+    same-length-2
     returns)

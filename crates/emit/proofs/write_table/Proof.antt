@@ -9,6 +9,7 @@ use denote.Ref.{now}
 use lib.ListN.{length}
 use Rattle.words.specs.Words.{stored}
 use Rattle.sizes.specs.Sizes.{inputs, outputs, frames}
+use Rattle.classify.proofs.Step.{half-is, known-kept}
 use Rattle.emit.specs.Emitted.{arrayWords, headWords}
 use Rattle.emit.proofs.Laws.{all-length, head-stored, outputs-stored, nexts-stored}
 use borrow.Author.Needs.{needs}
@@ -80,40 +81,47 @@ len₂ p = p .store-all2 .kept .1 .1 .0 ∙ p .before .before .before .before .b
 
 put-array-requires : tie.Need-put-array-requires
 put-array-requires c κs =
-    let p = c .before .before .before in
+    let p = c .before .before .before .before in
     let a = start₂ p in
     let b = now (a .args .circuit) in
     (a .pre .0, (a .pre .1 .0, (a .pre .1 .1 .0 .0, (a .pre .1 .1 .1 .0, (a .pre .1 .1 .1 .1 .0, omega (arith, all-length b, a .pre .1 .1 .1 .1 .1, len₂ p, a .pre .1 .0))))))
 
-len₃ : (q : tie.After-put-array) → length (q .put-array .last .1 .1 .1 .1 .0) ≡ length (now (start₂ (q .before .before .before .before) .args .result))
-len₃ q = q .put-array .kept .1 .1 .1 .1 .0 ∙ len₂ (q .before .before .before .before)
+-- before the outputs
+abbrev before : tie.After-put-array → tie.After-store-all2
+before q = q .before .before .before .before .before
+
+len₃ : (q : tie.After-put-array) → length (q .put-array .last .1 .1 .1 .1 .0) ≡ length (now (start₂ (before q) .args .result))
+len₃ q = q .put-array .kept .1 .1 .1 .1 .0 ∙ len₂ (before q)
 
 -- where the next states begin
 end₃ : (q : tie.After-put-array)
-    → q .put-array .result ≡ 8 + 2 * frames (now (start₂ (q .before .before .before .before) .args .circuit)) + 2 * length (arrayWords (now (start₂ (q .before .before .before .before) .args .circuit)) false (frames (now (start₂ (q .before .before .before .before) .args .circuit))))
-end₃ q = let a = start₂ (q .before .before .before .before) in omega (arith, q .put-array .ensures .1, a .pre .1 .0)
+    → q .put-array .result ≡ 8 + 2 * frames (now (start₂ (before q) .args .circuit)) + 2 * length (arrayWords (now (start₂ (before q) .args .circuit)) false (frames (now (start₂ (before q) .args .circuit))))
+end₃ q = let a = start₂ (before q) in omega (arith, q .put-array .ensures .1 .1, a .pre .1 .0)
 
 put-array-requires-2 : tie.Need-put-array-requires-2
 put-array-requires-2 c κs =
-    let q = c .before .before .before in
-    let p = q .before .before .before .before in
-    let a = start₂ p in
+    let q = c .before .before .before .before .before .before in
+    let a = start₂ (before q) in
     let b = now (a .args .circuit) in
-    (a .pre .0, (a .pre .1 .0, (a .pre .1 .1 .0 .0, (a .pre .1 .1 .1 .0, (a .pre .1 .1 .1 .1 .0, omega (arith, all-length b, a .pre .1 .1 .1 .1 .1, len₃ q, end₃ q))))))
+    let known = known-kept b (a .pre .0) _ (half-is b) (now (a .args .scratch)) (q .put-array .last .1 .1 .0) (q .put-array .ensures .0) 0 (a .pre .1 .1 .1 .1 .0) in
+    (a .pre .0, (a .pre .1 .0, (a .pre .1 .1 .0 .0, (q .put-array .kept .1 .1 .0 ∙ a .pre .1 .1 .1 .0, (known, omega (arith, all-length b, a .pre .1 .1 .1 .1 .1, len₃ q, end₃ q))))))
 
 same-length : tie.Need-same-length
 same-length c = search needs
 
+same-length-2 : tie.Need-same-length-2
+same-length-2 c = search needs
+
 returns : tie.Need-returns
 returns c =
-    let s = c .before .before in
-    let q = s .before .before .before .before in
-    let p = q .before .before .before .before in
+    let s = c .before .before .before .before in
+    let q = s .before .before .before .before .before .before .before in
+    let p = before q in
     let a = start₂ p in
     let b = now (a .args .circuit) in
     nexts-stored b (now (a .args .result)) (a .pre .1 .1 .1 .1 .1) (q .put-array .last .1 .1 .1 .1 .0) (s .put-array2 .last .1 .1 .1 .1 .0) (q .put-array .result) (end₃ q)
-    (outputs-stored b (now (a .args .result)) (a .pre .1 .1 .1 .1 .1) (p .store-all2 .last .1 .1 .0) (q .put-array .last .1 .1 .1 .1 .0) _ (omega (arith, a .pre .1 .0)) (head₂ p) (q .put-array .ensures .0))
-    (s .put-array2 .ensures .0)
+    (outputs-stored b (now (a .args .result)) (a .pre .1 .1 .1 .1 .1) (p .store-all2 .last .1 .1 .0) (q .put-array .last .1 .1 .1 .1 .0) _ (omega (arith, a .pre .1 .0)) (head₂ p) (q .put-array .ensures .1 .0))
+    (s .put-array2 .ensures .1 .0)
 
 pub write-table-spec : {M : Type 1} → statement M
 write-table-spec =
@@ -132,4 +140,5 @@ write-table-spec =
     put-array-requires
     put-array-requires-2
     same-length
+    same-length-2
     returns)
