@@ -11,9 +11,8 @@ use Rattle.sizes.specs.Sizes.{inputs, frames as framesOf}
 use Rattle.layered.specs.Search.{total}
 use Rattle.circuit.specs.Theorems.{response}
 use Rattle.classify.specs.Classified.{stateCount}
-use Rattle.classify.proofs.Layers.{two-words, power-fits}
+use Rattle.classify.proofs.Layers.{two-words, one-word, power-fits}
 use Rattle.classify.proofs.Step.{bits-fit}
-use Rattle.emit.proofs.Laws.{fan-is}
 use Rattle.folded.proofs.Tables.{folded-length, entries-most}
 use Rattle.fold.proofs.bytes_needed.Statement.{statement}
 use Rattle.fold.proofs.bytes_needed.Tie as tie
@@ -71,7 +70,7 @@ product c =
     let l = c .before .before in
     let a = start l in
     let e : l .loop .t ≡ framesOf (now (a .args .circuit)) = omega (arith, a .pre .1 .0) in
-    ap₂ (λ (x y : ℕ). x * y) (l .loop .inv .1 ∙ ap (λ (t : ℕ). total t (stateCount (now (a .args .circuit)))) e) (fan-is _ _ (a .pre .1 .0 .inputs-is) (c .histories .ensures))
+    ap₂ (λ (x y : ℕ). x * y) (l .loop .inv .1 ∙ ap (λ (t : ℕ). total t (stateCount (now (a .args .circuit)))) e) (c .histories .ensures ∙ one-word _ ∙ ap (λ (n : ℕ). 2 ^ n) (a .pre .1 .0 .inputs-is))
 
 product-small : (a : tie.Start Inv-loop μ-loop) → total (framesOf (now (a .args .circuit))) (stateCount (now (a .args .circuit))) * K a ≤ 131072
 product-small a = entries-small a (framesOf (now (a .args .circuit))) (omega arith)

@@ -39,7 +39,7 @@ same-length-3 c = search needs
 
 returns-2 : tie.Need-returns-2
 returns-2 c =
-    let w = c .before .before in
+    let w = c .before .before .before .before in
     let e = w .before .before .before in
     let n = e .before in
     let a = n .before .before .before .before .before .before .before .before in
