@@ -1,11 +1,10 @@
 -- Laws of the words of a table: what an entry is, and how many words there are. Assumes nothing.
-use mathlib.Core.Path.{_≡_, refl, sym, ap, ap₂, _∙_, subst}
+use mathlib.Core.Path.{_≡_, refl, sym, ap, ap₂, _∙_}
 use mathlib.Core.Bool.{Bool, true, false, cond}
 use mathlib.Core.List.{List, [], _∷_, _++_, append-nil, append-assoc}
 use Prim.Native.Nat.{ℕ, zero, suc, _+_, _*_, _^_, _≤_, _<_}
-use native.Mathlib.Nat.{pow-zero, pow-suc, one-mul, zero-mul, suc-mul, mul-le-mul-right, eq-or-lt-of-le, le-refl}
+use native.Mathlib.Nat.{zero-mul, suc-mul, eq-or-lt-of-le, le-refl}
 use native.Mathlib.Omega.{arith}
-use lib.Arith.{lt-one}
 use lib.Dec.{T, eqb→eq}
 use mathlib.Core.Logic.{⊎-elim}
 use lib.ListN.{length, take, length-append, length-take}
@@ -13,20 +12,18 @@ use lib.Seq.{ext-getD, getD-take}
 use native.Mathlib.Decide.{le-ind}
 use native.Mathlib.Numerals.{add-one}
 use Rattle.words.specs.Words.{stored}
-use Rattle.words.proofs.Laws.{stored-more, stored-behind}
+use Rattle.words.proofs.Laws.{stored-behind}
 use Rattle.sizes.specs.Sizes.{inputs, outputs, frames}
 use Rattle.layered.specs.Search.{tally, join, tabulate}
 use Rattle.layered.specs.States.{number, count, first, history, smallest}
 use Rattle.layered.specs.Machines.{entries, tableWords, folded}
-use Rattle.layered.proofs.Search.{case, eq-eqb, tally-more, tally-none, tally-lt, tally-le}
+use Rattle.layered.proofs.Search.{case, eq-eqb, tally-more, tally-none, tally-lt}
 use Rattle.layered.proofs.Lists.{join-cong, tabulate-length, tabulate-at}
-use Rattle.layered.proofs.States.{number-below, count-last, first-smallest, smallest-le}
+use Rattle.layered.proofs.States.{first-smallest, smallest-le}
 use Rattle.layered.proofs.Theorems.{rows}
-use Rattle.circuit.specs.Legal.{Headed}
 use Rattle.circuit.specs.Theorems.{response}
 use Rattle.classify.specs.Classified.{stateOf, stateCount, Counted}
 use Rattle.classify.specs.declared.Plan.{Plan}
-use Rattle.classify.proofs.Layers.{two-words}
 use Rattle.emit.specs.Emitted.{entryOf, rowWords, layerWords, arrayWords, headWords, allWords}
 
 -- ---- parts for the numbers that p holds of, one after the other

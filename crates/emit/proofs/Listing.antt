@@ -1,9 +1,9 @@
 -- Laws of the entries listed in scratch: how a row is added, and that a layer's listing gives its words. Assumes nothing.
 use mathlib.Core.Path.{_≡_, refl, sym, ap, ap₂, _∙_, subst}
 use mathlib.Core.Bool.{Bool, true, false, cond}
-use mathlib.Core.List.{List, [], _∷_, _++_, map, append-assoc, append-nil}
+use mathlib.Core.List.{List, [], _∷_, _++_, map, append-assoc}
 use Prim.Native.Nat.{ℕ, zero, suc, _+_, _*_, _^_, _≤_, _<_}
-use native.Mathlib.Nat.{le-refl, le-of-lt, suc-mul, mul-le-mul-right}
+use native.Mathlib.Nat.{le-of-lt, suc-mul, mul-le-mul-right}
 use native.Mathlib.Numerals.{add-one}
 use native.Mathlib.Omega.{arith}
 use lib.Dec.{T, eqb→eq}
@@ -13,14 +13,14 @@ use borrow.Table.Elements.{map-app}
 use Rattle.sizes.specs.Sizes.{inputs, frames}
 use Rattle.layered.specs.Search.{tally, join, tabulate}
 use Rattle.layered.specs.States.{first}
-use Rattle.layered.proofs.Search.{iff-eq, eq-eqb, tally-more, tally-none, tally-lt, tally-at-most}
+use Rattle.layered.proofs.Search.{iff-eq, eq-eqb, tally-more, tally-none, tally-at-most}
 use Rattle.layered.proofs.Lists.{parts, join-cong, tabulate-cong, tabulate-length, tabulate-at}
 use Rattle.layered.proofs.States.{digit-below}
 use Rattle.circuit.specs.Legal.{Headed}
 use Rattle.circuit.specs.Theorems.{response}
-use Rattle.rows.specs.Rows.{nextIn, Placed}
+use Rattle.rows.specs.Rows.{Placed}
 use Rattle.rows.specs.declared.Layer.{Layer}
-use Rattle.classify.specs.Classified.{layerAt, LayerOf, stateOf, Known}
+use Rattle.classify.specs.Classified.{LayerOf, stateOf, Known}
 use Rattle.classify.proofs.Step.{next-is}
 use Rattle.emit.specs.Emitted.{entryOf, rowWords, layerWords}
 use Rattle.emit.specs.Listed.{newNumbers, isNew, listedEntry, listedRow, listed}

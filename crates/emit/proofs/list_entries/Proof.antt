@@ -2,7 +2,7 @@
 -- Assumes nothing.
 use mathlib.Core.Path.{_≡_, refl, sym, ap, ap₂, _∙_}
 use mathlib.Core.List.{List, _++_}
-use Prim.Native.Nat.{ℕ, suc, _+_, _*_, _-_, _^_, _≤_}
+use Prim.Native.Nat.{ℕ, suc, _+_, _-_, _^_, _≤_}
 use native.Mathlib.Numerals.{add-one}
 use native.Mathlib.Omega.{arith}
 use borrow.Author.Tests.{not-true, not-false}
@@ -15,7 +15,6 @@ use Rattle.circuit.specs.Theorems.{response}
 use Rattle.classify.specs.Classified.{LayerOf}
 use Rattle.classify.proofs.Layers.{power-fits}
 use Rattle.classify.proofs.Step.{half-is, bits-fit, layer-asked, layer-told, placed, entries}
-use Rattle.emit.specs.Emitted.{layerWords}
 use Rattle.emit.specs.Listed.{listed}
 use Rattle.emit.proofs.Laws.{layer-length}
 use Rattle.emit.proofs.Listing.{reaches, nexts-listed, outputs-listed, replaced}

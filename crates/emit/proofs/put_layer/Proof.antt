@@ -1,16 +1,13 @@
 -- `emit::put_layer` meets its contract: what is listed behind the half is stored.
 -- Assumes nothing.
 use mathlib.Core.Path.{_≡_, sym, ap, ap₂, _∙_}
-use mathlib.Core.List.{List}
 use Prim.Native.Nat.{ℕ, _+_, _*_, _-_, _^_, _≤_}
 use native.Mathlib.Omega.{arith}
 use denote.Ref.{now}
-use lib.ListN.{length, take, drop, length-take, length-drop}
+use lib.ListN.{length, length-take, length-drop}
 use Rattle.words.specs.Words.{stored}
-use Rattle.sizes.specs.Sizes.{inputs}
 use Rattle.circuit.specs.Circuit.{allInputs}
 use Rattle.classify.proofs.Step.{half-is, bits-fit}
-use Rattle.emit.specs.Emitted.{layerWords}
 use Rattle.emit.proofs.Laws.{layer-length}
 use Rattle.emit.proofs.Listing.{begins, reaches, in-part}
 use borrow.Author.Needs.{needs}
