@@ -53,14 +53,16 @@ module _ (b : List ℕ) (H : Headed b) (head : Head) (O : HeadOf b head) (t : �
   pub layer-told : (layer : Layer) → LayerOf (2 ^ head .inputs) (head .frames) t layer → LayerOf (2 ^ inputs b) (frames b) t layer
   layer-told layer L = subst (λ n. LayerOf (2 ^ n) (frames b) t layer) (O .inputs-is) (subst (λ T. LayerOf (2 ^ head .inputs) T t layer) (O .frames-is) L)
 
+-- lists that begin alike
+pub same-front : (n : ℕ) (s s₁ : List ℕ) → take n s₁ ≡ take n s → (j : ℕ) → j < n → getD s₁ j 0 ≡ getD s j 0
+same-front n s s₁ e j l = sym (getD-take n s₁ j 0 l) ∙ ap (λ r. getD r j 0) e ∙ getD-take n s j 0 l
+
 -- what is known lies in the half
 pub known-kept : (b : List ℕ) → Headed b → (half : ℕ) → half ≡ (2 ^ inputs b) ^ frames b → (s s₁ : List ℕ) → take half s₁ ≡ take half s → (t : ℕ) → Known b s t → Known b s₁ t
 unfolding Known
 known-kept b H half eh s s₁ e t kn u h lo hi l =
-    let K : ℕ = 2 ^ inputs b in
-    let j : ℕ = layerAt K u + h in
-    let in-half : j < half = omega (arith, layer-in K (two-words (inputs b) (H .sizes .inputs-from)) u (frames b) hi) in
-    sym (getD-take half s₁ j 0 in-half) ∙ ap (λ r. getD r j 0) e ∙ getD-take half s j 0 in-half ∙ kn u h lo hi l
+    let two : 2 ≤ 2 ^ inputs b = two-words (inputs b) (H .sizes .inputs-from) in
+    same-front half s s₁ e (layerAt (2 ^ inputs b) u + h) (omega (arith, layer-in (2 ^ inputs b) two u (frames b) hi)) ∙ kn u h lo hi l
 
 -- the layer t of the circuit b, in the scratch s
 module _ (b : List ℕ) (H : Headed b) (t : ℕ) (bt : t < frames b) (layer : Layer) (L : LayerOf (2 ^ inputs b) (frames b) t layer) (s : List ℕ) where

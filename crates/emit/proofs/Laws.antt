@@ -61,12 +61,13 @@ module _ (p : ℕ → Bool) (f : ℕ → List ℕ) where
 
 -- ---- states and layers
 
+-- which histories of layer t are the smallest of their class
+abbrev pub smallests : List ℕ → (t : ℕ) → ℕ → Bool
+smallests b t = first (2 ^ inputs b) (frames b) (response b) t
+
 -- a history's number is the next new one exactly where it is the smallest of its class
 module _ (b : List ℕ) (t h : ℕ) where
-  abbrev firsts : ℕ → Bool
-  firsts = first (2 ^ inputs b) (frames b) (response b) t
-
-  pub new-first : stateOf b t h ≡ tally h firsts → T (firsts h)
+  pub new-first : stateOf b t h ≡ tally h (smallests b t) → T (smallests b t h)
   unfolding number first
   new-first e =
       let K : ℕ = 2 ^ inputs b in
@@ -74,18 +75,17 @@ module _ (b : List ℕ) (t h : ℕ) where
       let l : g ≤ h = smallest-le K (frames b) (response b) t h in
       ⊎-elim
       (λ (q : g ≡ h). eq-eqb q)
-      (λ (q : g < h). absurd (omega (arith, tally-lt (first K (frames b) (response b) t) g h q (first-smallest K (frames b) (response b) t h))))
+      (λ (q : g < h). absurd (omega (arith, tally-lt (smallests b t) g h q (first-smallest K (frames b) (response b) t h))))
       (eq-or-lt-of-le l)
 
-  pub first-new : T (firsts h) → stateOf b t h ≡ tally h firsts
+  pub first-new : T (smallests b t h) → stateOf b t h ≡ tally h (smallests b t)
   unfolding number first
-  first-new f = ap (λ g. tally g (first (2 ^ inputs b) (frames b) (response b) t)) (eqb→eq (smallest (2 ^ inputs b) (frames b) (response b) t h) h f)
+  first-new f = ap (λ g. tally g (smallests b t)) (eqb→eq (smallest (2 ^ inputs b) (frames b) (response b) t h) h f)
 
 -- how many words a layer has
 pub layer-length : (b : List ℕ) (nexts : Bool) (t : ℕ) → length (layerWords b nexts t ((2 ^ inputs b) ^ t)) ≡ stateCount b t * 2 ^ inputs b
 unfolding layerWords rowWords count
-layer-length b nexts t =
-    joined-length (first (2 ^ inputs b) (frames b) (response b) t) (rowWords b nexts t) (2 ^ inputs b) (λ h. tabulate-length (2 ^ inputs b) _) ((2 ^ inputs b) ^ t)
+layer-length b nexts t = joined-length (smallests b t) (rowWords b nexts t) (2 ^ inputs b) (λ h. tabulate-length (2 ^ inputs b) _) ((2 ^ inputs b) ^ t)
 
 -- ---- arrays
 

@@ -8,11 +8,10 @@ use native.Mathlib.Numerals.{add-one}
 use native.Mathlib.Omega.{arith}
 use lib.Dec.{T, eqb→eq}
 use lib.ListN.{length, getD, take, drop, set, length-append, length-take, length-map}
-use lib.Seq.{paste, length-take-le, take-append-le, take-take, take-all, take-add, take-at, getD-take, take-paste, length-paste, paste-suc}
+use lib.Seq.{paste, length-take-le, take-append-le, take-take, take-all, take-add, take-at, take-paste, length-paste, paste-suc}
 use borrow.Table.Elements.{map-app}
 use Rattle.sizes.specs.Sizes.{inputs, frames}
 use Rattle.layered.specs.Search.{tally, join, tabulate}
-use Rattle.layered.specs.States.{first}
 use Rattle.layered.proofs.Search.{iff-eq, eq-eqb, tally-more, tally-none, tally-at-most}
 use Rattle.layered.proofs.Lists.{parts, join-cong, tabulate-cong, tabulate-length, tabulate-at}
 use Rattle.layered.proofs.States.{digit-below}
@@ -21,10 +20,10 @@ use Rattle.circuit.specs.Theorems.{response}
 use Rattle.rows.specs.Rows.{Placed}
 use Rattle.rows.specs.declared.Layer.{Layer}
 use Rattle.classify.specs.Classified.{LayerOf, stateOf, Known}
-use Rattle.classify.proofs.Step.{next-is}
+use Rattle.classify.proofs.Step.{same-front, next-is}
 use Rattle.emit.specs.Emitted.{entryOf, rowWords, layerWords}
 use Rattle.emit.specs.Listed.{newNumbers, isNew, listedEntry, listedRow, listed}
-use Rattle.emit.proofs.Laws.{joined-more, joined-none, joined-length, new-first, first-new}
+use Rattle.emit.proofs.Laws.{joined-more, joined-none, joined-length, smallests, new-first, first-new}
 
 -- ---- what is read while a row is listed
 
@@ -33,6 +32,7 @@ pub entry-in : (K n h w : ℕ) → h < n → w < K → h * K + w < n * K
 entry-in K n h w l k = omega (arith, suc-mul h K, mul-le-mul-right K l)
 
 module _ (layer : Layer) (s₀ s : List ℕ) (P : Placed s₀ layer) where
+  -- places depend on the length alone
   pub placed-kept : length s ≡ length s₀ → Placed s layer
   placed-kept e = record { own-before = P .own-before; nexts-before = P .nexts-before; responses-in = omega (arith, P .responses-in); small = P .small }
 
@@ -45,8 +45,7 @@ module _ (layer : Layer) (s₀ s : List ℕ) (P : Placed s₀ layer) where
       go true q = refl
       go false q =
           let b : layer .nexts + layer .size * layer .fan ≤ layer .responses = subst (λ l. layer .nexts + cond l 0 (layer .size * layer .fan) ≤ layer .responses) q (P .nexts-before) in
-          let l : layer .nexts + i < layer .responses = omega arith in
-          sym (getD-take (layer .responses) s _ 0 l) ∙ ap (λ r. getD r (layer .nexts + i) 0) e ∙ getD-take (layer .responses) s₀ _ 0 l
+          same-front (layer .responses) s₀ s e (layer .nexts + i) (omega arith)
 
   pub row-kept : (nexts : Bool) (h : ℕ) → take (layer .responses) s ≡ take (layer .responses) s₀ → h < layer .size → listedRow s layer nexts h ≡ listedRow s₀ layer nexts h
   unfolding listedRow
@@ -103,11 +102,11 @@ module _ (layer : Layer) (nexts : Bool) (s₀ s : List ℕ) (h at w : ℕ) (e : 
 
 -- ---- a turn of the loop that lists a layer's rows
 
--- a list that begins as another does, up to n
+-- a list that begins as another does, up to n: what it has behind
 pub begins : (n m : ℕ) (s a x : List ℕ) → n ≤ length s → n ≤ length a → take (n + m) s ≡ take n a ++ x → (take n s ≡ take n a) × (take m (drop n s) ≡ x)
 begins n m s a x h k e = parts (take n s) (take n a) (take m (drop n s)) x (length-take-le n s h ∙ sym (length-take-le n a k)) (sym (take-add n m s) ∙ e)
 
--- and is long enough for what follows there
+-- and that it is long enough
 pub reaches : (n m : ℕ) (s a x : List ℕ) → n ≤ length a → m ≡ length x → take (n + m) s ≡ take n a ++ x → n + m ≤ length s
 reaches n m s a x k q e = omega (arith, sym (length-take (n + m) s) ∙ ap length e ∙ length-append (take n a) x, length-take-le n a k)
 
@@ -118,9 +117,7 @@ module _ (layer : Layer) (nexts : Bool) (s₀ s : List ℕ) (P : Placed s₀ lay
   half-kept = begins (layer .responses) count s s₀ _ (omega (arith, P .responses-in)) (omega (arith, P .responses-in)) e .0
 
   number-kept : getD s (layer .at + h) 0 ≡ getD s₀ (layer .at + h) 0
-  number-kept =
-      let k : layer .at + h < layer .responses = omega (arith, P .own-before, P .nexts-before) in
-      sym (getD-take (layer .responses) s _ 0 k) ∙ ap (λ r. getD r (layer .at + h) 0) half-kept ∙ getD-take (layer .responses) s₀ _ 0 k
+  number-kept = same-front (layer .responses) s₀ s half-kept (layer .at + h) (omega (arith, P .own-before, P .nexts-before))
 
   module _ (fresh : ℕ) (ef : fresh ≡ newNumbers s₀ (layer .at) h) where
     -- the number of h is the next new one: its row is listed behind the others
@@ -167,21 +164,18 @@ map-join f zero g = refl
 map-join f (suc n) g = map-app f (join n g) (g n) ∙ ap (λ r. r ++ map f (g n)) (map-join f n g)
 
 module _ (b : List ℕ) (t : ℕ) (bt : t < frames b) (layer : Layer) (L : LayerOf (2 ^ inputs b) (frames b) t layer) (s : List ℕ) (kn : Known b s 0) where
-  abbrev firsts : ℕ → Bool
-  firsts = first (2 ^ inputs b) (frames b) (response b) t
-
   own-is : (h : ℕ) → h < (2 ^ inputs b) ^ t → getD s (layer .at + h) 0 ≡ stateOf b t h
   unfolding Known
   own-is h l = ap (λ j. getD s (j + h) 0) (L .at-is) ∙ kn t h (omega arith) bt l
 
   -- a number is new exactly where its history is the smallest of its class
-  new-is : (h : ℕ) → h < (2 ^ inputs b) ^ t → newNumbers s (layer .at) h ≡ tally h firsts → isNew s (layer .at) h ≡ firsts h
+  new-is : (h : ℕ) → h < (2 ^ inputs b) ^ t → newNumbers s (layer .at) h ≡ tally h (smallests b t) → isNew s (layer .at) h ≡ smallests b t h
   new-is h l e =
       iff-eq _ _
       (λ n. new-first b t h (sym (own-is h l) ∙ eqb→eq _ _ n ∙ e))
       (λ f. eq-eqb (own-is h l ∙ first-new b t h f ∙ sym e))
 
-  news-are : (h : ℕ) → h ≤ (2 ^ inputs b) ^ t → newNumbers s (layer .at) h ≡ tally h firsts
+  news-are : (h : ℕ) → h ≤ (2 ^ inputs b) ^ t → newNumbers s (layer .at) h ≡ tally h (smallests b t)
   unfolding newNumbers tally
   news-are zero l = refl
   news-are (suc h) l = let e = news-are h (omega arith) in ap₂ (λ c n. cond c 1 0 + n) (new-is h l e) e
@@ -200,7 +194,7 @@ module _ (b : List ℕ) (t : ℕ) (bt : t < frames b) (layer : Layer) (L : Layer
     listed-words =
         map-join f (layer .size) _
         ∙ ap (λ k. join k (λ h. map f (cond (isNew s (layer .at) h) (listedRow s layer nexts h) []))) (L .size-is)
-        ∙ join-cong ((2 ^ inputs b) ^ t) _ _ (λ h l. ap (λ c. map f (cond c (listedRow s layer nexts h) [])) (new-is h l (news-are h (le-of-lt l))) ∙ go h l (firsts h))
+        ∙ join-cong ((2 ^ inputs b) ^ t) _ _ (λ h l. ap (λ c. map f (cond c (listedRow s layer nexts h) [])) (new-is h l (news-are h (le-of-lt l))) ∙ go h l (smallests b t h))
       where
         go : (h : ℕ) → h < (2 ^ inputs b) ^ t → (c : Bool) → map f (cond c (listedRow s layer nexts h) []) ≡ cond c (rowWords b nexts t h) []
         go h l true = row-is h l
@@ -218,7 +212,7 @@ module _ (b : List ℕ) (t : ℕ) (bt : t < frames b) (layer : Layer) (L : Layer
   unfolding entryOf
   outputs-listed nexts e u eu = listed-words nexts (response b u) (λ i l. rw (e, eu))
 
--- the list s₁ holds xs behind the half; where r, which is f of each, takes its place
+-- r, which is f of each of xs, stands behind the half in their place
 pub replaced : (half count k : ℕ) (s s₁ r post xs : List ℕ) (f : ℕ → ℕ) → k ≡ count → half ≤ length s → half ≤ length s₁ → count ≡ length xs
     → take (half + count) s₁ ≡ take half s ++ xs → r ≡ map f (take k (drop half s₁)) → take (half + count) (take half s₁ ++ (r ++ post)) ≡ take half s ++ map f xs
 replaced half count k s s₁ r post xs f ek h h₁ ec e q =
