@@ -141,7 +141,7 @@ fn put_array(
     end
 }
 
-// Writes the table to the front of the result.
+// Writes the table to the front of the result. The half of the scratch behind the numbers is overwritten.
 pub fn write_table(circuit: &[u8], head: Head, plan: Plan, scratch: &mut [u16], result: &mut [u8])
     requires { ⌜ Headed (now circuit) ⌝ }
     requires { ⌜ HeadOf (now circuit) head ⌝ }
