@@ -220,7 +220,7 @@ fn gate_value(left: bool, right: bool) -> bool
 }
 
 // The values of all signals on a sequence.
-pub fn signal_values(circuit: &[u8], head: Head, words: &[u16]) -> [bool; Limits::SIGNALS]
+fn signal_values(circuit: &[u8], head: Head, words: &[u16]) -> [bool; Limits::SIGNALS]
     requires { ⌜ Headed (now circuit) ⌝ }
     requires { ⌜ HeadOf (now circuit) head ⌝ }
     requires { ⌜ Legal (now circuit) ⌝ }
@@ -246,7 +246,7 @@ fn digit(value: bool) -> u16
 }
 
 // The word whose bits are the `count` values at `at`, lowest first.
-pub fn pack(values: &[bool], at: usize, count: usize) -> u16
+fn pack(values: &[bool], at: usize, count: usize) -> u16
     requires { ⌜ (count ≤ 16) × (at + count ≤ length (now values)) ⌝ }
     ensures { λ r. ⌜ r ≡ packed (take count (drop at (now (values .entry)))) ⌝ }
 {

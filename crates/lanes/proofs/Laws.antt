@@ -51,7 +51,7 @@ digit-is f v i j h = sym (digit (f (getD v i 0) / 2 ^ j)) ∙ ap (λ y. cond y 1
 -- ---- the words of a history
 
 module _ (K : ℕ) where
-  pub history-length : (t h : ℕ) → length (historyWords K t h) ≡ t
+  history-length : (t h : ℕ) → length (historyWords K t h) ≡ t
   unfolding historyWords
   history-length zero h = refl
   history-length (suc t) h = length-append (historyWords K t (h / K)) _ ∙ add-one _ ∙ ap suc (history-length t (h / K))

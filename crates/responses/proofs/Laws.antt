@@ -1,75 +1,25 @@
--- Laws of the words of a history, of lists that are replaced part by part, of the response that is packed from signals, and of a list that is filled with responses. Assumes nothing.
+-- Laws of a list that is replaced part by part, of the responses that are packed from lanes, and of a list that is filled with responses. Assumes nothing.
 use mathlib.Core.Path.{_≡_, refl, sym, ap, ap₂, _∙_}
-use mathlib.Core.Bool.{Bool}
 use mathlib.Core.List.{List, [], _∷_, _++_, map, map-append, append-nil, append-assoc}
-use Prim.Native.Nat.{ℕ, zero, suc, _+_, _*_, _-_, _/_, _%_, _^_, _≤_, _<_}
-use native.Mathlib.Nat.{mod-lt, lt-of-lt-of-le, mul-le-mul-left}
+use Prim.Native.Nat.{ℕ, zero, suc, _+_, _*_, _-_, _%_, _^_, _≤_, _<_}
+use native.Mathlib.Nat.{mul-le-mul-left}
 use native.Mathlib.Numerals.{add-one}
 use native.Mathlib.Omega.{arith}
-use lib.ListN.{length, getD, length-map, drop-of-length-le, take, drop, set, replicate, length-replicate, replicate-append-replicate}
-use lib.Pow.{pow-pos, pow-mono}
-use lib.Seq.{take-suc, take-length, take-all, take-add, drop-drop, length-take-le, length-front, lt-length-set, drop-cons, append-snoc, take-append-add, getD-set-same, drop-set-lt, take-suc-set, take-at, drop-at}
+use lib.ListN.{length, getD, length-map, drop-of-length-le, take, drop, set}
+use lib.Pow.{pow-mono}
+use lib.Seq.{take-suc, take-length, take-all, take-add, drop-drop, length-take-le, length-front, take-suc-set, take-at, drop-at}
 use Rattle.sizes.specs.Sizes.{inputs, outputs, frames}
 use Rattle.sizes.proofs.Laws.{power-is}
 use Rattle.layered.specs.Search.{join, tabulate}
 use Rattle.layered.proofs.Rows.{pow-mul}
 use Rattle.circuit.specs.Lists.{grown, listed, packed}
-use Rattle.circuit.specs.Circuit.{gates, gateSignal, outputSignal, signalValues, outputWord}
+use Rattle.circuit.specs.Circuit.{gates, gateSignal, outputSignal}
 use Rattle.circuit.specs.Legal.{Headed, HeadOf}
 use Rattle.circuit.specs.declared.Head.{Head}
-use Rattle.circuit.specs.Theorems.{historyWords, response}
+use Rattle.circuit.specs.Theorems.{response}
 use Rattle.circuit.proofs.Laws.{signals-fit, output-at, output-room, word-is}
 use Rattle.lanes.specs.Lanes.{lane, sequence, Lanes, SignalLanes}
-use Rattle.lanes.proofs.Laws.{history-length}
 use Rattle.responses.specs.Responses.{filled}
-
--- ---- the words of a history
-
--- the first k of n times a, and the rest
-module _ {A : Type 0} (a : A) (k n : ℕ) (h : k ≤ n) where
-  parts : replicate n a ≡ replicate k a ++ replicate (n - k) a
-  parts = let e : n ≡ k + (n - k) = omega arith in ap (λ i. replicate i a) e ∙ sym (replicate-append-replicate k (n - k) a)
-
-  take-replicate : take k (replicate n a) ≡ replicate k a
-  take-replicate = ap (take k) parts ∙ take-at (replicate k a) _ k (length-replicate k a)
-
-  drop-replicate : drop k (replicate n a) ≡ replicate (n - k) a
-  drop-replicate = ap (drop k) parts ∙ drop-at (replicate k a) _ k (length-replicate k a)
-
-module _ (K : ℕ) where
-  -- the words are stored from the last to the first: at first none is, and the list holds zeros
-  pub words-none : (t h : ℕ) → t ≤ 16 → historyWords K (t - 0) h ++ drop (t - 0) (replicate 16 0) ≡ historyWords K t h ++ replicate (16 - t) 0
-  words-none t h l =
-      let e : t - 0 ≡ t = omega arith in
-      rw e (ap (λ s. historyWords K t h ++ s) (drop-replicate 0 t 16 l))
-
-  -- the last of the j words that are left is stored
-  pub words-more : (v w : List ℕ) (j i q L : ℕ) → i < length v → j ≡ suc i → L ≡ K → historyWords K j q ++ drop j v ≡ w
-      → (j′ : ℕ) → j′ ≡ i → historyWords K j′ (q / L) ++ drop j′ (set v i (q % L)) ≡ w
-  unfolding historyWords
-  words-more v w j i q L h ej eL e j′ e′ =
-      let tail : drop i (set v i (q % K)) ≡ q % K ∷ drop (suc i) v =
-      drop-cons (set v i (q % K)) i 0 (lt-length-set v i (q % K) h)
-      ∙ ap₂ _∷_ (getD-set-same v i (q % K) 0 h) (drop-set-lt (suc i) v i (q % K) (omega arith)) in
-      rw (e′, eL, tail)
-      (sym (append-snoc (historyWords K i (q / K)) (q % K) (drop (suc i) v)) ∙ (rw ej at e))
-
-  -- all are stored
-  pub words-all : (v w : List ℕ) (j q : ℕ) → j ≡ 0 → historyWords K j q ++ drop j v ≡ w → v ≡ w
-  unfolding historyWords
-  words-all v w j q ej e = rw ej at e
-
-  -- the words of T frames, of which t are the history's
-  words-of : (t h T : ℕ) → t ≤ T → T ≤ 16 → take T (historyWords K t h ++ replicate (16 - t) 0) ≡ historyWords K t h ++ replicate (T - t) 0
-  words-of t h T l m =
-      let e : T ≡ length (historyWords K t h) + (T - t) = omega (arith, history-length K t h) in
-      ap (λ k. take k (historyWords K t h ++ replicate (16 - t) 0)) e
-      ∙ take-append-add (historyWords K t h) (replicate (16 - t) 0) (T - t)
-      ∙ ap (λ s. historyWords K t h ++ s) (take-replicate 0 (T - t) (16 - t) (omega arith))
-
--- a word of n bits, by `1 << n`
-pub word-fits : (n q : ℕ) → n ≤ 16 → (0 < (1 * 2 ^ n) % 2 ^ 64) × (q % ((1 * 2 ^ n) % 2 ^ 64) < 65536)
-word-fits n q h = rw (power-is n h) (pow-pos n, lt-of-lt-of-le (mod-lt q (pow-pos n)) (pow-mono {j = 16} h))
 
 -- ---- lists under a function
 
@@ -125,18 +75,7 @@ module _ (b : List ℕ) (head : Head) (H : Headed b) (O : HeadOf b head) (t : �
   pub outputs-fit : firstOutput head t + head .outputs ≤ 4113
   outputs-fit = omega (arith, are-signals, signals-fit b H)
 
-  -- the outputs of frame t, where v are the values of all signals on the words of the history h and zeros
-  pub response-is : (v : List Bool) (words : List ℕ) (h : ℕ) → words ≡ historyWords (2 ^ head .inputs) t h ++ replicate (16 - t) 0
-      → take (gateSignal b (gates b)) v ≡ signalValues b (take (head .frames) words) (gates b)
-      → packed (take (head .outputs) (drop (firstOutput head t) v)) ≡ response b t h
-  unfolding response
-  response-is v words h ew ev =
-      let fed : take (head .frames) words ≡ historyWords (2 ^ inputs b) t h ++ replicate (frames b - t) 0 =
-      rw (ew, O .inputs-is, O .frames-is) (words-of (2 ^ inputs b) t h (frames b) to (H .sizes .frames-to)) in
-      word-is b (take (head .frames) words) v (head .outputs) (firstOutput head t) (t - 1) ev (O .outputs-is) first-is are-signals
-      ∙ ap (λ (s : List ℕ). outputWord b s (t - 1)) fed
-
-  -- the same of all histories side by side, where v has the lanes of all signals
+  -- the outputs of frame t on all histories side by side, where v has the lanes of all signals
   pub responses-are : (hs v w : List ℕ) → SignalLanes b t hs v
       → w ≡ listed [] (λ j. packed (take (head .outputs) (drop (firstOutput head t) (lane j v)))) (length hs) → w ≡ map (response b t) hs
   unfolding response Lanes

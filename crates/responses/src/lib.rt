@@ -1,51 +1,16 @@
 // The responses of a circuit to histories of input words: the only code of folding that reads a circuit.
 use circuit::Head;
-use circuit::pack;
-use circuit::signal_values;
 use lanes::pack_lanes;
 use lanes::room;
 use lanes::store_signals;
-use sizes::Limits;
 ghost use mathlib.Core.Path.{_≡_};
-ghost use mathlib.Core.List.{_++_, map};
-ghost use Prim.Native.Nat.{_+_, _-_, _^_, _≤_, min};
-ghost use lib.ListN.{length, replicate};
+ghost use mathlib.Core.List.{map};
+ghost use Prim.Native.Nat.{_+_, _^_, _≤_, min};
+ghost use lib.ListN.{length};
 ghost use Rattle.sizes.specs.Sizes.{inputs, frames};
 ghost use Rattle.circuit.specs.Legal.{Headed, HeadOf, Legal};
-ghost use Rattle.circuit.specs.Theorems.{historyWords, response};
+ghost use Rattle.circuit.specs.Theorems.{response};
 ghost use Rattle.responses.specs.Responses.{filled};
-
-// The words of the history h of t words, its first word highest, and zeros after them.
-fn history_words(inputs: usize, t: usize, h: usize) -> [u16; Limits::FRAMES]
-    requires { ⌜ (inputs ≤ 16) × (t ≤ 16) ⌝ }
-    ensures { λ r. ⌜ r ≡ historyWords (2 ^ inputs) t h ++ replicate (16 - t) 0 ⌝ }
-{
-    let limit: usize = 1 << inputs;
-    let mut words: [u16; Limits::FRAMES] = [0; Limits::FRAMES];
-    let mut rest = h;
-    for i in 0..t {
-        let at = t - 1 - i;
-        words[at] = (rest % limit) as u16;
-        rest /= limit;
-    }
-    words
-}
-
-// The response of frame t, from 1, to the history h.
-pub fn respond(circuit: &[u8], head: Head, t: usize, h: usize) -> u16
-    requires { ⌜ Headed (now circuit) ⌝ }
-    requires { ⌜ HeadOf (now circuit) head ⌝ }
-    requires { ⌜ Legal (now circuit) ⌝ }
-    requires { ⌜ (1 ≤ t) × (t ≤ frames (now circuit)) ⌝ }
-    ensures { λ r. ⌜ r ≡ response (now (circuit .entry)) t h ⌝ }
-{
-    let words = history_words(head.inputs, t, h);
-    let frames = head.frames;
-    let values = signal_values(circuit, head, &words[..frames]);
-    let first = head.base + (head.gates - head.total);
-    let at = first + head.outputs * (t - 1);
-    pack(&values, at, head.outputs)
-}
 
 // Replaces each of up to 64 histories by the response of frame t, from 1, to it. All are simulated side by side.
 fn respond_part(circuit: &[u8], head: Head, t: usize, lanes: &mut [u64], histories: &mut [u16])
