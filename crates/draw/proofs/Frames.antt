@@ -22,11 +22,11 @@ use Rattle.unfolded.specs.Unfolded.{lastOf, chains, ending, inverted, Frame, ma
 use Rattle.unfolded.proofs.Lists.{listed-length, listed-cong}
 use Rattle.unfolded.proofs.Drawings.{drawn-length, frame-nexts}
 use Rattle.unfolded.proofs.Counts.{matches-length, match-count, edge-count, frame-count}
-use Rattle.draw.specs.Drawn.{targetOf, gatesStored, endOf, matchOf, edgeOf, chosen, gathering}
-use Rattle.draw.specs.declared.Target.{Target}
-use Rattle.draw.proofs.Laws.{match-length}
-use Rattle.draw.proofs.Stored.{gates-append, end-is}
-use Rattle.draw.proofs.Parts.{part-length, part-entry}
+use Rattle.chains.specs.Chains.{targetOf, gatesStored, endOf, matchOf, edgeOf, chosen, gathering}
+use Rattle.chains.specs.declared.Target.{Target}
+use Rattle.chains.proofs.Laws.{match-length}
+use Rattle.chains.proofs.Stored.{gates-append, end-is}
+use Rattle.table.proofs.Parts.{part-length, part-entry}
 
 -- ---- parts of a frame
 

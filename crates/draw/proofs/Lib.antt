@@ -1,6 +1,2 @@
--- The proofs of the code that draws: laws by subject, lowest first.
-pub mod Laws
-pub mod Stored
-pub mod Edges
-pub mod Parts
+-- The proofs of the code that draws.
 pub mod Frames

@@ -12,7 +12,7 @@ use Rattle.unfolded.specs.Unfolded.{drawn, gatesNeeded, circuitWords, unfoldedB
 use Rattle.unfolded.specs.Theorems.{Unfoldings}
 use Rattle.unfolded.proofs.Outcomes.{Outcome}
 use Rattle.unfolded.proofs.Theorems.{unfoldings}
-use Rattle.draw.specs.Drawn.{gatesStored}
+use Rattle.chains.specs.Chains.{gatesStored}
 use Rattle.unfold.specs.Unfold.{Promised}
 
 pub circuit-stored : (n m T G : ℕ) (gs : List (ℕ × ℕ)) (v r w : List ℕ) → r ≡ stored 2 v 0 (n ∷ m ∷ T ∷ G ∷ []) → G ≡ length gs → w ≡ gatesStored G 0 r gs

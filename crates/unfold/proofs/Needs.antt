@@ -13,7 +13,7 @@ use Rattle.layered.specs.Search.{tally, total}
 use Rattle.layered.proofs.Lists.{total-cong}
 use Rattle.table.specs.Table.{states, entryCount, outputsAt, layerPart}
 use Rattle.unfolded.specs.Counted.{ones}
-use Rattle.draw.proofs.Parts.{part-length, part-entry}
+use Rattle.table.proofs.Parts.{part-length, part-entry}
 
 -- one bit more
 pub tally-next : (p : ℕ → Bool) (j : ℕ) (v : Bool) → p j ≡ v → tally (j + 1) p ≡ cond v 1 0 + tally j p

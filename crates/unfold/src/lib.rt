@@ -1,7 +1,7 @@
 // Unfolds a table into a circuit that gives its outputs.
+use chains::Target;
 use circuit::Limits;
 use circuit::is_set;
-use draw::Target;
 use draw::draw;
 use sizes::Sizes;
 use table::Layout;

@@ -16,9 +16,9 @@ use Rattle.sizes.specs.Sizes.{outputs as outputsOf, frames as framesOf}
 use Rattle.table.proofs.Offsets.{laid}
 use Rattle.unfolded.specs.Unfolded.{outLiteral, frameOf, drawing, drawn, gatesNeeded}
 use Rattle.unfolded.proofs.Drawings.{drawn-length}
-use Rattle.draw.specs.Drawn.{Fits, targetOf, gatesStored}
-use Rattle.draw.specs.declared.Target.{Target}
-use Rattle.draw.proofs.Stored.{gates-none, gates-length, fits-still}
+use Rattle.chains.specs.Chains.{Fits, targetOf, gatesStored}
+use Rattle.chains.specs.declared.Target.{Target}
+use Rattle.chains.proofs.Stored.{gates-none, gates-length, fits-still}
 use Rattle.draw.proofs.Frames.{frame-ends, frame-room, few-states, drawn-more, states-kept, outputs-kept, states-few, gates-mono, outputs-drawn}
 use Rattle.draw.proofs.draw.Statement.{statement}
 use Rattle.draw.proofs.draw.Tie as tie

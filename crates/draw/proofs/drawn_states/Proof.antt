@@ -8,7 +8,7 @@ use borrow.Author.Tests.{lt-ltb, le-ltb}
 use Rattle.sizes.specs.Sizes.{frames}
 use Rattle.table.specs.Table.{states}
 use Rattle.table.proofs.Offsets.{laid}
-use Rattle.draw.proofs.Parts.{count-in}
+use Rattle.table.proofs.Parts.{count-in}
 use Rattle.draw.proofs.drawn_states.Statement.{statement}
 use Rattle.draw.proofs.drawn_states.Tie as tie
 

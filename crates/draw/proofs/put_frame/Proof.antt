@@ -19,10 +19,10 @@ use Rattle.table.specs.Headed.{Headed}
 use Rattle.table.proofs.Offsets.{laid}
 use Rattle.unfolded.specs.Unfolded.{chains, ending, inverted, Frame, matchGates, edgeGates, nextGates, outLiteral, outGates, frameGates, Drawing, frameOf, drawing}
 use Rattle.unfolded.proofs.Counts.{edge-count, frame-count}
-use Rattle.draw.specs.Drawn.{Fits, targetOf, gatesStored, gathering}
-use Rattle.draw.specs.declared.Target.{Target}
-use Rattle.draw.proofs.Stored.{gates-length, fits-still}
-use Rattle.draw.proofs.Parts.{count-in}
+use Rattle.chains.specs.Chains.{Fits, targetOf, gatesStored, gathering}
+use Rattle.chains.specs.declared.Target.{Target}
+use Rattle.chains.proofs.Stored.{gates-length, fits-still}
+use Rattle.table.proofs.Parts.{count-in}
 use Rattle.draw.proofs.Frames.{matches-are, matches-count, edges-are, nexts-are, next-literals, outs-are, out-literals, parts-stored, frame-ends, frame-room, frame-edges, few-states, few-drawn, states-count, states-next}
 use Rattle.draw.proofs.put_frame.Statement.{statement}
 use Rattle.draw.proofs.put_frame.Tie as tie

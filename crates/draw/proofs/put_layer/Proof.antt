@@ -13,8 +13,8 @@ use Rattle.circuit.specs.Lists.{listed}
 use Rattle.table.specs.Table.{states, entriesBelow, layerPart}
 use Rattle.table.proofs.Offsets.{words-most}
 use Rattle.unfolded.specs.Unfolded.{inverted, chains, ending}
-use Rattle.draw.specs.Drawn.{gatesStored, gathering}
-use Rattle.draw.proofs.Parts.{count-in, part-is, part-in, part-length}
+use Rattle.chains.specs.Chains.{gatesStored, gathering}
+use Rattle.table.proofs.Parts.{count-in, part-is, part-in, part-length}
 use Rattle.draw.proofs.put_layer.Statement.{statement}
 use Rattle.draw.proofs.put_layer.Tie as tie
 

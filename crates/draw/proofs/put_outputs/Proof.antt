@@ -8,8 +8,8 @@ use denote.Ref.{now}
 use lib.ListN.{length, getD}
 use Rattle.circuit.specs.Lists.{grown, listed}
 use Rattle.unfolded.proofs.Lists.{listed-length}
-use Rattle.draw.specs.Drawn.{Fits, gatesStored}
-use Rattle.draw.proofs.Stored.{gates-none, gates-length, fits-still, each-more}
+use Rattle.chains.specs.Chains.{Fits, gatesStored}
+use Rattle.chains.proofs.Stored.{gates-none, gates-length, fits-still, each-more}
 use Rattle.draw.proofs.put_outputs.Statement.{statement}
 use Rattle.draw.proofs.put_outputs.Tie as tie
 

@@ -18,7 +18,7 @@ use Rattle.layered.specs.Search.{tally, total}
 use Rattle.table.specs.Table.{states, entriesBelow, outputsAt, layerPart}
 use Rattle.table.proofs.Offsets.{Laid, laid, row-small}
 use Rattle.unfolded.specs.Counted.{ones, frameNeeds}
-use Rattle.draw.proofs.Parts.{count-in, part-is, part-in, part-length}
+use Rattle.table.proofs.Parts.{count-in, part-is, part-in, part-length}
 use Rattle.unfold.proofs.Needs.{cond-most, ones-are}
 use Rattle.unfold.proofs.frame_needs.Statement.{statement}
 use Rattle.unfold.proofs.frame_needs.Tie as tie

@@ -14,7 +14,7 @@ use Rattle.sizes.specs.Sized.{Sized}
 use Rattle.sizes.specs.declared.Sizes.{Sizes}
 use Rattle.table.proofs.Offsets.{laid}
 use Rattle.unfolded.specs.Unfolded.{drawn, gatesNeeded}
-use Rattle.draw.specs.Drawn.{Fits}
+use Rattle.chains.specs.Chains.{Fits}
 use Rattle.unfold.proofs.Circuits.{circuit-stored}
 use Rattle.unfold.proofs.write_circuit.Statement.{statement}
 use Rattle.unfold.proofs.write_circuit.Tie as tie

@@ -1,0 +1,54 @@
+-- What the code that draws leaves: gates stored in a result, and the lists of literals that it keeps.
+use Prim.Native.Nat.{ℕ, _+_, _*_, _-_, _/_, _%_, _^_, _≤_}
+use mathlib.Core.Path.{_≡_}
+use mathlib.Core.Bool.{Bool, cond}
+use mathlib.Core.List.{List, map}
+use lib.Dec.{eqb}
+use lib.ListN.{length, getD}
+use Rattle.words.specs.Words.{wordAt, stored}
+use Rattle.sizes.specs.Sizes.{inputs, outputs, frames}
+use Rattle.circuit.specs.Lists.{bit}
+use Rattle.unfolded.specs.Unfolded.{invertedEdges, gatesNeeded}
+use Rattle.chains.specs.declared.Target.{Target}
+
+-- ---- the result
+
+-- the circuit is within the limits, and the result v has room for it
+pub record Fits (target : Target) (v : List ℕ) : Type 0 where
+  pub inputs-from : 1 ≤ target .inputs
+  pub inputs-to : target .inputs ≤ 8
+  pub words-are : target .words ≡ 2 ^ target .inputs
+  pub outputs-to : target .outputs ≤ 16
+  pub base-to : target .base ≤ 17
+  pub gates-to : target .gates ≤ 4096
+  pub room : 8 + 4 * target .gates ≤ length v
+
+-- it is the circuit that the table b is drawn as
+abbrev pub targetOf : List ℕ → Target
+targetOf b = record { inputs = inputs b; words = 2 ^ inputs b; outputs = outputs b; base = 1 + inputs b * frames b; gates = gatesNeeded b }
+
+-- the result v after gates were stored from gate k on, in a circuit of G gates: left literals in the first array, right ones in the second
+unfoldable pub gatesStored : (G k : ℕ) → List ℕ → List (ℕ × ℕ) → List ℕ
+gatesStored G k v gs = stored 2 (stored 2 v (8 + 2 * k) (map (λ g. g .0) gs)) (8 + 2 * (G + k)) (map (λ g. g .1) gs)
+
+-- ---- literals
+
+-- what a chain ends with whose gates are those from `first` up to, not including, k
+unfoldable pub endOf : (base first k : ℕ) → ℕ
+endOf base first k = cond (eqb k first) 1 (2 * (base + (k - 1)))
+
+-- the match of word w, where the match chains begin with signal `at`
+unfoldable pub matchOf : (n at w : ℕ) → ℕ
+matchOf n at w = 2 * (at + (w * n + (n - 1)))
+
+-- edge e, by state, then word
+unfoldable pub edgeOf : (n at : ℕ) (states : List ℕ) (e : ℕ) → ℕ × ℕ
+edgeOf n at states e = (getD states (e / 2 ^ n) 0, matchOf n at (e % 2 ^ n))
+
+-- whether an edge with the next state or output x is gathered
+unfoldable pub chosen : (nexts : Bool) (which x : ℕ) → Bool
+chosen nexts which x = cond nexts (eqb x which) (bit x which)
+
+-- the right literals of a gather chain: `entries` are the next states or the outputs of a layer, whose edges begin with signal `at`
+unfoldable pub gathering : (at : ℕ) (entries : List ℕ) (nexts : Bool) (which : ℕ) → List ℕ
+gathering at entries nexts which = invertedEdges at (λ e. chosen nexts which (wordAt entries (2 * e))) (length entries / 2)
