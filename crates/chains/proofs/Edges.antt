@@ -1,13 +1,12 @@
 -- Laws of gather chains: one edge more, and how many there are. Assumes nothing.
-use mathlib.Core.Path.{_≡_, refl, sym, ap, _∙_}
-use mathlib.Core.Bool.{Bool, true, false, cond}
+use mathlib.Core.Path.{_≡_, sym, ap, _∙_}
+use mathlib.Core.Bool.{Bool, true, false}
 use mathlib.Core.List.{List, [], _∷_, _++_, append-nil}
-use Prim.Native.Nat.{ℕ, suc, _+_, _*_, _/_, _≤_, _<_}
+use Prim.Native.Nat.{ℕ, _+_, _*_, _/_, _≤_, _<_}
 use native.Mathlib.Numerals.{add-one}
 use native.Mathlib.Omega.{arith}
 use lib.ListN.{length, length-append}
 use Rattle.words.specs.Words.{wordAt}
-use Rattle.layered.specs.Search.{tally}
 use Rattle.layered.proofs.Search.{tally-le}
 use Rattle.unfolded.specs.Unfolded.{invertedEdges}
 use Rattle.unfolded.proofs.Counts.{edges-length}

@@ -8,12 +8,12 @@ use words::read;
 ghost use mathlib.Core.Path.{_≡_};
 ghost use mathlib.Core.Bool.{_&&_, cond};
 ghost use mathlib.Core.List.{_++_};
-ghost use Prim.Native.Nat.{ℕ, suc, _+_, _*_, _-_, _/_, _≤_, _<_, max};
-ghost use lib.ListN.{length, take, drop, getD};
+ghost use Prim.Native.Nat.{_+_, _*_, _-_, _/_, _≤_, _<_, max};
+ghost use lib.ListN.{length, take, drop};
 ghost use Rattle.verdict.specs.Figures.{figures};
 ghost use Rattle.sizes.specs.Sizes.{frames};
 ghost use Rattle.circuit.specs.Lists.{bit, packed};
-ghost use Rattle.circuit.specs.Circuit.{gates, allInputs, gateSignal, frameOf, headChecked, literalsChecked, inputFrames, latestFrames, lookAheadChecked, checked, inputValues, literalValue, signalValues, outputWord, outputWords, simulated, simulationResult};
+ghost use Rattle.circuit.specs.Circuit.{gates, gateSignal, frameOf, headChecked, literalsChecked, inputFrames, latestFrames, lookAheadChecked, checked, inputValues, literalValue, signalValues, outputWords, simulated, simulationResult};
 ghost use Rattle.circuit.specs.Legal.{Headed, HeadOf, Legal};
 ghost use Rattle.circuit.specs.Theorems.{AcceptedCausal};
 

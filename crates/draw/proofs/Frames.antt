@@ -1,5 +1,5 @@
 -- What is stored for a frame is its gates, part by part. Assumes nothing.
-use mathlib.Core.Path.{_≡_, refl, sym, ap, ap₂, _∙_, fun-ext}
+use mathlib.Core.Path.{_≡_, refl, sym, ap, ap₂, _∙_}
 use mathlib.Core.Bool.{Bool, true, false, cond}
 use mathlib.Core.List.{List, [], _∷_, _++_, append-assoc}
 use Prim.Native.Nat.{ℕ, zero, suc, _+_, _*_, _-_, _/_, _%_, _^_, _≤_, _<_}
@@ -7,15 +7,15 @@ use native.Mathlib.Nat.{le-refl, div-lt-iff-lt-mul, mul-le-mul-left, mul-suc}
 use native.Mathlib.Numerals.{add-one}
 use native.Mathlib.Decide.{le-ind}
 use native.Mathlib.Omega.{arith}
-use lib.Dec.{ltb, eqb}
+use lib.Dec.{ltb}
 use lib.Pow.{pow-pos, pow-mono}
 use lib.ListN.{length, getD, take, length-append, length-take}
 use lib.Seq.{getD-take, take-at, sets, sets-eq}
 use borrow.Author.Tests.{ne-eqb, ltb-true}
 use Rattle.words.specs.Words.{wordAt}
 use Rattle.sizes.specs.Sizes.{inputs, outputs, frames}
-use Rattle.circuit.specs.Lists.{grown, listed, bit}
-use Rattle.table.specs.Table.{states, entryCount, outputsAt, nextsAt, entryAt, layerPart, machine}
+use Rattle.circuit.specs.Lists.{listed}
+use Rattle.table.specs.Table.{states, entryCount, outputsAt, nextsAt, entryAt, layerPart}
 use Rattle.table.specs.Headed.{Headed}
 use Rattle.table.proofs.Offsets.{arrays-stand}
 use Rattle.unfolded.specs.Unfolded.{lastOf, chains, ending, inverted, Frame, matching, matchGates, matchLiteral, edgesAt, edgeGate, edgeGates, invertedEdges, nextGatesAt, entering, nextGates, nextLiteral, outGatesAt, withBit, outGates, outLiteral, frameGates, Drawing, frameOf, drawing, withFrame, outputGate, drawn, gatesNeeded}

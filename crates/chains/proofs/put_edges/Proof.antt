@@ -1,15 +1,15 @@
 -- `chains::put_edges` meets its contract. The invariant: the first e edges are stored.
 -- Assumes nothing.
 use mathlib.Core.Path.{_≡_, sym, ap, _∙_}
-use mathlib.Core.List.{List, []}
-use Prim.Native.Nat.{ℕ, _+_, _*_, _-_, _/_, _%_, _≤_, _<_}
+use mathlib.Core.List.{[]}
+use Prim.Native.Nat.{ℕ, _+_, _-_, _/_, _≤_}
 use native.Mathlib.Nat.{mod-lt, div-le-self, div-lt-iff-lt-mul}
 use native.Mathlib.Omega.{arith}
 use denote.Ref.{now}
 use lib.ListN.{length}
 use Rattle.circuit.specs.Lists.{grown, listed}
 use Rattle.unfolded.proofs.Lists.{listed-length}
-use Rattle.chains.specs.Chains.{Fits, gatesStored, edgeOf}
+use Rattle.chains.specs.Chains.{gatesStored, edgeOf}
 use Rattle.chains.proofs.Laws.{words-from, words-to, edge-is}
 use Rattle.chains.proofs.Stored.{gates-none, gates-length, fits-still, each-more}
 use Rattle.chains.proofs.put_edges.Statement.{statement}

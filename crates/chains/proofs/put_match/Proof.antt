@@ -1,8 +1,8 @@
 -- `chains::put_match` meets its contract. The invariant: the chain's first i gates are stored.
 -- Assumes nothing.
-use mathlib.Core.Path.{_≡_, refl, sym, ap, ap₂, _∙_}
-use mathlib.Core.List.{List, []}
-use Prim.Native.Nat.{ℕ, _+_, _-_, _≤_, _<_}
+use mathlib.Core.Path.{_≡_, sym, ap, _∙_}
+use mathlib.Core.List.{[]}
+use Prim.Native.Nat.{ℕ, _+_, _-_, _≤_}
 use native.Mathlib.Omega.{arith}
 use denote.Ref.{now}
 use lib.ListN.{length}
@@ -10,7 +10,7 @@ use Rattle.circuit.specs.Lists.{grown, listed}
 use Rattle.unfolded.specs.Unfolded.{chain, inputLiteral, matching}
 use Rattle.unfolded.proofs.Lists.{listed-length, listed-more}
 use Rattle.unfolded.proofs.Gates.{chain-length}
-use Rattle.chains.specs.Chains.{Fits, gatesStored}
+use Rattle.chains.specs.Chains.{gatesStored}
 use Rattle.chains.proofs.Stored.{gates-none, gates-length, fits-still, chain-more}
 use Rattle.chains.proofs.put_match.Statement.{statement}
 use Rattle.chains.proofs.put_match.Tie as tie

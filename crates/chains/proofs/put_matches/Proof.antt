@@ -2,15 +2,14 @@
 -- Assumes nothing.
 use mathlib.Core.Path.{_≡_, refl, sym, ap, _∙_}
 use mathlib.Core.List.{List}
-use Prim.Native.Nat.{ℕ, _+_, _*_, _-_, _≤_, _<_}
+use Prim.Native.Nat.{ℕ, _+_, _*_, _-_, _≤_}
 use native.Mathlib.Nat.{mul-le-mul-right}
 use native.Mathlib.Omega.{arith}
 use denote.Ref.{now}
 use lib.ListN.{length}
 use Rattle.unfolded.specs.Unfolded.{chains, matching}
-use Rattle.unfolded.proofs.Lists.{listed-length}
 use Rattle.unfolded.proofs.Counts.{matches-length}
-use Rattle.chains.specs.Chains.{Fits, gatesStored}
+use Rattle.chains.specs.Chains.{gatesStored}
 use Rattle.chains.proofs.Laws.{words-to, match-room, match-length}
 use Rattle.chains.proofs.Stored.{gates-none, gates-length, fits-still, chains-next}
 use Rattle.chains.proofs.put_matches.Statement.{statement}

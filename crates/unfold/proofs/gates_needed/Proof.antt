@@ -10,7 +10,6 @@ use Rattle.sizes.specs.Sizes.{outputs as outputsOf, frames as framesOf}
 use Rattle.sizes.specs.declared.Sizes.{Sizes}
 use Rattle.layered.specs.Search.{total}
 use Rattle.table.proofs.Offsets.{laid}
-use Rattle.unfolded.specs.Unfolded.{gatesNeeded}
 use Rattle.unfolded.specs.Counted.{frameNeeds}
 use Rattle.unfolded.proofs.Counts.{gates-needed}
 use Rattle.unfold.proofs.Needs.{total-next}

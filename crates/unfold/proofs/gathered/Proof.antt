@@ -1,7 +1,6 @@
 -- `unfold::gathered` meets its contract.
 -- Assumes nothing.
 use native.Mathlib.Numerals.{add-one}
-use native.Mathlib.Omega.{arith}
 use borrow.Author.Needs.{needs}
 use borrow.Author.Tests.{lt-ltb, le-ltb}
 use Rattle.unfold.proofs.gathered.Statement.{statement}

@@ -1,6 +1,6 @@
 -- `unfold::unfold` meets its contract: each return is an outcome of the definition, and the theorems hold of what an accepted one wrote.
 -- Assumes nothing.
-use mathlib.Core.Path.{_≡_, sym, ap, ap₂, _∙_, subst, transport}
+use mathlib.Core.Path.{_≡_, sym, ap, _∙_, subst, transport}
 use mathlib.Core.List.{List}
 use Prim.Native.Nat.{ℕ, _+_, _*_, _≤_}
 use native.Mathlib.Omega.{arith}
@@ -12,7 +12,7 @@ use Rattle.verdict.proofs.Laws.{accepts}
 use Rattle.table.specs.Table.{checked}
 use Rattle.table.specs.Headed.{Sound}
 use Rattle.table.proofs.Accepted.{sound}
-use Rattle.table.proofs.Offsets.{laid, arrays-stand}
+use Rattle.table.proofs.Offsets.{arrays-stand}
 use Rattle.unfolded.specs.Unfolded.{gatesNeeded, unfoldedBytes}
 use Rattle.unfolded.proofs.Outcomes.{Outcome, table-refused, gates-refused, room-refused, unfolded-accepted}
 use Rattle.unfold.proofs.Circuits.{bytes-needed, bytes-stored, promises}

@@ -1,8 +1,8 @@
 -- `unfold::write_circuit` meets its contract.
 -- Assumes nothing.
-use mathlib.Core.Path.{_≡_, refl, sym, ap, _∙_}
+use mathlib.Core.Path.{_≡_, sym, ap, _∙_}
 use mathlib.Core.List.{List, _∷_, []}
-use Prim.Native.Nat.{ℕ, _+_, _*_, _^_, _≤_}
+use Prim.Native.Nat.{ℕ, _+_, _*_, _^_}
 use native.Mathlib.Omega.{arith}
 use borrow.Author.Needs.{needs}
 use denote.Ref.{now}
@@ -12,9 +12,7 @@ use Rattle.words.proofs.Laws.{stored-length}
 use Rattle.sizes.specs.Sizes.{inputs, outputs, frames}
 use Rattle.sizes.specs.Sized.{Sized}
 use Rattle.sizes.specs.declared.Sizes.{Sizes}
-use Rattle.table.proofs.Offsets.{laid}
 use Rattle.unfolded.specs.Unfolded.{drawn, gatesNeeded}
-use Rattle.chains.specs.Chains.{Fits}
 use Rattle.unfold.proofs.Circuits.{circuit-stored}
 use Rattle.unfold.proofs.write_circuit.Statement.{statement}
 use Rattle.unfold.proofs.write_circuit.Tie as tie

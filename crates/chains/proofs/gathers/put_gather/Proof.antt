@@ -4,13 +4,13 @@ use mathlib.Core.Path.{_≡_, refl, sym, ap, _∙_}
 use mathlib.Core.Bool.{Bool, true}
 use mathlib.Core.Logic.{⊎-elim}
 use mathlib.Core.List.{List}
-use Prim.Native.Nat.{ℕ, _+_, _*_, _-_, _/_, _≤_, _<_}
+use Prim.Native.Nat.{ℕ, _+_, _*_, _-_, _/_, _≤_}
 use native.Mathlib.Omega.{arith}
 use denote.Ref.{now}
 use lib.ListN.{length}
 use Rattle.unfolded.specs.Unfolded.{chain, invertedEdges}
 use Rattle.unfolded.proofs.Gates.{chain-length}
-use Rattle.chains.specs.Chains.{Fits, gatesStored, chosen, gathering}
+use Rattle.chains.specs.Chains.{gatesStored, chosen, gathering}
 use Rattle.chains.proofs.Edges.{gathered, edge-taken, edge-passed, taken-length, edges-most, edge-room, gathering-is}
 use Rattle.chains.proofs.Stored.{gates-none, gates-length, fits-still, chain-more}
 use Rattle.chains.proofs.gathers.put_gather.Statement.{statement}

@@ -1,16 +1,15 @@
 -- `chains::gathers::put_gathers` meets its contract. The invariant: the first i chains are stored, and what they end with is kept.
 -- Assumes nothing.
 use mathlib.Core.Path.{_≡_, refl, sym, ap, _∙_}
-use mathlib.Core.Bool.{false}
 use mathlib.Core.List.{List, []}
-use Prim.Native.Nat.{ℕ, _+_, _*_, _-_, _/_, _≤_, _<_}
+use Prim.Native.Nat.{ℕ, _+_, _-_, _≤_, _<_}
 use native.Mathlib.Omega.{arith}
 use denote.Ref.{now}
 use lib.ListN.{length}
 use lib.Seq.{sets, length-sets}
 use Rattle.circuit.specs.Lists.{grown, listed}
-use Rattle.unfolded.specs.Unfolded.{inverted, chain, chains, ending}
-use Rattle.chains.specs.Chains.{Fits, gatesStored, gathering}
+use Rattle.unfolded.specs.Unfolded.{inverted, chains, ending}
+use Rattle.chains.specs.Chains.{gatesStored, gathering}
 use Rattle.chains.proofs.Stored.{gates-none, gates-length, fits-still, chains-next, chains-longer, chains-room, chains-most, ending-is, kept-more}
 use Rattle.chains.proofs.gathers.put_gathers.Statement.{statement}
 use Rattle.chains.proofs.gathers.put_gathers.Tie as tie
