@@ -157,3 +157,9 @@ unfoldable pub hold : List Row → Bool
 unfolding answered agree
 hold [] = true
 hold (r ∷ rs) = agree (answered (r .call)) (r .expected) && hold rs
+
+-- what the test shows: each call answers and leaves what is expected
+unfoldable pub Each : List Row → Type 0
+unfolding answered
+Each [] = Unit
+Each (r ∷ rs) = (answered (r .call) ≡ r .expected) × Each rs
