@@ -2,14 +2,21 @@
 -- together, and literals are of earlier signals.
 use mathlib.Core.Path.{_≡_, refl, sym, ap, ap₂, _∙_}
 use mathlib.Core.Logic.{⊎-elim}
+use mathlib.Core.Bool.{true}
 use mathlib.Core.List.{List, [], _∷_, _++_}
 use Prim.Native.Nat.{ℕ, zero, suc, _+_, _*_, _≤_, _<_}
 use native.Mathlib.Nat.{le-of-suc-le-suc, eq-or-lt-of-le, le-suc, le-trans, le-refl}
 use native.Mathlib.Omega.{arith}
 use lib.ListN.{length, length-append}
 use Rattle.circuit.specs.Lists.{grown, listed}
-use Rattle.unfolded.specs.Unfolded.{chain, lastOf, chains, ending}
+use Rattle.unfolded.specs.Unfolded.{chain, lastOf, chains, ending, invertedEdges}
 use Rattle.unfolded.proofs.Lists.{Under, none, more, under-widen, listed-length}
+
+-- ---- the edges of a chain ascend
+
+pub edges-ascend : (at : ℕ) → invertedEdges at (λ _. true) 2 ≡ (2 * (at + 0) + 1) ∷ (2 * (at + 1) + 1) ∷ []
+unfolding invertedEdges
+edges-ascend at = refl
 
 -- ---- literals are of earlier signals
 

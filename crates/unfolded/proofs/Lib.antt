@@ -1,5 +1,4 @@
 -- The proofs of what specs/ states, by subject, lowest first.
-pub mod Example
 pub mod Lists
 pub mod Gates
 pub mod Frames
