@@ -1,11 +1,11 @@
 -- The figures hold: the test is computed, and where it passes, each row's equation holds.
-use mathlib.Core.Path.{_≡_, refl, ap, ap₂, subst⁻¹}
-use mathlib.Core.Bool.{Bool, true}
+use mathlib.Core.Path.{_≡_, refl, ap₂, subst⁻¹}
+use mathlib.Core.Bool.{true}
 use mathlib.Core.List.{List, [], _∷_}
 use Prim.Native.Nat.{ℕ}
 use lib.Dec.{T, eqb, eqb→eq}
 use Rattle.words.specs.Words.{wordAt}
-use Rattle.verdict.specs.Figures.{answer, refuseFirst, firstRefusal}
+use Rattle.verdict.specs.Figures.{refuseFirst, firstRefusal}
 use Rattle.verdict.specs.declared.Figures.{Figures}
 use Rattle.sizes.specs.Sizes.{inputs, outputs, frames, sizesChecked}
 use Rattle.layered.specs.Machines.{tableWords}
@@ -19,7 +19,7 @@ use Rattle.folded.specs.Folded as folded
 use Rattle.unfolded.specs.Unfolded as unfolded
 use Rattle.figures.specs.Figures.{Outcome, Row, rows, answered, equal, agree, hold, Each}
 
--- ---- what computing unfolds
+-- ---- all that is unfolded to compute a circuit's check, a folded table's bytes, and a table's check
 
 abbrev circuit-checked : List ℕ → Figures
 unfolding circuit.checked circuit.headChecked circuit.literalsChecked circuit.lookAheadChecked circuit.circuitLength circuit.admissible circuit.inputFrames circuit.laterFrame circuit.latestFrames circuit.looksAhead circuit.frameOf circuit.gates circuit.leftsAt circuit.rightsAt circuit.literalAt circuit.allInputs circuit.allOutputs circuit.gateSignal circuit.outputSignal sizesChecked refuseFirst grown wordAt inputs outputs frames

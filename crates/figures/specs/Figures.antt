@@ -1,5 +1,5 @@
--- Document 01's figures that are to be proved ("Figures to hold", those with a star), in its order: one table of calls with what they answer
--- and leave, and its test. Each figure stands here and nowhere else.
+-- The figures that document 01 wants proved ("Figures to hold", those with a star): one table, in its order, of calls with what they are to
+-- answer and leave, and its test.
 use Prim.Native.Nat.{ℕ, _*_}
 use mathlib.Core.Path.{_≡_}
 use mathlib.Core.Bool.{Bool, true, false, _&&_}
@@ -29,7 +29,7 @@ pub record Outcome : Type 0 where
   pub result : List ℕ
   pub scratch : List ℕ
 
--- by the definitions that the calls' promises cite
+-- what a call answers and leaves, by the definitions that its promise cites
 unfoldable pub answered : Call → Outcome
 answered (Check b) = record { figures = checked b; result = []; scratch = [] }
 answered (Fold b scratch result) = record {
@@ -44,14 +44,17 @@ answered (Step b layer state word) =
 
 -- ---- circuits and tables, as words
 
--- Parity: n, m, T, G; left literals; right literals. y1 = x1, y2 = x1 xor x2
+-- A circuit is n, m, T, G, the left literals, the right literals; a table is n, m, T, the counts, the outputs, the next states.
+
+-- Parity: n = m = 1, T = 2, y1 = x1, y2 = x1 xor x2
 unfoldable pub parity : List ℕ
 parity = 1 ∷ 1 ∷ 2 ∷ 5 ∷ 2 ∷ 3 ∷ 7 ∷ 2 ∷ 11 ∷ 5 ∷ 4 ∷ 9 ∷ 1 ∷ 1 ∷ []
 
--- n, m, T; counts; outputs; next states
+-- its table
 unfoldable pub parityFolded : List ℕ
 parityFolded = (1 ∷ 1 ∷ 2 ∷ []) ++ ((1 ∷ 2 ∷ 1 ∷ []) ++ ((0 ∷ 1 ∷ 0 ∷ 1 ∷ 1 ∷ 0 ∷ []) ++ (0 ∷ 1 ∷ 0 ∷ 0 ∷ 0 ∷ 0 ∷ [])))
 
+-- the table's circuit
 unfoldable pub parityDrawn : List ℕ
 parityDrawn =
     (1 ∷ 1 ∷ 2 ∷ 17 ∷ [])
@@ -62,6 +65,7 @@ parityDrawn =
 unfoldable pub identity : List ℕ
 identity = 1 ∷ 1 ∷ 1 ∷ 1 ∷ 2 ∷ 1 ∷ []
 
+-- its table
 unfoldable pub identityFolded : List ℕ
 identityFolded = (1 ∷ 1 ∷ 1 ∷ []) ++ ((1 ∷ 1 ∷ []) ++ ((0 ∷ 1 ∷ []) ++ (0 ∷ 0 ∷ [])))
 
@@ -69,6 +73,7 @@ identityFolded = (1 ∷ 1 ∷ 1 ∷ []) ++ ((1 ∷ 1 ∷ []) ++ ((0 ∷ 1 ∷ []
 unfoldable pub silent : List ℕ
 silent = 1 ∷ 1 ∷ 2 ∷ 2 ∷ 0 ∷ 0 ∷ 0 ∷ 0 ∷ []
 
+-- its table
 unfoldable pub silentFolded : List ℕ
 silentFolded = (1 ∷ 1 ∷ 2 ∷ []) ++ ((1 ∷ 1 ∷ 1 ∷ []) ++ ((0 ∷ 0 ∷ 0 ∷ 0 ∷ []) ++ (0 ∷ 0 ∷ 0 ∷ 0 ∷ [])))
 
@@ -76,6 +81,7 @@ silentFolded = (1 ∷ 1 ∷ 2 ∷ []) ++ ((1 ∷ 1 ∷ 1 ∷ []) ++ ((0 ∷ 0 �
 unfoldable pub delayed : List ℕ
 delayed = 1 ∷ 1 ∷ 3 ∷ 3 ∷ 0 ∷ 0 ∷ 2 ∷ 0 ∷ 0 ∷ 1 ∷ []
 
+-- its table
 unfoldable pub delayedFolded : List ℕ
 delayedFolded =
     (1 ∷ 1 ∷ 3 ∷ [])
@@ -93,13 +99,15 @@ pub record Row : Type 0 where
   pub call : Call
   pub expected : Outcome
 
+-- a row of the table: call, number, place, result, scratch
 abbrev pub row : Call → (number place : ℕ) (result scratch : List ℕ) → Row
 row c number place result scratch = record { call = c; expected = record { figures = answer number place; result = result; scratch = scratch } }
 
--- what is lent: numbers that are not 0
+-- what is lent: k numbers that are not 0
 abbrev pub lent : ℕ → List ℕ
 lent k = replicate k 9
 
+-- what needed scratch holds once it is cleared
 abbrev pub zeros : ℕ → List ℕ
 zeros k = replicate k 0
 
@@ -138,13 +146,14 @@ rows =
 
 -- ---- the test
 
+-- the lists are as long, with equal elements
 unfoldable pub equal : (xs ys : List ℕ) → Bool
 equal [] [] = true
 equal (x ∷ xs) (y ∷ ys) = eqb x y && equal xs ys
 equal [] (y ∷ ys) = false
 equal (x ∷ xs) [] = false
 
--- numbers, places, results and scratches are equal
+-- number, place, result and scratch are equal
 unfoldable pub agree : Outcome → Outcome → Bool
 unfolding equal
 agree o p =
@@ -153,12 +162,13 @@ agree o p =
     && (equal (o .result) (p .result)
     && equal (o .scratch) (p .scratch)))
 
+-- every row's call answers and leaves what is expected
 unfoldable pub hold : List Row → Bool
 unfolding answered agree
 hold [] = true
 hold (r ∷ rs) = agree (answered (r .call)) (r .expected) && hold rs
 
--- what the test shows: each call answers and leaves what is expected
+-- what the test shows, as equations
 unfoldable pub Each : List Row → Type 0
 unfolding answered
 Each [] = Unit

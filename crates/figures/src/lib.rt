@@ -1,4 +1,4 @@
-// Document 01's figures that are to be proved: the table of them and its test are in specs/, the proof in proofs/.
+// The figures that document 01 wants proved: their table and its test are in specs/, the proof in proofs/.
 ghost use mathlib.Core.Path.{_≡_};
 ghost use mathlib.Core.Bool.{true};
 ghost use Rattle.figures.specs.Figures.{rows, hold, Each};
