@@ -1,0 +1,47 @@
+/* Folds parity, reads its table aloud, steps it, and draws gates from it. docs/EXAMPLE.md walks through it.
+ *
+ *   rt staticlib tff
+ *   cc -Iinclude examples/parity.c -Ltarget/staticlib -ltff -o target/parity && target/parity
+ */
+#include <stdio.h>
+
+#include "tff.h"
+
+static unsigned word(const uint8_t *bytes, size_t i) {
+    return bytes[2 * i] + 256u * bytes[2 * i + 1];
+}
+
+int main(void) {
+    const uint8_t circuit[] = {1, 0, 1, 0, 2, 0, 5, 0,          /* n, m, T, gates */
+                               2, 0, 3, 0, 7, 0, 2, 0, 11, 0,   /* left literals */
+                               5, 0, 4, 0, 9, 0, 1, 0, 1, 0};   /* right literals */
+    uint16_t scratch[8];
+    uint8_t table[36], drawn[76];
+    uint64_t answer[5];
+
+    tff_fold(circuit, sizeof circuit, scratch, 8, table, sizeof table, answer, 2);
+    printf("fold: %d, %d\n", (int)answer[0], (int)answer[1]);
+
+    unsigned frames = word(table, 2), entry = 4 + frames, entries = 0;
+    for (unsigned t = 0; t < frames; t++) entries += 2 * word(table, 3 + t);
+    for (unsigned t = 0; t < frames; t++)
+        for (unsigned s = 0; s < word(table, 3 + t); s++)
+            for (unsigned w = 0; w < 2; w++, entry++)
+                printf("layer %u state %u word %u: output %u, next state %u\n", t, s, w,
+                       word(table, entry), word(table, entry + entries));
+
+    uint16_t layer = 0, state = 0;
+    for (unsigned t = 0; t < frames; t++) {
+        tff_step(table, sizeof table, layer, state, 1, answer, 5);
+        printf("step on 1: output %d, layer %d, state %d\n", (int)answer[2], (int)answer[3], (int)answer[4]);
+        layer = (uint16_t)answer[3];
+        state = (uint16_t)answer[4];
+    }
+
+    tff_unfold(table, sizeof table, drawn, sizeof drawn, answer, 2);
+    printf("unfold: %d, %d\n", (int)answer[0], (int)answer[1]);
+    unsigned gates = word(drawn, 3);
+    for (unsigned g = 0; g < gates; g++)
+        printf("%u = %u and %u\n", 2 * (3 + g), word(drawn, 4 + g), word(drawn, 4 + gates + g));
+    return 0;
+}
