@@ -9,7 +9,7 @@ use native.Mathlib.Omega.{arith}
 use lib.Pow.{pow-pos}
 use lib.ListN.{length, getD, length-append, List·getD-append}
 use lib.Seq.{getD-append-add}
-use borrow.Author.Tests.{lt-ltb}
+use borrow.Author.Tests.{lt-ltb, le-ltb}
 use Rattle.sizes.specs.Sizes.{inputs, outputs, frames}
 use Rattle.circuit.specs.Lists.{listed, bit}
 use Rattle.table.specs.Table.{states}
@@ -58,7 +58,11 @@ module _ (b : List ℕ) (t : ℕ) (d : Drawing) where
   unfolding frameOf behind base
   frame-at = refl
 
-  -- how many next states are drawn
+  -- how many next states are drawn: in the last frame none
+  pub last-nexts : frames b ≤ suc t → frameOf b t d .nexts ≡ 0
+  unfolding frameOf
+  last-nexts h = ap (λ t′. cond t′ (states b (suc t)) 0) (le-ltb (suc t) (frames b) h)
+
   pub frame-nexts : suc t < frames b → frameOf b t d .nexts ≡ states b (suc t)
   unfolding frameOf
   frame-nexts h = ap (λ t′. cond t′ (states b (suc t)) 0) (lt-ltb (suc t) (frames b) h)
