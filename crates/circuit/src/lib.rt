@@ -74,7 +74,7 @@ pub fn check_head(circuit: &[u8], most: usize) -> Verdict
     if is_outside(sizes.outputs * sizes.frames, Limits::GATES, gates) {
         return Verdict::Refused(Refusal::Size(6));
     }
-    if length != 8 + 4 * gates {
+    if length != Limits::HEAD + 4 * gates {
         return Verdict::Refused(Refusal::Length(length));
     }
     Verdict::Accepted(0)
@@ -167,16 +167,16 @@ pub fn check(circuit: &[u8]) -> Verdict
     ensures verdict { λ r. ⌜ figures r ≡ checked (now (circuit .entry)) ⌝ }
     ensures causal { λ r. ⌜ AcceptedCausal (now (circuit .entry)) ⌝ }
 {
-    let judged = check_head(circuit, 8);
+    let judged = check_head(circuit, sizes::Limits::INPUTS);
     let Verdict::Accepted(_) = judged else {
         return judged;
     };
     let head = Head::read(circuit);
-    let lefts = check_literals(circuit, head, 8);
+    let lefts = check_literals(circuit, head, Limits::HEAD);
     let Verdict::Accepted(_) = lefts else {
         return lefts;
     };
-    let rights = check_literals(circuit, head, 8 + 2 * head.gates);
+    let rights = check_literals(circuit, head, Limits::HEAD + 2 * head.gates);
     let Verdict::Accepted(_) = rights else {
         return rights;
     };

@@ -6,7 +6,7 @@ use Prim.Native.Nat.{ℕ, suc, _+_, _-_, _≤_, _<_}
 use native.Mathlib.Omega.{arith}
 use Rattle.layered.specs.States.{Words, none, more}
 use Rattle.layered.specs.Machines.{Machine, Legal, feed, Gives, Renumbered}
-use Rattle.layered.proofs.Machines.{renumbered-feed}
+use Rattle.layered.proofs.Machines.{renumbered-trans, renumbered-feed}
 use Rattle.table.specs.Theorems.{reached}
 
 -- M and N are the same machine: states of layers 0 to T, start, and all entries of layers below T
@@ -36,20 +36,6 @@ agree-renumbered M N A = record {
   starts = A .start-is;
   outs = λ t s w b l k. sym (A .outs-are t s w b l k);
   nexts = λ t s w b l k. sym (A .nexts-are t s w b l k);
-}
-
--- one renumbering after another
-pub renumbered-trans : {K T : ℕ} (L M N : Machine) → Renumbered K T L M → Renumbered K T M N → Renumbered K T L N
-renumbered-trans L M N R S = record {
-  there = λ t s. S .there t (R .there t s);
-  back = λ t s. R .back t (S .back t s);
-  there-is = λ t s b l. S .there-is t _ b (R .there-is t s b l);
-  back-is = λ t s b l. R .back-is t _ b (S .back-is t s b l);
-  back-there = λ t s b l. ap (R .back t) (S .back-there t _ b (R .there-is t s b l)) ∙ R .back-there t s b l;
-  there-back = λ t s b l. ap (S .there t) (R .there-back t _ b (S .back-is t s b l)) ∙ S .there-back t s b l;
-  starts = ap (S .there 0) (R .starts) ∙ S .starts;
-  outs = λ t s w b l k. S .outs t _ w b (R .there-is t s (omega arith) l) k ∙ R .outs t s w b l k;
-  nexts = λ t s w b l k. S .nexts t _ w b (R .there-is t s (omega arith) l) k ∙ ap (S .there (suc t)) (R .nexts t s w b l k);
 }
 
 -- renumberings of one are renumberings of the other

@@ -11,47 +11,17 @@ use lib.Arith.{digits-lt}
 use lib.ListN.{length, take, drop, length-take, length-drop}
 use borrow.Author.Tests.{le-ltb, lt-leb, eq-eqb, eqb-true, leb-false, not-false}
 use Rattle.words.specs.Words.{wordAt}
-use Rattle.words.proofs.Laws.{number-take, number-drop}
-use Rattle.verdict.specs.Figures.{answer, pick, refuse, andThen, refuseFirst, firstRefusal}
+use Rattle.verdict.specs.Figures.{answer, pick, andThen}
 use Rattle.verdict.specs.declared.Figures.{Figures}
-use Rattle.verdict.proofs.Laws.{both-accept, passed, none-found, row-accepts}
+use Rattle.verdict.proofs.Laws.{both-accept, passed, none-found, row-accepts, finds-none, all-accept}
 use Rattle.sizes.specs.Sizes.{inputs, outputs, frames, outside, sizesChecked}
 use Rattle.sizes.specs.Sized.{Sized}
-use Rattle.sizes.proofs.Laws.{inside, sized}
+use Rattle.sizes.proofs.Laws.{inside, sized, not-outside, sizes-pass}
 use Rattle.table.specs.Table.{countAt, states, headLength, entriesBelow, entryCount, outputsAt, nextsAt, tableLength, layerPart, entryAt, machine, countsChecked, headChecked, partChecked, outputsChecked, nextsChecked, checked}
+use Rattle.table.proofs.Offsets.{part-word}
 use Rattle.layered.specs.Machines.{Machine, Legal}
 use Rattle.layered.specs.Search.{total}
 use Rattle.folded.proofs.Places.{before, layer-within, place-below, entry-at}
-
--- ---- judgements that find nothing
-
--- where the test fails at each index, the rest is the verdict
-pub finds-none : (test : ℕ → Bool) (number : ℕ) (place : ℕ → ℕ) (rest : Figures) (k c : ℕ) → ((j : ℕ) → k ≤ j → j < k + c → test j ≡ false)
-    → refuseFirst test number place rest k c ≡ rest
-unfolding refuseFirst
-finds-none test number place rest k zero e = refl
-finds-none test number place rest k (suc c) e =
-    ap (λ (t : Bool). refuse t number (place k) (refuseFirst test number place rest (suc k) c)) (e k (le-refl k) (omega arith))
-    ∙ finds-none test number place rest (suc k) c (λ j lo hi. e j (omega arith) (omega arith))
-
--- where each judgement accepts with place 0, the row does
-pub all-accept : (f : ℕ → Figures) (k c : ℕ) → ((j : ℕ) → k ≤ j → j < k + c → f j ≡ answer 0 0) → firstRefusal f k c ≡ answer 0 0
-unfolding firstRefusal
-all-accept f k zero e = refl
-all-accept f k (suc c) e =
-    ap (λ (g : Figures). andThen g (firstRefusal f (suc k) c)) (e k (le-refl k) (omega arith))
-    ∙ all-accept f (suc k) c (λ j lo hi. e j (omega arith) (omega arith))
-
--- ---- limits
-
-pub not-outside : (low high x : ℕ) → low ≤ x → x ≤ high → outside low high x ≡ false
-unfolding outside
-not-outside low high x l h = rw (le-ltb x low l, le-ltb high x h)
-
-pub sizes-pass : (most n m T : ℕ) → Sized most n m T → sizesChecked most n m T ≡ answer 0 0
-unfolding sizesChecked
-sizes-pass most n m T Z =
-    rw (not-outside 1 most n (Z .inputs-from) (Z .inputs-to), not-outside 1 16 m (Z .outputs-from) (Z .outputs-to), not-outside 1 16 T (Z .frames-from) (Z .frames-to), le-ltb 16 (n * T) (Z .bits-to))
 
 -- ---- tables
 
@@ -79,18 +49,13 @@ limit-last : (s t : Bool) → t ≡ true → _≡_ {A = ℕ} (pick (s || t) 1 32
 limit-last true t e = refl
 limit-last false t e = rw e
 
--- word i of a part of b
-pub part-word : (b : List ℕ) (start c i : ℕ) → i < c → wordAt (take (2 * c) (drop start b)) (2 * i) ≡ wordAt b (start + 2 * i)
-unfolding wordAt
-part-word b start c i h = number-take 2 (2 * c) (drop start b) (2 * i) (omega arith) ∙ number-drop 2 start b (2 * i)
-
 -- a part passes where each of its words is below the limit
 part-passes : (b : List ℕ) (limit at start c : ℕ) → ((i : ℕ) → i < c → wordAt b (start + 2 * i) < limit) → partChecked limit at (take (2 * c) (drop start b)) ≡ answer 0 0
 unfolding partChecked
 part-passes b limit at start c B =
     finds-none _ 5 _ (answer 0 0) 0 _ (λ i lo hi.
     let h : i < c = omega (arith, length-take (2 * c) (drop start b)) in
-    lt-leb limit _ (rw (part-word b start c i h) (B i h)))
+    lt-leb limit _ (rw (part-word b start (2 * c) (2 * i) (omega arith)) (B i h)))
 
 -- and only there
 part-passed : (b : List ℕ) (limit at start c p : ℕ) → start + 2 * c ≤ length b → partChecked limit at (take (2 * c) (drop start b)) ≡ answer 0 p
@@ -98,7 +63,7 @@ part-passed : (b : List ℕ) (limit at start c p : ℕ) → start + 2 * c ≤ le
 unfolding partChecked
 part-passed b limit at start c p r e i h =
     let f = none-found (λ i. leb limit (wordAt (take (2 * c) (drop start b)) (2 * i))) 5 (λ i. at + 2 * i) (answer 0 0) p 0 _ refl e in
-    rw (← part-word b start c i h) (leb-false limit _ (f .0 i zero-le (omega (arith, length-take (2 * c) (drop start b), length-drop start b))))
+    rw (← part-word b start (2 * c) (2 * i) (omega arith)) (leb-false limit _ (f .0 i zero-le (omega (arith, length-take (2 * c) (drop start b), length-drop start b))))
 
 -- of the machine that the bytes b are
 module _ (b : List ℕ) where

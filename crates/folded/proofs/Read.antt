@@ -2,7 +2,6 @@
 use mathlib.Core.Path.{_≡_, refl, sym, ap, ap₂, _∙_}
 use mathlib.Core.List.{List, [], _∷_, _++_, append-nil, append-assoc}
 use Prim.Native.Nat.{ℕ, zero, suc, _+_, _*_, _^_, _≤_, _<_}
-use native.Mathlib.Nat.{add-zero, add-suc}
 use native.Mathlib.Omega.{arith}
 use lib.ListN.{length, getD, take}
 use lib.Seq.{take-suc, take-all}
@@ -11,7 +10,7 @@ use Rattle.words.proofs.Laws.{word-is, allBytes-append}
 use Rattle.sizes.specs.Sizes.{inputs, outputs, frames}
 use Rattle.layered.specs.Search.{join, tabulate, total}
 use Rattle.layered.specs.Machines.{Machine, entries, tableWords}
-use Rattle.layered.proofs.Lists.{total-each, join-cong, tabulate-cong}
+use Rattle.layered.proofs.Lists.{total-each, join-cong, tabulate-cong, tabulate-add, join-tabulate}
 use Rattle.layered.proofs.Entries.{entries-cong, entries-counts}
 use Rattle.table.specs.Table.{countAt, states, headLength, entryCount, outputsAt, nextsAt, tableLength, entryAt, machine}
 use Rattle.folded.proofs.Agreement.{Agree}
@@ -20,20 +19,6 @@ use Rattle.folded.proofs.Checked.{below-is}
 use Rattle.folded.proofs.Written.{Below, tableBytes}
 
 -- ---- rows of numbers in parts
-
-pub tabulate-add : (a b : ℕ) (f : ℕ → ℕ) → tabulate (a + b) f ≡ tabulate a f ++ tabulate b (λ i. f (a + i))
-unfolding tabulate join
-tabulate-add a zero f = ap (λ n. tabulate n f) (add-zero a) ∙ sym (append-nil (tabulate a f))
-tabulate-add a (suc b) f =
-    ap (λ n. tabulate n f) (add-suc a b)
-    ∙ ap (λ l. l ++ (f (a + b) ∷ [])) (tabulate-add a b f)
-    ∙ append-assoc (tabulate a f) (tabulate b (λ i. f (a + i))) (f (a + b) ∷ [])
-
--- parts of S 0, S 1, .. numbers
-pub join-tabulate : (n : ℕ) (S f : ℕ → ℕ) → join n (λ i. tabulate (S i) (λ j. f (total i S + j))) ≡ tabulate (total n S) f
-unfolding tabulate join total
-join-tabulate zero S f = refl
-join-tabulate (suc n) S f = ap (λ l. l ++ tabulate (S n) (λ j. f (total n S + j))) (join-tabulate n S f) ∙ sym (tabulate-add (total n S) (S n) f)
 
 -- n states of K entries
 states-tabulate : (K n : ℕ) (f : ℕ → ℕ) → join n (λ s. tabulate K (λ w. f (s * K + w))) ≡ tabulate (n * K) f

@@ -5,9 +5,9 @@ use mathlib.Core.List.{List, _++_}
 use Prim.Native.Nat.{ℕ, zero, suc, _+_, _*_, _^_, _≤_, _<_}
 use native.Mathlib.Nat.{add-mul, mul-le-mul-left, mul-le-mul-right, one-le-pow, pow-suc, eq-or-lt-of-le}
 use native.Mathlib.Omega.{arith}
-use lib.Pow.{pow-pos, pow-mono}
+use lib.Pow.{pow-pos}
 use lib.ListN.{length, drop}
-use Rattle.words.specs.Words.{wordBytes, allBytes, Fit, stored}
+use Rattle.words.specs.Words.{wordBytes, allBytes, stored}
 use Rattle.words.proofs.Laws.{allBytes-length, stored-front}
 use Rattle.sizes.specs.Sizes.{inputs, outputs, frames}
 use Rattle.sizes.specs.Sized.{Sized}
@@ -16,11 +16,11 @@ use Rattle.layered.specs.Machines.{Machine, tableWords, folded}
 use Rattle.layered.specs.Search.{total}
 use Rattle.layered.proofs.States.{number-below, count-at-most, count-first, count-last}
 use Rattle.layered.proofs.Machines.{legal}
-use Rattle.layered.proofs.Rows.{pow-mul, rows}
+use Rattle.layered.proofs.Rows.{rows}
 use Rattle.circuit.specs.Theorems.{response, Causal}
 use Rattle.folded.specs.Folded.{foldedBytes}
 use Rattle.folded.proofs.Checked.{Writable}
-use Rattle.folded.proofs.Written.{Below, tableBytes, fits, bytes-length, bytes-below}
+use Rattle.folded.proofs.Written.{Below, tableBytes, bytes-length, bytes-below}
 
 -- ---- of a response
 
@@ -50,9 +50,6 @@ foldedWords b = tableWords (inputs b) (outputs b) (2 ^ inputs b) (frames b) (fol
 pub table-writable : (b : List ℕ) → Causal b → Sized 8 (inputs b) (outputs b) (frames b) → Writable (inputs b) (outputs b) (frames b) (foldedMachine b)
 table-writable b C Z = folded-writable (inputs b) (outputs b) (frames b) (response b) Z (C .below)
 
-pub table-fits : (b : List ℕ) → Causal b → Sized 8 (inputs b) (outputs b) (frames b) → Fit 2 (foldedWords b)
-table-fits b C Z = fits (table-writable b C Z)
-
 -- its bytes are bytes
 pub folded-below : (b : List ℕ) → Below 256 (foldedBytes b)
 unfolding foldedBytes wordBytes
@@ -76,15 +73,6 @@ entries-most K T y h (suc t) =
       mul-le-mul-left (K ^ t) h,
       pow-suc K t,
     )
-
--- so a table has at most 2 · 65,536 entries
-pub length-most : (b : List ℕ) → Sized 8 (inputs b) (outputs b) (frames b) → length (foldedBytes b) ≤ 524328
-length-most b Z =
-    let n : ℕ = inputs b in
-    let T : ℕ = frames b in
-    let k : 2 ≤ 2 ^ n = pow-mono (Z .inputs-from) in
-    let p : (2 ^ n) ^ T ≤ 65536 = rw (← pow-mul 2 n T) (pow-mono {j = 16} (Z .bits-to)) in
-    omega (arith, folded-length b, entries-most (2 ^ n) T (response b) k T, Z .frames-to)
 
 -- written word by word to the front of a result
 pub folded-written : (b result : List ℕ) → stored 2 result 0 (foldedWords b) ≡ foldedBytes b ++ drop (length (foldedBytes b)) result

@@ -1,6 +1,6 @@
 -- The bytes of a machine's table, read back: sizes, counts, entries and length are what was written.
 use mathlib.Core.Path.{_≡_, refl, sym, ap, ap₂, _∙_, subst₃}
-use mathlib.Core.List.{List, [], _∷_, _++_, append-nil}
+use mathlib.Core.List.{List, [], _∷_, _++_}
 use Prim.Native.Nat.{ℕ, zero, suc, _+_, _*_, _/_, _^_, _≤_, _<_, zero-le}
 use native.Mathlib.Nat.{le-refl, le-suc, le-trans, mod-lt}
 use native.Mathlib.Omega.{arith}
@@ -8,8 +8,8 @@ use lib.Dec.{lit<}
 use lib.Pow.{pow-mono}
 use lib.ListN.{length, getD, length-append, List·getD-append}
 use lib.Seq.{getD-append-add}
-use Rattle.words.specs.Words.{wordAt, wordBytes, numberAt, bytesOf, allBytes, Fit, more}
-use Rattle.words.proofs.Laws.{allBytes-length, read-back, fit-append, fit-at}
+use Rattle.words.specs.Words.{wordAt, wordBytes, bytesOf, allBytes, Fit, more}
+use Rattle.words.proofs.Laws.{allBytes-length, fit-append, fit-at, word-back}
 use Rattle.verdict.specs.Figures.{answer}
 use Rattle.sizes.specs.Sizes.{inputs, outputs, frames}
 use Rattle.layered.specs.Search.{join, tabulate, total}
@@ -141,11 +141,6 @@ pub bytes-below : (k : ℕ) (xs : List ℕ) → Below 256 (allBytes k xs)
 unfolding allBytes
 bytes-below k [] = λ i h. absurd (omega arith)
 bytes-below k (x ∷ xs) = below-append (bytesOf k x) (allBytes k xs) (byte-below k x) (bytes-below k xs)
-
--- word i of the bytes of words that fit
-pub word-back : (ws : List ℕ) (i : ℕ) → Fit 2 ws → i < length ws → wordAt (wordBytes ws) (2 * i) ≡ getD ws i 0
-unfolding wordAt wordBytes
-word-back ws i F h = ap (λ b. numberAt 2 b (2 * i)) (sym (append-nil (allBytes 2 ws))) ∙ read-back 2 ws [] i F h
 
 module _ {n m T : ℕ} {M : Machine} (W : Writable n m T M) where
   -- word i of the bytes, at byte offset p

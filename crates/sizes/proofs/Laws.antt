@@ -8,7 +8,7 @@ use native.Mathlib.Omega.{arith}
 use lib.ListN.{length, getD}
 use lib.Pow.{shl-exact}
 use lib.Dec.{ltb, leb, eqb, lit<}
-use borrow.Author.Tests.{ltb-false, leb-false, eqb-true}
+use borrow.Author.Tests.{ltb-false, le-ltb, leb-false, eqb-true}
 use Rattle.verdict.specs.Figures.{answer}
 use Rattle.verdict.specs.declared.Figures.{Figures}
 use Rattle.verdict.proofs.Laws.{both-accept, passed, none-found}
@@ -72,3 +72,14 @@ fed n T words room p e =
       ltb-false room T (e₃ .0),
       sym (ap (λ (f : Figures). f .place) (e₃ .1)),
     )
+
+-- ---- what is within the limits passes
+
+pub not-outside : (low high x : ℕ) → low ≤ x → x ≤ high → outside low high x ≡ false
+unfolding outside
+not-outside low high x l h = rw (le-ltb x low l, le-ltb high x h)
+
+pub sizes-pass : (most n m T : ℕ) → Sized most n m T → sizesChecked most n m T ≡ answer 0 0
+unfolding sizesChecked
+sizes-pass most n m T Z =
+    rw (not-outside 1 most n (Z .inputs-from) (Z .inputs-to), not-outside 1 16 m (Z .outputs-from) (Z .outputs-to), not-outside 1 16 T (Z .frames-from) (Z .frames-to), le-ltb 16 (n * T) (Z .bits-to))

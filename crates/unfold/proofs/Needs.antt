@@ -3,7 +3,6 @@ use mathlib.Core.Path.{_≡_, ap, _∙_}
 use mathlib.Core.Bool.{Bool, true, false, cond}
 use mathlib.Core.List.{List}
 use Prim.Native.Nat.{ℕ, _+_, _*_, _/_, _^_, _≤_, _<_}
-use native.Mathlib.Numerals.{add-one}
 use native.Mathlib.Omega.{arith}
 use lib.ListN.{length}
 use Rattle.words.specs.Words.{wordAt}
@@ -14,16 +13,6 @@ use Rattle.layered.proofs.Lists.{total-cong}
 use Rattle.table.specs.Table.{states, entryCount, outputsAt, layerPart}
 use Rattle.unfolded.specs.Counted.{ones}
 use Rattle.table.proofs.Parts.{part-length, part-entry}
-
--- one bit more
-pub tally-next : (p : ℕ → Bool) (j : ℕ) (v : Bool) → p j ≡ v → tally (j + 1) p ≡ cond v 1 0 + tally j p
-unfolding tally
-tally-next p j v e = rw (add-one j, e)
-
--- one word more
-pub total-next : (f : ℕ → ℕ) (e : ℕ) → total (e + 1) f ≡ total e f + f e
-unfolding total
-total-next f e = rw (add-one e)
 
 -- all or none
 pub cond-most : (t : Bool) {x k : ℕ} → x ≤ k → cond t x 0 ≤ k

@@ -1,60 +1,24 @@
 -- The gates needed, counted without drawing them, are those that are drawn.
 use mathlib.Core.Path.{_≡_, refl, ap, ap₂, _∙_}
 use mathlib.Core.Bool.{Bool, true, false, cond}
-use mathlib.Core.Logic.{⊎-elim}
 use mathlib.Core.List.{List, [], _∷_, _++_}
 use Prim.Native.Nat.{ℕ, zero, suc, _+_, _*_, _/_, _%_, _^_, _≤_, _<_}
-use native.Mathlib.Nat.{le-of-suc-le-suc, eq-or-lt-of-le, le-refl, mul-zero, mod-lt, div-lt-iff-lt-mul}
+use native.Mathlib.Nat.{le-refl, mul-zero, mod-lt, div-lt-iff-lt-mul}
 use native.Mathlib.Omega.{arith}
 use lib.Dec.{ltb, eqb}
 use lib.Pow.{pow-pos}
 use lib.ListN.{length, length-append}
-use borrow.Author.Tests.{eq-eqb, ne-eqb}
 use Rattle.sizes.specs.Sizes.{inputs, outputs, frames}
 use Rattle.circuit.specs.Lists.{bit}
 use Rattle.layered.specs.Search.{tally, total}
 use Rattle.layered.specs.Machines.{Legal}
-use Rattle.layered.proofs.Lists.{total-cong, total-each}
+use Rattle.layered.proofs.Lists.{total-cong, total-each, total-swap, tally-absent, tally-once}
 use Rattle.table.specs.Table.{states, machine}
 use Rattle.unfolded.specs.Unfolded.{chains, Frame, inputLiteral, matching, matchGates, edgesAt, edgeGate, edgeGates, invertedEdges, entering, nextGates, nextGatesAt, withBit, outGates, outGatesAt, frameGates, Drawing, frameOf, withFrame, drawing, gatesNeeded}
 use Rattle.unfolded.specs.Counted.{ones, frameNeeds}
 use Rattle.unfolded.proofs.Lists.{listed-length}
 use Rattle.unfolded.proofs.Gates.{chains-more}
 use Rattle.unfolded.proofs.Drawings.{drawn-length}
-
--- ---- sums
-
-total-add : (n : ℕ) (f g : ℕ → ℕ) → total n (λ i. f i + g i) ≡ total n f + total n g
-unfolding total
-total-add zero f g = omega arith
-total-add (suc n) f g = omega (arith, total-add n f g)
-
-total-tally : (n : ℕ) (p : ℕ → Bool) → total n (λ i. cond (p i) 1 0) ≡ tally n p
-unfolding total tally
-total-tally zero p = refl
-total-tally (suc n) p = omega (arith, total-tally n p)
-
--- pairs are counted by either of the two
-total-swap : (R E : ℕ) (p : ℕ → ℕ → Bool) → total R (λ s. tally E (λ e. p e s)) ≡ total E (λ e. tally R (p e))
-unfolding total tally
-total-swap R zero p = total-each R 0 ∙ mul-zero R
-total-swap R (suc E) p =
-    total-add R (λ s. cond (p E s) 1 0) (λ s. tally E (λ e. p e s)) ∙ omega (arith, total-tally R (p E), total-swap R E p)
-
--- one number below R is x
-tally-none : (R x : ℕ) → R ≤ x → tally R (eqb x) ≡ 0
-unfolding tally
-tally-none zero x h = refl
-tally-none (suc R) x h = ap₂ (λ t k. cond t 1 0 + k) (ne-eqb x R (λ e. absurd (omega arith))) (tally-none R x (omega arith))
-
-tally-one : (R x : ℕ) → x < R → tally R (eqb x) ≡ 1
-unfolding tally
-tally-one zero x h = absurd (omega arith)
-tally-one (suc R) x h =
-    ⊎-elim
-    (λ (e : x ≡ R). ap₂ (λ t k. cond t 1 0 + k) (eq-eqb x R e) (tally-none R x (omega arith)))
-    (λ (l : x < R). ap₂ (λ t k. cond t 1 0 + k) (ne-eqb x R (λ e. absurd (omega arith))) (tally-one R x l))
-    (eq-or-lt-of-le (le-of-suc-le-suc h))
 
 -- ---- chains
 
@@ -121,10 +85,10 @@ module _ (b : List ℕ) where
         to e = machine b .next t (e / 2 ^ inputs b) (e % 2 ^ inputs b)
 
         one : (e : ℕ) → e < E → tally (states b (suc t)) (eqb (to e)) ≡ 1
-        one e l = tally-one (states b (suc t)) (to e) (L .next-is t (e / 2 ^ inputs b) (e % 2 ^ inputs b) h (div-lt-iff-lt-mul (pow-pos (inputs b)) .1 l) (mod-lt e (pow-pos (inputs b))))
+        one e l = tally-once (states b (suc t)) (to e) (L .next-is t (e / 2 ^ inputs b) (e % 2 ^ inputs b) h (div-lt-iff-lt-mul (pow-pos (inputs b)) .1 l) (mod-lt e (pow-pos (inputs b))))
 
         no-states : (x : ℕ) → tally 0 (eqb x) ≡ 0
-        no-states x = tally-none 0 x (omega arith)
+        no-states x = tally-absent 0 x (omega arith)
 
         go : (a : Bool) → total E (λ e. tally (cond a (states b (suc t)) 0) (eqb (to e))) ≡ cond a E 0
         go true = total-cong E _ (λ e. 1) one ∙ total-each E 1 ∙ omega arith

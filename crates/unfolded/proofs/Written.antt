@@ -8,14 +8,14 @@ use lib.ListN.{length, getD, take, length-append, length-map, List·getD-append,
 use lib.Seq.{getD-append-add, take-suc, take-length}
 use borrow.Author.Tests.{lt-ltb, le-ltb, eq-eqb}
 use Rattle.words.specs.Words.{wordAt, wordBytes, Fit, none, more}
-use Rattle.words.proofs.Laws.{allBytes-length, fit-append}
+use Rattle.words.proofs.Laws.{allBytes-length, fit-append, word-back}
 use Rattle.verdict.specs.Figures.{answer}
 use Rattle.sizes.specs.Sizes.{inputs, outputs, frames}
 use Rattle.sizes.specs.Sized.{Sized}
 use Rattle.circuit.specs.Lists.{grown}
 use Rattle.circuit.specs.Circuit.{gates, leftsAt, rightsAt, circuitLength, literalAt, allInputs, allOutputs, gateSignal, outputSignal, admissible, headChecked, literalsChecked, lookAheadChecked, inputFrames, laterFrame, latestFrames, looksAhead, inputValues, literalValue, gateValue, signalValues, checked}
-use Rattle.folded.proofs.Checked.{finds-none, not-outside, sizes-pass}
-use Rattle.folded.proofs.Written.{word-back}
+use Rattle.verdict.proofs.Laws.{finds-none}
+use Rattle.sizes.proofs.Laws.{not-outside, sizes-pass}
 use Rattle.unfolded.specs.Unfolded.{drawing, drawn, circuitWords}
 use Rattle.unfolded.proofs.Gates.{Admitted, no-gate, gate, run, run-append}
 use Rattle.unfolded.proofs.Drawings.{base, behind, drawn-length}

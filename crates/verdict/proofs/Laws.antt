@@ -3,6 +3,7 @@ use mathlib.Core.Path.{_≡_, refl, sym, ap, _∙_}
 use mathlib.Core.Bool.{Bool, true, false}
 use mathlib.Core.List.{List, _++_}
 use Prim.Native.Nat.{ℕ, zero, suc, _+_, _-_, _≤_, _<_}
+use native.Mathlib.Nat.{le-refl}
 use native.Mathlib.Numerals.{add-one}
 use native.Mathlib.Omega.{arith}
 use native.Mathlib.Decide.{decLt}
@@ -132,3 +133,22 @@ kept f r defined before e = rw (← e, refusal-number r)
 -- an acceptance leaves what is defined, and the rest as it was
 pub left : (f : Figures) (p : ℕ) (defined before after : List ℕ) → answer 0 p ≡ f → after ≡ defined ++ drop p before → after ≡ resultAfter f defined before
 left f p defined before after e h = rw (← e) h
+
+-- ---- judgements that find nothing
+
+-- where the test fails at each index, the rest is the verdict
+pub finds-none : (test : ℕ → Bool) (number : ℕ) (place : ℕ → ℕ) (rest : Figures) (k c : ℕ) → ((j : ℕ) → k ≤ j → j < k + c → test j ≡ false)
+    → refuseFirst test number place rest k c ≡ rest
+unfolding refuseFirst
+finds-none test number place rest k zero e = refl
+finds-none test number place rest k (suc c) e =
+    ap (λ (t : Bool). refuse t number (place k) (refuseFirst test number place rest (suc k) c)) (e k (le-refl k) (omega arith))
+    ∙ finds-none test number place rest (suc k) c (λ j lo hi. e j (omega arith) (omega arith))
+
+-- where each judgement accepts with place 0, the row does
+pub all-accept : (f : ℕ → Figures) (k c : ℕ) → ((j : ℕ) → k ≤ j → j < k + c → f j ≡ answer 0 0) → firstRefusal f k c ≡ answer 0 0
+unfolding firstRefusal
+all-accept f k zero e = refl
+all-accept f k (suc c) e =
+    ap (λ (g : Figures). andThen g (firstRefusal f (suc k) c)) (e k (le-refl k) (omega arith))
+    ∙ all-accept f (suc k) c (λ j lo hi. e j (omega arith) (omega arith))

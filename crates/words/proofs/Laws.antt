@@ -9,7 +9,7 @@ use lib.Arith.{lt-one}
 use lib.Dec.{lit<}
 use lib.ListN.{length, getD, take, drop, set, length-append, length-take, length-drop, take-append-drop}
 use lib.Seq.{set-comm, sets, sets-eq, getD-drop, getD-take, getD-append-add, drop-drop, drop-append-add, take-at, take-suc, drop-at}
-use Rattle.words.specs.Words.{numberAt, bytesOf, allBytes, Fit, none, more, stored, wordAt}
+use Rattle.words.specs.Words.{numberAt, bytesOf, allBytes, Fit, none, more, stored, wordAt, wordBytes}
 
 -- ---- one number
 
@@ -87,6 +87,11 @@ read-back k (x ∷ xs) r (suc i) (more l F) h =
     let p : k * suc i ≡ length (bytesOf k x) + k * i = omega (arith, mul-suc k i, bytesOf-length k x) in
     rw (p, append-assoc)
     (number-after k (bytesOf k x) (allBytes k xs ++ r) (k * i) ∙ read-back k xs r i F (omega arith))
+
+-- so is word i of words that fit
+pub word-back : (ws : List ℕ) (i : ℕ) → Fit 2 ws → i < length ws → wordAt (wordBytes ws) (2 * i) ≡ getD ws i 0
+unfolding wordAt wordBytes
+word-back ws i F h = ap (λ b. numberAt 2 b (2 * i)) (sym (append-nil (allBytes 2 ws))) ∙ read-back 2 ws [] i F h
 
 -- the same bytes are the same numbers, where all fit
 pub bytes-injective : (k : ℕ) (xs ys : List ℕ) → 0 < k → Fit k xs → Fit k ys → allBytes k xs ≡ allBytes k ys → xs ≡ ys

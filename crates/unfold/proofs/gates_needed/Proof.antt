@@ -12,7 +12,7 @@ use Rattle.layered.specs.Search.{total}
 use Rattle.table.proofs.Offsets.{laid}
 use Rattle.unfolded.specs.Counted.{frameNeeds}
 use Rattle.unfolded.proofs.Counts.{gates-needed}
-use Rattle.unfold.proofs.Needs.{total-next}
+use Rattle.layered.proofs.Lists.{total-next}
 use Rattle.unfold.proofs.gates_needed.Statement.{statement}
 use Rattle.unfold.proofs.gates_needed.Tie as tie
 

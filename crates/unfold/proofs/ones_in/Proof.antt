@@ -8,7 +8,7 @@ use lib.ListN.{length}
 use Rattle.words.specs.Words.{wordAt}
 use Rattle.circuit.specs.Lists.{bit}
 use Rattle.layered.specs.Search.{tally, total}
-use Rattle.unfold.proofs.Needs.{total-next}
+use Rattle.layered.proofs.Lists.{total-next}
 use Rattle.unfold.proofs.ones_in.Statement.{statement}
 use Rattle.unfold.proofs.ones_in.Tie as tie
 

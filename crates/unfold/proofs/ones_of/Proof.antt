@@ -7,7 +7,7 @@ use native.Mathlib.Omega.{arith}
 use Rattle.circuit.specs.Lists.{bit}
 use Rattle.layered.specs.Search.{tally}
 use Rattle.layered.proofs.Search.{tally-at-most}
-use Rattle.unfold.proofs.Needs.{tally-next}
+use Rattle.layered.proofs.Lists.{tally-next}
 use Rattle.unfold.proofs.ones_of.Statement.{statement}
 use Rattle.unfold.proofs.ones_of.Tie as tie
 
