@@ -16,6 +16,7 @@ fn main() {
     circuit_level();
     table_level();
     fold_level();
+    unfold_level();
 }
 
 /// Simulating a circuit with the most gates.
@@ -63,6 +64,26 @@ fn fold_level() {
             fold_line("many", &circuits::many_states(sizes, gates));
         }
     }
+}
+
+/// Unfolding to the most gates.
+fn unfold_level() {
+    let sizes = Sizes::new(2, 16, 8);
+    let mut counts = vec![12; sizes.frames + 1];
+    (counts[0], counts[sizes.frames]) = (1, 1);
+    let table = tables::with_gates(&mut Rng::new(1), sizes, counts, Circuit::MOST_GATES);
+    let table = table.to_bytes();
+    let often = Runs {
+        runs: 21,
+        calls: 50,
+    };
+    let mut result = vec![0; 8 + 4 * Circuit::MOST_GATES];
+    often.measure(
+        "unfold to 4096 gates",
+        &mut result,
+        |result| tff::unfold(black_box(&table), result),
+        |result| reference::unfold(black_box(&table), result),
+    );
 }
 
 fn fold_line(states: &str, circuit: &Circuit) {

@@ -122,6 +122,19 @@ fn tables_of_all_shapes_are_unfolded() {
 }
 
 #[test]
+fn outputs_never_set_and_always_set_are_unfolded() {
+    for seed in seeds(300) {
+        let mut table = tables::any_legal(&mut Rng::new(seed), 6, 4);
+        let every_output = ((1u32 << table.head.sizes.outputs) - 1) as u16;
+        for word in [0, every_output] {
+            table.output_words.fill(word);
+            let answer = unfold(seed, &table.to_bytes(), LONGEST);
+            assert_eq!(answer, expected(&table));
+        }
+    }
+}
+
+#[test]
 fn gate_counts_are_judged_at_their_limit() {
     for seed in seeds(40) {
         for (inputs, outputs, frames, states) in [

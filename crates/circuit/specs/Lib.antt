@@ -1,3 +1,4 @@
+-- What a reader of `circuit` must believe, in the order of reading.
 pub mod Lists
 pub mod Circuit
 pub mod Legal

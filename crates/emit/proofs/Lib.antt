@@ -1,2 +1,3 @@
+-- The proofs of `emit`: laws by subject, lowest first.
 pub mod Laws
 pub mod Listing

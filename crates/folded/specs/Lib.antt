@@ -1,2 +1,3 @@
+-- What a reader of `folded` must believe, in the order of reading.
 pub mod Folded
 pub mod Theorems

@@ -1,2 +1,3 @@
+-- What a reader of `sizes` must believe, in the order of reading.
 pub mod Sizes
 pub mod Sized

@@ -1,1 +1,2 @@
+-- The proofs of `tff`: laws by subject, lowest first.
 mod Laws

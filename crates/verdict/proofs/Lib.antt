@@ -1,1 +1,2 @@
+-- The proofs of `verdict`: laws by subject, lowest first.
 pub mod Laws

@@ -1,1 +1,2 @@
+-- The proofs of `words`: laws by subject, lowest first.
 pub mod Laws
