@@ -10,7 +10,7 @@ use lib.Pow.{pow-pos, pow-mono}
 use lib.ListN.{length, getD}
 use Rattle.circuit.specs.Lists.{bit}
 use Rattle.unfolded.specs.Unfolded.{inputLiteral, matching}
-use Rattle.unfolded.proofs.Lists.{listed-length}
+use Rattle.circuit.proofs.Lists.{listed-length}
 use Rattle.chains.specs.Chains.{matchOf, edgeOf}
 
 -- frames have few inputs and few words

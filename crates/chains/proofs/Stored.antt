@@ -13,8 +13,8 @@ use borrow.Author.Tests.{eq-eqb, ne-eqb}
 use Rattle.words.specs.Words.{stored}
 use Rattle.words.proofs.Laws.{stored-none, stored-length, stored-more, stored-comm}
 use Rattle.circuit.specs.Lists.{listed}
-use Rattle.unfolded.specs.Unfolded.{chain, lastOf, chains, ending}
-use Rattle.unfolded.proofs.Lists.{listed-length, listed-more}
+use Rattle.unfolded.specs.Unfolded.{chain, lastOf, chainsFrom, ending}
+use Rattle.circuit.proofs.Lists.{listed-length, listed-more}
 use Rattle.unfolded.proofs.Gates.{chain-length, chains-more}
 use Rattle.chains.specs.Chains.{Fits, gatesStored, endOf}
 use Rattle.chains.specs.declared.Target.{Target}
@@ -106,34 +106,34 @@ chain-more G base k v w rs rs′ j l r ew ej el er h room =
     ∙ ap (gatesStored G k v) (sym (chain-snoc (base + k) 1 rs r) ∙ ap (chain (base + k) 1) er)
 
 -- one chain more, of those that each begin with literal 1
-pub chains-next : (G base k : ℕ) (v w : List ℕ) (f : ℕ → List ℕ) (i j : ℕ) → w ≡ gatesStored G k v (chains (base + k) f i) → j ≡ k + length (chains (base + k) f i)
-    → j + length (f i) ≤ G → 8 + 4 * G ≤ length v → gatesStored G j w (chain (base + j) 1 (f i)) ≡ gatesStored G k v (chains (base + k) f (i + 1))
-unfolding chains
+pub chains-next : (G base k : ℕ) (v w : List ℕ) (f : ℕ → List ℕ) (i j : ℕ) → w ≡ gatesStored G k v (chainsFrom (base + k) f i) → j ≡ k + length (chainsFrom (base + k) f i)
+    → j + length (f i) ≤ G → 8 + 4 * G ≤ length v → gatesStored G j w (chain (base + j) 1 (f i)) ≡ gatesStored G k v (chainsFrom (base + k) f (i + 1))
+unfolding chainsFrom
 chains-next G base k v w f i j ew ej h room =
-    let e : base + j ≡ base + k + length (chains (base + k) f i) = omega arith in
+    let e : base + j ≡ base + k + length (chainsFrom (base + k) f i) = omega arith in
     ap₂ (λ (w : List ℕ) (at : ℕ). gatesStored G j w (chain at 1 (f i))) ew e
-    ∙ gates-append G k v (chains (base + k) f i) _ j ej (omega (arith, chain-length (base + k + length (chains (base + k) f i)) 1 (f i))) room
-    ∙ ap (λ (i : ℕ). gatesStored G k v (chains (base + k) f i)) (sym (add-one i))
+    ∙ gates-append G k v (chainsFrom (base + k) f i) _ j ej (omega (arith, chain-length (base + k + length (chainsFrom (base + k) f i)) 1 (f i))) room
+    ∙ ap (λ (i : ℕ). gatesStored G k v (chainsFrom (base + k) f i)) (sym (add-one i))
 
 -- how many gates they are
-pub chains-longer : (at : ℕ) (f : ℕ → List ℕ) (i : ℕ) → length (chains at f (i + 1)) ≡ length (chains at f i) + length (f i)
-chains-longer at f i = ap (λ (i : ℕ). length (chains at f i)) (add-one i) ∙ chains-more at f i
+pub chains-longer : (at : ℕ) (f : ℕ → List ℕ) (i : ℕ) → length (chainsFrom at f (i + 1)) ≡ length (chainsFrom at f i) + length (f i)
+chains-longer at f i = ap (λ (i : ℕ). length (chainsFrom at f i)) (add-one i) ∙ chains-more at f i
 
 -- the chains so far are no more than all
-pub chains-room : (at : ℕ) (f : ℕ → List ℕ) (i c : ℕ) → i < c → length (chains at f i) + length (f i) ≤ length (chains at f c)
+pub chains-room : (at : ℕ) (f : ℕ → List ℕ) (i c : ℕ) → i < c → length (chainsFrom at f i) + length (f i) ≤ length (chainsFrom at f c)
 chains-room at f i c h =
-    le-ind (λ c. length (chains at f i) + length (f i) ≤ length (chains at f c)) (omega (arith, chains-more at f i))
+    le-ind (λ c. length (chainsFrom at f i) + length (f i) ≤ length (chainsFrom at f c)) (omega (arith, chains-more at f i))
     (λ c _ p. omega (arith, chains-more at f c)) c h
 
-pub chains-most : (at : ℕ) (f : ℕ → List ℕ) (i c : ℕ) → i ≤ c → length (chains at f i) ≤ length (chains at f c)
-chains-most at f i c h = le-ind (λ c. length (chains at f i) ≤ length (chains at f c)) (le-refl _) (λ c _ p. omega (arith, chains-more at f c)) c h
+pub chains-most : (at : ℕ) (f : ℕ → List ℕ) (i c : ℕ) → i ≤ c → length (chainsFrom at f i) ≤ length (chainsFrom at f c)
+chains-most at f i c h = le-ind (λ c. length (chainsFrom at f i) ≤ length (chainsFrom at f c)) (le-refl _) (λ c _ p. omega (arith, chains-more at f c)) c h
 
 -- what chain i ends with, which has the gates from `first` up to k
-pub ending-is : (base k : ℕ) (f : ℕ → List ℕ) (i first j : ℕ) → first ≡ k + length (chains (base + k) f i) → j ≡ first + length (f i)
+pub ending-is : (base k : ℕ) (f : ℕ → List ℕ) (i first j : ℕ) → first ≡ k + length (chainsFrom (base + k) f i) → j ≡ first + length (f i)
     → endOf base first j ≡ ending (base + k) f i
 unfolding ending
 ending-is base k f i first j ef ej =
-    let e : base + first ≡ base + k + length (chains (base + k) f i) = omega arith in
+    let e : base + first ≡ base + k + length (chainsFrom (base + k) f i) = omega arith in
     end-is base first j (f i) ej ∙ ap (λ (at : ℕ). lastOf at 1 (f i)) e
 
 -- ---- gates of a list

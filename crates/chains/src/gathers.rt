@@ -10,7 +10,7 @@ ghost use mathlib.Core.List.{[]};
 ghost use Prim.Native.Nat.{_+_, _/_, _%_, _≤_, _<_};
 ghost use lib.ListN.{length};
 ghost use lib.Seq.{sets};
-ghost use Rattle.unfolded.specs.Unfolded.{inverted, chain, chains, ending};
+ghost use Rattle.unfolded.specs.Unfolded.{inverted, chain, chainsFrom, ending};
 ghost use Rattle.circuit.specs.Lists.{listed};
 ghost use Rattle.chains.specs.Chains.{Fits, gatesStored, chosen, gathering};
 
@@ -81,10 +81,10 @@ pub fn put_gathers(
     requires { ⌜ Fits target (now result) ⌝ }
     requires { ⌜ (nexts ≡ false → count ≤ 16) ⌝ }
     requires { ⌜ (edges + length (now entries) / 2 ≤ target .gates) × (at + count ≤ length (now literals)) ⌝ }
-    requires { ⌜ k + length (chains (target .base + k) (gathering (target .base + edges) (now entries) nexts) count) ≤ target .gates ⌝ }
-    ensures gates { λ _. ⌜ now (result .exit) ≡ gatesStored (target .gates) k (now (result .entry)) (chains (target .base + k) (gathering (target .base + edges) (now (entries .entry)) nexts) count) ⌝ }
+    requires { ⌜ k + length (chainsFrom (target .base + k) (gathering (target .base + edges) (now entries) nexts) count) ≤ target .gates ⌝ }
+    ensures gates { λ _. ⌜ now (result .exit) ≡ gatesStored (target .gates) k (now (result .entry)) (chainsFrom (target .base + k) (gathering (target .base + edges) (now (entries .entry)) nexts) count) ⌝ }
     ensures ends { λ _. ⌜ now (literals .exit) ≡ sets (now (literals .entry)) at (listed [] (λ i. inverted (ending (target .base + k) (gathering (target .base + edges) (now (entries .entry)) nexts) i)) count) ⌝ }
-    ensures end { λ r. ⌜ r ≡ k + length (chains (target .base + k) (gathering (target .base + edges) (now (entries .entry)) nexts) count) ⌝ }
+    ensures end { λ r. ⌜ r ≡ k + length (chainsFrom (target .base + k) (gathering (target .base + edges) (now (entries .entry)) nexts) count) ⌝ }
 {
     let mut end = k;
     for i in 0..count {

@@ -11,7 +11,7 @@ ghost use mathlib.Core.List.{[]};
 ghost use Prim.Native.Nat.{_+_, _*_, _≤_, _<_};
 ghost use lib.ListN.{length};
 ghost use Rattle.circuit.specs.Lists.{listed};
-ghost use Rattle.unfolded.specs.Unfolded.{chain, chains, inputLiteral, matching};
+ghost use Rattle.unfolded.specs.Unfolded.{chain, chainsFrom, inputLiteral, matching};
 ghost use Rattle.chains.specs.Chains.{Fits, gatesStored, matchOf, edgeOf};
 
 // The circuit that is drawn: its inputs in a frame and how many words they have, its outputs in a frame, the signal of its first gate, and
@@ -51,7 +51,7 @@ fn put_match(target: Target, t: usize, w: usize, k: usize, result: &mut [u8])
 pub fn put_matches(target: Target, t: usize, k: usize, result: &mut [u8]) -> usize
     requires { ⌜ Fits target (now result) ⌝ }
     requires { ⌜ (t < 16) × (k + target .words * target .inputs ≤ target .gates) ⌝ }
-    ensures gates { λ _. ⌜ now (result .exit) ≡ gatesStored (target .gates) k (now (result .entry)) (chains (target .base + k) (matching (target .inputs) t) (target .words)) ⌝ }
+    ensures gates { λ _. ⌜ now (result .exit) ≡ gatesStored (target .gates) k (now (result .entry)) (chainsFrom (target .base + k) (matching (target .inputs) t) (target .words)) ⌝ }
     ensures end { λ r. ⌜ r ≡ k + target .words * target .inputs ⌝ }
 {
     let words = target.words;

@@ -7,13 +7,14 @@ use native.Mathlib.Omega.{arith}
 use lib.ListN.{length}
 use lib.Dec.{ltb, eqb}
 use borrow.Author.Tests.{eqb-true}
-use Rattle.verdict.specs.Figures.{answer}
+use Rattle.verdict.specs.Judgements.{answer}
 use Rattle.verdict.proofs.Laws.{both-accept, passed, none-found}
 use Rattle.sizes.specs.Sizes.{inputs, outputs, frames, outside, sizesChecked}
 use Rattle.sizes.specs.Sized.{Sized}
 use Rattle.sizes.proofs.Laws.{inside, sized, not-false}
 use Rattle.circuit.specs.Circuit.{gates, leftsAt, rightsAt, circuitLength, literalAt, allInputs, allOutputs, admissible, headChecked, literalsChecked, lookAheadChecked, looksAhead, checked}
-use Rattle.circuit.specs.Legal.{Headed, Legal}
+use Rattle.circuit.specs.WellFormed.{CircuitHeaded, HeadOf, LegalGates, WellFormed}
+use Rattle.circuit.specs.declared.Head.{Head}
 
 -- the limits hold for a larger limit on n
 pub widen : {a c n m T : ℕ} → a ≤ c → Sized a n m T → Sized c n m T
@@ -29,7 +30,7 @@ widen h z = record {
 
 -- what remains of the head's judgement once the sizes are accepted
 module _ (b : List ℕ) (p : ℕ) where
-  pub headed : (most : ℕ) → most ≤ 16 → headChecked most b ≡ answer 0 p → Headed b × Sized most (inputs b) (outputs b) (frames b)
+  pub headed : (most : ℕ) → most ≤ 16 → headChecked most b ≡ answer 0 p → CircuitHeaded b × Sized most (inputs b) (outputs b) (frames b)
   unfolding headChecked circuitLength allInputs
   headed most h e =
       let e₁ = passed (ltb (length b) 8) 1 (length b) _ p refl e in
@@ -49,7 +50,7 @@ all-admissible b start p e g h =
     not-false _
     (none-found (λ g. not (admissible b g (literalAt b start g))) 3 (λ g. start + 2 * g) (answer 0 0) p 0 (gates b) refl e .0 g zero-le (omega arith))
 
-pub legal : (b : List ℕ) (p q : ℕ) → literalsChecked b (leftsAt b) ≡ answer 0 p → literalsChecked b (rightsAt b) ≡ answer 0 q → Legal b
+pub legal : (b : List ℕ) (p q : ℕ) → literalsChecked b (leftsAt b) ≡ answer 0 p → literalsChecked b (rightsAt b) ≡ answer 0 q → LegalGates b
 legal b p q el er = record { left = all-admissible b (leftsAt b) p el; right = all-admissible b (rightsAt b) q er }
 
 -- no output looks ahead
@@ -59,10 +60,13 @@ none-ahead b p e q h = none-found (looksAhead b) 4 (λ q. q) (answer 0 0) p 0 (a
 
 -- all that a circuit's acceptance tells
 pub record Accepted (b : List ℕ) : Type 0 where
-  pub head : Headed b
+  pub head : CircuitHeaded b
   pub sizes : Sized 8 (inputs b) (outputs b) (frames b)
-  pub literals : Legal b
+  pub literals : LegalGates b
   pub causal : (q : ℕ) → q < allOutputs b → looksAhead b q ≡ false
+
+pub well-formed : {b : List ℕ} {h : Head} → Accepted b → HeadOf b h → WellFormed b h
+well-formed A H = record { headed = A .head; head-is = H; legal = A .literals }
 
 pub accepted : (b : List ℕ) (p : ℕ) → checked b ≡ answer 0 p → Accepted b
 unfolding checked

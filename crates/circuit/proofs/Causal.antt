@@ -15,35 +15,11 @@ use Rattle.sizes.specs.Sizes.{inputs, outputs, frames}
 use Rattle.layered.specs.States.{Words, none, more, outputs as outputsOf}
 use Rattle.circuit.specs.Lists.{grown, listed, bit, packed}
 use Rattle.circuit.specs.Circuit.{gates, leftsAt, rightsAt, literalAt, allInputs, allOutputs, gateSignal, outputSignal, frameOf, inputFrames, laterFrame, latestFrames, looksAhead, inputValues, literalValue, gateValue, signalValues, outputWord, outputWords}
-use Rattle.circuit.specs.Legal.{Legal}
+use Rattle.circuit.specs.WellFormed.{LegalGates}
 use Rattle.circuit.specs.Theorems.{historyWords, response, AcceptedCausal}
 use Rattle.circuit.proofs.Laws.{length-grown, packed-below, left-below, right-below}
+use Rattle.circuit.proofs.Lists.{grown-old, grown-new, listed-start, listed-after}
 use Rattle.circuit.proofs.Accepted.{Accepted, accepted}
-
--- ---- reading a grown list
-
-module _ {A : Type 0} (start : List A) (next : List A → ℕ → A) (d : A) where
-  grown-old : (k i : ℕ) → i < length start + k → getD (grown start next (suc k)) i d ≡ getD (grown start next k) i d
-  unfolding grown
-  grown-old k i h = List·getD-append (grown start next k) _ d i (omega (arith, length-grown start next k))
-
-  grown-new : (k : ℕ) → getD (grown start next (suc k)) (length start + k) d ≡ next (grown start next k) k
-  unfolding grown
-  grown-new k = getD-at (grown start next k) _ [] d (length start + k) (length-grown start next k)
-
-module _ {A : Type 0} (start : List A) (f : ℕ → A) (d : A) where
-  listed-start : (k i : ℕ) → i < length start → getD (listed start f k) i d ≡ getD start i d
-  unfolding grown
-  listed-start zero i h = refl
-  listed-start (suc k) i h = grown-old start (λ _ i. f i) d k i (omega arith) ∙ listed-start k i h
-
-  listed-at : (k i : ℕ) → i < k → getD (listed start f k) (length start + i) d ≡ f i
-  listed-at zero i h = absurd (omega arith)
-  listed-at (suc k) i h =
-      ⊎-elim
-      (λ (e : i ≡ k). rw e (grown-new start (λ _ i. f i) d k))
-      (λ (l : i < k). grown-old start (λ _ i. f i) d k (length start + i) (omega arith) ∙ listed-at k i l)
-      (eq-or-lt-of-le (le-of-suc-le-suc h))
 
 -- ---- values depend on words up to the latest frame
 
@@ -60,12 +36,12 @@ module _ (b c d : List ℕ) (k : ℕ) (same : (i : ℕ) → i < k → getD c i 0
       let n : ℕ = inputs b in
       let i< : i < allInputs b = omega arith in
       let p : suc i ≡ 1 + i = omega arith in
-      let fr : getD (listed (0 ∷ []) (frameOf n) (allInputs b)) (1 + i) 0 ≡ suc (i / n) = listed-at (0 ∷ []) (frameOf n) 0 (allInputs b) i i< in
+      let fr : getD (listed (0 ∷ []) (frameOf n) (allInputs b)) (1 + i) 0 ≡ suc (i / n) = listed-after (0 ∷ []) (frameOf n) 0 (allInputs b) i i< in
       let word : getD c (i / n) 0 ≡ getD d (i / n) 0 = same (i / n) (omega (arith, fr, ap (λ s. getD (listed (0 ∷ []) (frameOf n) (allInputs b)) s 0) p)) in
       ap (λ s. getD (listed (false ∷ []) (λ i. bit (getD c (i / n) 0) (i % n)) (allInputs b)) s false) p
-      ∙ listed-at (false ∷ []) _ false (allInputs b) i i<
+      ∙ listed-after (false ∷ []) _ false (allInputs b) i i<
       ∙ ap (λ w. bit w (i % n)) word
-      ∙ sym (listed-at (false ∷ []) (λ i. bit (getD d (i / n) 0) (i % n)) false (allInputs b) i i<)
+      ∙ sym (listed-after (false ∷ []) (λ i. bit (getD d (i / n) 0) (i % n)) false (allInputs b) i i<)
       ∙ ap (λ s. getD (listed (false ∷ []) (λ i. bit (getD d (i / n) 0) (i % n)) (allInputs b)) s false) (sym p)
 
   literal-agrees : (vs ws : List Bool) (l : ℕ) → getD vs (l / 2) false ≡ getD ws (l / 2) false → literalValue vs l ≡ literalValue ws l
@@ -73,7 +49,7 @@ module _ (b c d : List ℕ) (k : ℕ) (same : (i : ℕ) → i < k → getD c i 0
   literal-agrees vs ws l e = ap (λ v. cond (eqb (l % 2) 1) (not v) v) e
 
   -- gate g, where the signals before it agree
-  gate-agrees : Legal b → (g : ℕ) → g < gates b → ((s : ℕ) → s < 1 + allInputs b + g → Agree g s) → Agree (suc g) (1 + allInputs b + g)
+  gate-agrees : LegalGates b → (g : ℕ) → g < gates b → ((s : ℕ) → s < 1 + allInputs b + g → Agree g s) → Agree (suc g) (1 + allInputs b + g)
   unfolding latestFrames signalValues laterFrame gateValue inputFrames inputValues
   gate-agrees L g h ih l =
       let n : ℕ = inputs b in
@@ -107,7 +83,7 @@ module _ (b c d : List ℕ) (k : ℕ) (same : (i : ℕ) → i < k → getD c i 0
       grown-old (inputValues words n count) (gateValue b) false g s (omega (arith, length-grown (false ∷ []) (λ _ i. bit (getD words (i / n) 0) (i % n)) count)) in
       value c ∙ A (omega (arith, fr)) ∙ sym (value d)
 
-  signal-agrees : Legal b → (g : ℕ) → g ≤ gates b → (s : ℕ) → s < 1 + allInputs b + g → Agree g s
+  signal-agrees : LegalGates b → (g : ℕ) → g ≤ gates b → (s : ℕ) → s < 1 + allInputs b + g → Agree g s
   signal-agrees L zero h s l = input-agrees s (omega arith)
   signal-agrees L (suc g) h s l = go (signal-agrees L g (omega arith)) (eq-or-lt-of-le {n = s} {m = 1 + allInputs b + g} (omega arith))
     where

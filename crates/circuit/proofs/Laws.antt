@@ -15,7 +15,7 @@ use Rattle.words.specs.Words.{wordAt}
 use Rattle.sizes.specs.Sizes.{inputs, outputs, frames}
 use Rattle.circuit.specs.Lists.{grown, listed, packed}
 use Rattle.circuit.specs.Circuit.{gates, leftsAt, rightsAt, literalAt, allInputs, allOutputs, gateSignal, outputSignal, frameOf, admissible, inputFrames, laterFrame, latestFrames, looksAhead, inputValues, literalValue, gateValue, signalValues, outputWord, outputWords}
-use Rattle.circuit.specs.Legal.{Headed, Legal}
+use Rattle.circuit.specs.WellFormed.{CircuitHeaded, LegalGates}
 
 -- ---- literals
 
@@ -43,10 +43,10 @@ pub right-is : (b : List ℕ) (count g : ℕ) → count ≡ gates b → wordAt b
 unfolding literalAt rightsAt
 right-is b count g e = rw e
 
-pub left-below : (b : List ℕ) → Legal b → (g n l : ℕ) → g < gates b → n ≡ 1 + allInputs b + g → l ≡ literalAt b (leftsAt b) g → l / 2 < n
+pub left-below : (b : List ℕ) → LegalGates b → (g n l : ℕ) → g < gates b → n ≡ 1 + allInputs b + g → l ≡ literalAt b (leftsAt b) g → l / 2 < n
 left-below b ok g n l h e q = rw q (signal-before b g _ n (ok .left g h) e)
 
-pub right-below : (b : List ℕ) → Legal b → (g n l : ℕ) → g < gates b → n ≡ 1 + allInputs b + g → l ≡ literalAt b (rightsAt b) g → l / 2 < n
+pub right-below : (b : List ℕ) → LegalGates b → (g n l : ℕ) → g < gates b → n ≡ 1 + allInputs b + g → l ≡ literalAt b (rightsAt b) g → l / 2 < n
 right-below b ok g n l h e q = rw q (signal-before b g _ n (ok .right g h) e)
 
 -- ---- `grown`: an array that is filled from the front
@@ -80,7 +80,7 @@ module _ {A : Type 0} where
   signals-all f b v base g eb eg h = rw (← eb, ← eg) h
 
 -- there is room for every signal
-pub signals-fit : (b : List ℕ) → Headed b → gateSignal b (gates b) ≤ 4113
+pub signals-fit : (b : List ℕ) → CircuitHeaded b → gateSignal b (gates b) ≤ 4113
 unfolding gateSignal
 signals-fit b h = omega arith
 

@@ -1,6 +1,7 @@
 -- The proofs of `circuit`: laws by subject, lowest first.
 pub mod Bits
 pub mod Laws
+pub mod Lists
 pub mod Accepted
 pub mod Stages
 pub mod Causal

@@ -3,7 +3,7 @@ use mathlib.Core.Path.{_≡_, sym, ap, ap₂, _∙_}
 use mathlib.Core.List.{List, _++_}
 use Prim.Native.Nat.{ℕ, _≤_}
 use lib.ListN.{length, drop}
-use Rattle.verdict.specs.Figures.{figures}
+use Rattle.verdict.specs.Judgements.{figures}
 use Rattle.verdict.specs.declared.Verdict.{Verdict}
 use Rattle.verdict.specs.declared.Verdict.the-variants.{Accepted, Refused}
 use Rattle.verdict.specs.declared.Refusal.{Refusal}
@@ -12,7 +12,7 @@ use Rattle.sizes.specs.Sizes.{inputs, frames, sequenceChecked}
 use Rattle.sizes.specs.Sized.{Fed}
 use Rattle.sizes.proofs.Laws.{fed}
 use Rattle.circuit.specs.Circuit.{checked, outputWords, simulated, simulationResult}
-use Rattle.circuit.specs.Legal.{HeadOf}
+use Rattle.circuit.specs.WellFormed.{HeadOf}
 use Rattle.circuit.specs.declared.Head.{Head}
 
 -- the figures and the result of a simulation

@@ -6,7 +6,7 @@ use mathlib.Core.Bool.{Bool, false, not, _&&_, cond}
 use lib.ListN.{length, getD, take, drop}
 use lib.Dec.{ltb, eqb}
 use Rattle.words.specs.Words.{wordAt}
-use Rattle.verdict.specs.Figures.{answer, refuse, andThen, refuseFirst, resultAfter}
+use Rattle.verdict.specs.Judgements.{answer, refuse, andThen, refuseFirst, resultAfter}
 use Rattle.verdict.specs.declared.Figures.{Figures}
 use Rattle.sizes.specs.Sizes.{inputs, outputs, frames, outside, sizesChecked, sequenceChecked}
 use Rattle.circuit.specs.Lists.{grown, listed, bit, packed}

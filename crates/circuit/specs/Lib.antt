@@ -1,5 +1,5 @@
 -- What a reader of `circuit` must believe, in the order of reading.
 pub mod Lists
 pub mod Circuit
-pub mod Legal
+pub mod WellFormed
 pub mod Theorems

@@ -10,11 +10,11 @@ ghost use mathlib.Core.Bool.{_&&_, cond};
 ghost use mathlib.Core.List.{_++_};
 ghost use Prim.Native.Nat.{_+_, _*_, _-_, _/_, _≤_, _<_, max};
 ghost use lib.ListN.{length, take, drop};
-ghost use Rattle.verdict.specs.Figures.{figures};
+ghost use Rattle.verdict.specs.Judgements.{figures};
 ghost use Rattle.sizes.specs.Sizes.{frames};
 ghost use Rattle.circuit.specs.Lists.{bit, packed};
 ghost use Rattle.circuit.specs.Circuit.{gates, gateSignal, frameOf, headChecked, literalsChecked, inputFrames, latestFrames, lookAheadChecked, checked, inputValues, literalValue, signalValues, outputWords, simulated, simulationResult};
-ghost use Rattle.circuit.specs.Legal.{Headed, HeadOf, Legal};
+ghost use Rattle.circuit.specs.WellFormed.{CircuitHeaded, HeadOf, WellFormed};
 ghost use Rattle.circuit.specs.Theorems.{AcceptedCausal};
 
 // The limits on the length of a circuit's head and on its gates, and the most signals there can be.
@@ -40,7 +40,7 @@ pub struct Head {
 
 impl Head {
     pub fn read(circuit: &[u8]) -> Head
-        requires { ⌜ Headed (now circuit) ⌝ }
+        requires { ⌜ CircuitHeaded (now circuit) ⌝ }
         ensures { λ r. ⌜ HeadOf (now (circuit .entry)) r ⌝ }
     {
         let sizes = Sizes::read(circuit);
@@ -82,7 +82,7 @@ pub fn check_head(circuit: &[u8], most: usize) -> Verdict
 
 // Number 3, of the literals at byte offset `start`.
 fn check_literals(circuit: &[u8], head: Head, start: usize) -> Verdict
-    requires { ⌜ Headed (now circuit) ⌝ }
+    requires { ⌜ CircuitHeaded (now circuit) ⌝ }
     requires { ⌜ HeadOf (now circuit) head ⌝ }
     requires { ⌜ start + 2 * gates (now circuit) ≤ length (now circuit) ⌝ }
     ensures { λ r. ⌜ figures r ≡ literalsChecked (now (circuit .entry)) start ⌝ }
@@ -127,9 +127,7 @@ fn input_frames(inputs: usize, count: usize) -> [usize; Limits::SIGNALS]
 
 // The latest frames of all signals.
 fn latest_frames(circuit: &[u8], head: Head) -> [usize; Limits::SIGNALS]
-    requires { ⌜ Headed (now circuit) ⌝ }
-    requires { ⌜ HeadOf (now circuit) head ⌝ }
-    requires { ⌜ Legal (now circuit) ⌝ }
+    requires { ⌜ WellFormed (now circuit) head ⌝ }
     ensures { λ r. ⌜ take (gateSignal (now (circuit .entry)) (gates (now (circuit .entry)))) r ≡ latestFrames (now (circuit .entry)) (gates (now (circuit .entry))) ⌝ }
 {
     let count = head.gates;
@@ -145,9 +143,7 @@ fn latest_frames(circuit: &[u8], head: Head) -> [usize; Limits::SIGNALS]
 
 // Number 4: no output of a frame has gates that reach an input of a later frame.
 fn check_look_ahead(circuit: &[u8], head: Head) -> Verdict
-    requires { ⌜ Headed (now circuit) ⌝ }
-    requires { ⌜ HeadOf (now circuit) head ⌝ }
-    requires { ⌜ Legal (now circuit) ⌝ }
+    requires { ⌜ WellFormed (now circuit) head ⌝ }
     ensures { λ r. ⌜ figures r ≡ lookAheadChecked (now (circuit .entry)) ⌝ }
 {
     let latest = latest_frames(circuit, head);
@@ -221,9 +217,7 @@ fn gate_value(left: bool, right: bool) -> bool
 
 // The values of all signals on a sequence.
 fn signal_values(circuit: &[u8], head: Head, words: &[u16]) -> [bool; Limits::SIGNALS]
-    requires { ⌜ Headed (now circuit) ⌝ }
-    requires { ⌜ HeadOf (now circuit) head ⌝ }
-    requires { ⌜ Legal (now circuit) ⌝ }
+    requires { ⌜ WellFormed (now circuit) head ⌝ }
     requires { ⌜ length (now words) ≡ frames (now circuit) ⌝ }
     ensures { λ r. ⌜ take (gateSignal (now (circuit .entry)) (gates (now (circuit .entry)))) r ≡ signalValues (now (circuit .entry)) (now (words .entry)) (gates (now (circuit .entry))) ⌝ }
 {
@@ -261,9 +255,7 @@ fn pack(values: &[bool], at: usize, count: usize) -> u16
 
 // Writes the output word of each frame.
 fn write_outputs(circuit: &[u8], head: Head, words: &[u16], result: &mut [u16])
-    requires { ⌜ Headed (now circuit) ⌝ }
-    requires { ⌜ HeadOf (now circuit) head ⌝ }
-    requires { ⌜ Legal (now circuit) ⌝ }
+    requires { ⌜ WellFormed (now circuit) head ⌝ }
     requires { ⌜ length (now words) ≡ frames (now circuit) ⌝ }
     requires { ⌜ frames (now circuit) ≤ length (now result) ⌝ }
     ensures { λ _. ⌜ now (result .exit) ≡ outputWords (now (circuit .entry)) (now (words .entry)) ++ drop (frames (now (circuit .entry))) (now (result .entry)) ⌝ }

@@ -19,7 +19,7 @@ use Rattle.layered.proofs.Lists.{tabulate-length, tabulate-at}
 use Rattle.layered.proofs.Rows.{pow-mul}
 use Rattle.layered.proofs.States.{number-below, count-last}
 use Rattle.circuit.specs.Circuit.{allInputs}
-use Rattle.circuit.specs.Legal.{Headed, HeadOf}
+use Rattle.circuit.specs.WellFormed.{CircuitHeaded, HeadOf}
 use Rattle.circuit.specs.declared.Head.{Head}
 use Rattle.circuit.specs.Theorems.{response}
 use Rattle.rows.specs.Rows.{outIn, nextIn, rowNumber, rowCount, numbered, Placed}
@@ -27,7 +27,7 @@ use Rattle.rows.specs.declared.Layer.{Layer}
 use Rattle.rows.proofs.Laws.{numberedTo, numbered-read, behind}
 use Rattle.rows.proofs.Numbers.{row-number, row-count}
 use Rattle.responses.specs.Responses.{filled}
-use Rattle.classify.specs.Classified.{layerAt, LayerOf, stateOf, stateCount, Known}
+use Rattle.classify.specs.Classified.{layerAt, LayerOf, stateNumber, stateCount, Known}
 use Rattle.classify.proofs.Layers.{layer-below, layer-apart, layer-in, power-le, two-words}
 
 -- the half of the scratch
@@ -36,17 +36,17 @@ unfolding allInputs
 half-is b = pow-mul 2 (inputs b) (frames b)
 
 -- a layer below T has at most 32,768 histories
-pub few-histories : (b : List ℕ) → Headed b → (t : ℕ) → t < frames b → (2 ^ inputs b) ^ t ≤ 32768
+pub few-histories : (b : List ℕ) → CircuitHeaded b → (t : ℕ) → t < frames b → (2 ^ inputs b) ^ t ≤ 32768
 few-histories b H t h =
     rw (← pow-mul 2 (inputs b) t)
     (pow-mono {j = 15} (omega (arith, mul-suc (inputs b) t, mul-le-mul-left (inputs b) h, H .sizes .bits-to, H .sizes .inputs-from)))
 
 -- the bits of t + 1 words, of t, and of the whole
-pub bits-fit : (b : List ℕ) → Headed b → (n t : ℕ) → n ≡ inputs b → t ≤ frames b → n * t ≤ 16
+pub bits-fit : (b : List ℕ) → CircuitHeaded b → (n t : ℕ) → n ≡ inputs b → t ≤ frames b → n * t ≤ 16
 bits-fit b H n t e h = rw e (omega (arith, mul-le-mul-left (inputs b) h, H .sizes .bits-to))
 
 -- where a layer lies, by the head: what `layer_of` asks, and what it tells
-module _ (b : List ℕ) (H : Headed b) (head : Head) (O : HeadOf b head) (t : ℕ) where
+module _ (b : List ℕ) (H : CircuitHeaded b) (head : Head) (O : HeadOf b head) (t : ℕ) where
   pub layer-asked : t < frames b → (1 ≤ head .inputs) × (head .inputs * head .frames ≤ 16) × (t < head .frames)
   layer-asked h = (omega (arith, H .sizes, O), bits-fit b H (head .inputs) (head .frames) (O .inputs-is) (omega (arith, O)), omega (arith, O))
 
@@ -58,14 +58,14 @@ pub same-front : (n : ℕ) (s s₁ : List ℕ) → take n s₁ ≡ take n s → 
 same-front n s s₁ e j l = sym (getD-take n s₁ j 0 l) ∙ ap (λ r. getD r j 0) e ∙ getD-take n s j 0 l
 
 -- what is known lies in the half
-pub known-kept : (b : List ℕ) → Headed b → (half : ℕ) → half ≡ (2 ^ inputs b) ^ frames b → (s s₁ : List ℕ) → take half s₁ ≡ take half s → (t : ℕ) → Known b s t → Known b s₁ t
+pub known-kept : (b : List ℕ) → CircuitHeaded b → (half : ℕ) → half ≡ (2 ^ inputs b) ^ frames b → (s s₁ : List ℕ) → take half s₁ ≡ take half s → (t : ℕ) → Known b s t → Known b s₁ t
 unfolding Known
 known-kept b H half eh s s₁ e t kn u h lo hi l =
     let two : 2 ≤ 2 ^ inputs b = two-words (inputs b) (H .sizes .inputs-from) in
     same-front half s s₁ e (layerAt (2 ^ inputs b) u + h) (omega (arith, layer-in (2 ^ inputs b) two u (frames b) hi)) ∙ kn u h lo hi l
 
 -- the layer t of the circuit b, in the scratch s
-module _ (b : List ℕ) (H : Headed b) (t : ℕ) (bt : t < frames b) (layer : Layer) (L : LayerOf (2 ^ inputs b) (frames b) t layer) (s : List ℕ) where
+module _ (b : List ℕ) (H : CircuitHeaded b) (t : ℕ) (bt : t < frames b) (layer : Layer) (L : LayerOf (2 ^ inputs b) (frames b) t layer) (s : List ℕ) where
   two : 2 ≤ 2 ^ inputs b
   two = two-words (inputs b) (H .sizes .inputs-from)
 
@@ -89,11 +89,11 @@ module _ (b : List ℕ) (H : Headed b) (t : ℕ) (bt : t < frames b) (layer : La
   }
 
   -- the next states that the layer's entries have
-  pub next-is : Known b s (suc t) → (i : ℕ) → i < (2 ^ inputs b) ^ suc t → nextIn s layer i ≡ stateOf b (suc t) i
+  pub next-is : Known b s (suc t) → (i : ℕ) → i < (2 ^ inputs b) ^ suc t → nextIn s layer i ≡ stateNumber b (suc t) i
   unfolding Known
   next-is kn i l = go (layer .last) (L .last-is)
     where
-      go : (e : Bool) → e ≡ eqb (suc t) (frames b) → cond e 0 (getD s (layer .nexts + i) 0) ≡ stateOf b (suc t) i
+      go : (e : Bool) → e ≡ eqb (suc t) (frames b) → cond e 0 (getD s (layer .nexts + i) 0) ≡ stateNumber b (suc t) i
       go true e =
           let q : suc t ≡ frames b = eqb-true (suc t) (frames b) (sym e) in
           let last : number (2 ^ inputs b) (frames b) (response b) (frames b) i < 1 =
@@ -109,7 +109,7 @@ pub record Filled (b s s₁ : List ℕ) (t : ℕ) : Type 0 where
   pub front : take ((2 ^ inputs b) ^ frames b) s₁ ≡ take ((2 ^ inputs b) ^ frames b) s
   pub responses : (i : ℕ) → i < (2 ^ inputs b) ^ suc t → getD s₁ ((2 ^ inputs b) ^ frames b + i) 0 ≡ response b (suc t) i
 
-module _ (b : List ℕ) (H : Headed b) (t : ℕ) (bt : t < frames b) (s s₁ : List ℕ) (ls : length s ≡ 2 * 2 ^ allInputs b) (F : Filled b s s₁ t) (layer : Layer) (L : LayerOf (2 ^ inputs b) (frames b) t layer) where
+module _ (b : List ℕ) (H : CircuitHeaded b) (t : ℕ) (bt : t < frames b) (s s₁ : List ℕ) (ls : length s ≡ 2 * 2 ^ allInputs b) (F : Filled b s s₁ t) (layer : Layer) (L : LayerOf (2 ^ inputs b) (frames b) t layer) where
   pub filled-placed : Placed s₁ layer
   filled-placed = placed b H t bt layer L s₁ (F .same-length ∙ ls)
 
@@ -121,7 +121,7 @@ module _ (b : List ℕ) (H : Headed b) (t : ℕ) (bt : t < frames b) (s s₁ : L
     out-is i l = ap (λ j. getD s₁ (j + i) 0) (L .responses-is) ∙ F .responses i l
 
     -- numbers and counts by rows, at the layer's own sizes
-    number-is : (h : ℕ) → h < (2 ^ inputs b) ^ t → rowNumber (layer .fan) (outIn s₁ layer) (nextIn s₁ layer) h ≡ stateOf b t h
+    number-is : (h : ℕ) → h < (2 ^ inputs b) ^ t → rowNumber (layer .fan) (outIn s₁ layer) (nextIn s₁ layer) h ≡ stateNumber b t h
     number-is h l =
         ap (λ f. rowNumber f (outIn s₁ layer) (nextIn s₁ layer) h) (L .fan-is)
         ∙ row-number (2 ^ inputs b) (frames b) (response b) t bt (outIn s₁ layer) (nextIn s₁ layer) out-is (next-is b H t bt layer L s₁ kn₁) h l
@@ -135,16 +135,16 @@ module _ (b : List ℕ) (H : Headed b) (t : ℕ) (bt : t < frames b) (s s₁ : L
     unfolding Known numbered numberedTo
     known u h lo hi l = ⊎-elim here later (eq-or-lt-of-le lo)
       where
-        here : t ≡ u → getD (numbered s₁ layer) (layerAt (2 ^ inputs b) u + h) 0 ≡ stateOf b u h
+        here : t ≡ u → getD (numbered s₁ layer) (layerAt (2 ^ inputs b) u + h) 0 ≡ stateNumber b u h
         here e =
             let l′ : h < (2 ^ inputs b) ^ t = rw e l in
             let i : layerAt (2 ^ inputs b) u + h ≡ layer .at + h = omega (arith, L .at-is, ap (layerAt (2 ^ inputs b)) e) in
             ap (λ j. getD (numbered s₁ layer) j 0) i
             ∙ numbered-read s₁ layer filled-placed (layer .size) h (omega arith) (omega (arith, L .size-is))
             ∙ number-is h l′
-            ∙ ap (λ u. stateOf b u h) e
+            ∙ ap (λ u. stateNumber b u h) e
 
-        later : t < u → getD (numbered s₁ layer) (layerAt (2 ^ inputs b) u + h) 0 ≡ stateOf b u h
+        later : t < u → getD (numbered s₁ layer) (layerAt (2 ^ inputs b) u + h) 0 ≡ stateNumber b u h
         later q =
             behind s₁ layer filled-placed (layer .size) (layerAt (2 ^ inputs b) u + h) (omega arith) (omega (arith, L .at-is, L .size-is, layer-apart (2 ^ inputs b) (two-words (inputs b) (H .sizes .inputs-from)) t u q))
             ∙ kn₁ u h q hi l

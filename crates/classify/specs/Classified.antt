@@ -25,15 +25,15 @@ pub record LayerOf (K T t : ℕ) (layer : Layer) : Type 0 where
   pub last-is : layer .last ≡ eqb (suc t) T
 
 -- the state of the circuit's history h of t words, and how many states layer t has
-abbrev pub stateOf : List ℕ → (t h : ℕ) → ℕ
-stateOf b t h = number (2 ^ inputs b) (frames b) (response b) t h
+abbrev pub stateNumber : List ℕ → (t h : ℕ) → ℕ
+stateNumber b t h = number (2 ^ inputs b) (frames b) (response b) t h
 
 abbrev pub stateCount : List ℕ → (t : ℕ) → ℕ
 stateCount b t = count (2 ^ inputs b) (frames b) (response b) t
 
 -- s holds the state of every history of layers t to T - 1
 unfoldable pub Known : (b s : List ℕ) (t : ℕ) → Type 0
-Known b s t = (u h : ℕ) → t ≤ u → u < frames b → h < (2 ^ inputs b) ^ u → getD s (layerAt (2 ^ inputs b) u + h) 0 ≡ stateOf b u h
+Known b s t = (u h : ℕ) → t ≤ u → u < frames b → h < (2 ^ inputs b) ^ u → getD s (layerAt (2 ^ inputs b) u + h) 0 ≡ stateNumber b u h
 
 -- the plan holds the counts of layers 0 to T
 pub record Counted (b : List ℕ) (plan : Plan) : Type 0 where

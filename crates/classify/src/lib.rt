@@ -8,7 +8,7 @@ ghost use Prim.Native.Nat.{suc, _*_, _^_, _≤_, _<_};
 ghost use lib.ListN.{length};
 ghost use Rattle.sizes.specs.Sizes.{frames};
 ghost use Rattle.circuit.specs.Circuit.{allInputs};
-ghost use Rattle.circuit.specs.Legal.{Headed, HeadOf, Legal};
+ghost use Rattle.circuit.specs.WellFormed.{WellFormed};
 ghost use Rattle.classify.specs.Classified.{layerAt, LayerOf, stateCount, Known, Counted};
 
 // What is known of a table before it is written: the counts of layers 0 to T, and 0 beyond.
@@ -55,9 +55,7 @@ pub fn layer_of(head: Head, t: usize) -> Layer
 
 // Numbers the histories of layer t, given those of the next, and answers how many states it has.
 fn classify_layer(circuit: &[u8], head: Head, scratch: &mut [u16], t: usize) -> usize
-    requires { ⌜ Headed (now circuit) ⌝ }
-    requires { ⌜ HeadOf (now circuit) head ⌝ }
-    requires { ⌜ Legal (now circuit) ⌝ }
+    requires { ⌜ WellFormed (now circuit) head ⌝ }
     requires { ⌜ t < frames (now circuit) ⌝ }
     requires { ⌜ length (now scratch) ≡ 2 * 2 ^ allInputs (now circuit) ⌝ }
     requires { ⌜ Known (now circuit) (now scratch) (suc t) ⌝ }
@@ -72,9 +70,7 @@ fn classify_layer(circuit: &[u8], head: Head, scratch: &mut [u16], t: usize) -> 
 
 // Numbers the histories of all layers, and answers how many states each has.
 pub fn classify(circuit: &[u8], head: Head, scratch: &mut [u16]) -> Plan
-    requires { ⌜ Headed (now circuit) ⌝ }
-    requires { ⌜ HeadOf (now circuit) head ⌝ }
-    requires { ⌜ Legal (now circuit) ⌝ }
+    requires { ⌜ WellFormed (now circuit) head ⌝ }
     requires { ⌜ length (now scratch) ≡ 2 * 2 ^ allInputs (now circuit) ⌝ }
     ensures { λ r. ⌜ Known (now (circuit .entry)) (now (scratch .exit)) 0 ⌝ }
     ensures { λ r. ⌜ Counted (now (circuit .entry)) r ⌝ }

@@ -16,10 +16,10 @@ use Rattle.words.specs.Words.{wordAt}
 use Rattle.sizes.specs.Sizes.{inputs, outputs, frames}
 use Rattle.circuit.specs.Lists.{listed}
 use Rattle.table.specs.Table.{states, entryCount, outputsAt, nextsAt, entryAt, layerPart}
-use Rattle.table.specs.Headed.{Headed}
+use Rattle.table.specs.Sound.{TableHeaded}
 use Rattle.table.proofs.Offsets.{arrays-stand}
-use Rattle.unfolded.specs.Unfolded.{lastOf, chains, ending, inverted, Frame, matching, matchGates, matchLiteral, edgesAt, edgeGate, edgeGates, invertedEdges, nextGatesAt, entering, nextGates, nextLiteral, outGatesAt, withBit, outGates, outLiteral, frameGates, Drawing, frameOf, drawing, withFrame, outputGate, drawn, gatesNeeded}
-use Rattle.unfolded.proofs.Lists.{listed-length, listed-cong}
+use Rattle.unfolded.specs.Unfolded.{lastOf, chainsFrom, ending, inverted, Frame, matching, matchGates, matchLiteral, edgesAt, edgeGate, edgeGates, invertedEdges, nextGatesAt, entering, nextGates, nextLiteral, outGatesAt, withBit, outGates, outLiteral, frameGates, Drawing, tableFrame, drawing, withFrame, outputGate, drawn, gatesNeeded}
+use Rattle.circuit.proofs.Lists.{listed-length, listed-cong}
 use Rattle.unfolded.proofs.Drawings.{drawn-length, frame-nexts}
 use Rattle.unfolded.proofs.Counts.{matches-length, match-count, edge-count, frame-count}
 use Rattle.chains.specs.Chains.{targetOf, gatesStored, endOf, matchOf, edgeOf, chosen, gathering}
@@ -34,7 +34,7 @@ use Rattle.table.proofs.Parts.{part-length, part-entry}
 match-of : (n at t w : ℕ) → 1 ≤ n → matchOf n at w ≡ ending at (matching n t) w
 unfolding ending matchOf endOf
 match-of n at t w h =
-    let l : length (chains at (matching n t) w) ≡ w * n = matches-length at n t w in
+    let l : length (chainsFrom at (matching n t) w) ≡ w * n = matches-length at n t w in
     let m : 2 * (at + (w * n + (n - 1))) ≡ 2 * (at + (w * n + n - 1)) = omega arith in
     m
     ∙ sym (ap (λ (t : Bool). cond t 1 (2 * (at + (w * n + n - 1)))) (ne-eqb (w * n + n) (w * n) (λ q. absurd (omega arith))))
@@ -48,7 +48,7 @@ edges-cong at p q zero h = refl
 edges-cong at p q (suc c) h =
     ap₂ (λ (rs : List ℕ) (t : Bool). rs ++ cond t ((2 * (at + c) + 1) ∷ []) []) (edges-cong at p q c (λ e l. h e (omega arith))) (h c (omega arith))
 
-module _ (b : List ℕ) (H : Headed b) (t : ℕ) (h : t < frames b) where
+module _ (b : List ℕ) (H : TableHeaded b) (t : ℕ) (h : t < frames b) where
   abbrev E : ℕ
   E = states b t * 2 ^ inputs b
 
@@ -72,20 +72,20 @@ module _ (b : List ℕ) (H : Headed b) (t : ℕ) (h : t < frames b) where
 
   module _ (target : Target) (e : target ≡ targetOf b) (d : Drawing) where
     abbrev F : Frame
-    F = frameOf b t d
+    F = tableFrame b t d
 
     -- the arguments of the code's calls, and the gates that they store
     module _ (k : ℕ) (ek : k ≡ length (d .gates)) where
       pub frame-first : target .base + k ≡ F .at
-      unfolding frameOf
+      unfolding tableFrame
       frame-first = rw (e, ek)
 
-      pub matches-are : chains (target .base + k) (matching (target .inputs) t) (target .words) ≡ matchGates F
-      unfolding matchGates frameOf
+      pub matches-are : chainsFrom (target .base + k) (matching (target .inputs) t) (target .words) ≡ matchGates F
+      unfolding matchGates tableFrame
       matches-are = rw (e, ek)
 
       pub matches-count : length (matchGates F) ≡ target .words * target .inputs
-      unfolding frameOf
+      unfolding tableFrame
       matches-count = match-count F ∙ rw e
 
       -- the first edge is gate j
@@ -96,7 +96,7 @@ module _ (b : List ℕ) (H : Headed b) (t : ℕ) (h : t < frames b) where
 
         pub edges-are : 1 ≤ inputs b → (st : List ℕ) → length (d .states) ≡ states b t → take (length (d .states)) st ≡ d .states
             → (count : ℕ) → count ≡ E → listed [] (edgeOf (target .inputs) (target .base + k) st) count ≡ edgeGates F
-        unfolding edgeGates edgeGate edgeOf matchLiteral frameOf
+        unfolding edgeGates edgeGate edgeOf matchLiteral tableFrame
         edges-are n st l es count ec =
             rw ec
             (listed-cong (edgeOf (target .inputs) (target .base + k) st) (edgeGate F) E (λ i h.
@@ -108,17 +108,17 @@ module _ (b : List ℕ) (H : Headed b) (t : ℕ) (h : t < frames b) where
         -- the first gather gate is gate g
         module _ (g : ℕ) (eg : g ≡ j + E) where
           pub nexts-first : target .base + g ≡ nextGatesAt F
-          unfolding nextGatesAt frameOf
+          unfolding nextGatesAt tableFrame
           nexts-first = omega (arith, edges-first, edge-count F)
 
           -- the chains of the next states
           entering-are : (s : ℕ) → gathering (target .base + j) (layerPart b (nextsAt b) t) true s ≡ entering F s
-          unfolding entering frameOf chosen
+          unfolding entering tableFrame chosen
           entering-are s = part-edges (nextsAt b) (target .base + j) true s nexts-in ∙ ap (λ (at : ℕ). invertedEdges at (gathers (nextsAt b) true s) E) edges-first
 
-          pub nexts-are : (count : ℕ) → count ≡ F .nexts → chains (target .base + g) (gathering (target .base + j) (layerPart b (nextsAt b) t) true) count ≡ nextGates F
+          pub nexts-are : (count : ℕ) → count ≡ F .nexts → chainsFrom (target .base + g) (gathering (target .base + j) (layerPart b (nextsAt b) t) true) count ≡ nextGates F
           unfolding nextGates
-          nexts-are count ec = λ i. chains (nexts-first i) (λ s. entering-are s i) (ec i)
+          nexts-are count ec = λ i. chainsFrom (nexts-first i) (λ s. entering-are s i) (ec i)
 
           pub next-literals : (count : ℕ) → count ≡ F .nexts
               → listed [] (λ s. inverted (ending (target .base + g) (gathering (target .base + j) (layerPart b (nextsAt b) t) true) s)) count ≡ listed [] (nextLiteral F) (F .nexts)
@@ -132,16 +132,16 @@ module _ (b : List ℕ) (H : Headed b) (t : ℕ) (h : t < frames b) where
             outs-first = omega (arith, nexts-first)
 
             with-bit-are : (s : ℕ) → gathering (target .base + j) (layerPart b (outputsAt b) t) false s ≡ withBit F s
-            unfolding withBit frameOf chosen
+            unfolding withBit tableFrame chosen
             with-bit-are s = part-edges (outputsAt b) (target .base + j) false s outputs-in ∙ ap (λ (at : ℕ). invertedEdges at (gathers (outputsAt b) false s) E) edges-first
 
             outs-count : target .outputs ≡ F .outputs
-            unfolding frameOf
+            unfolding tableFrame
             outs-count = rw e
 
-            pub outs-are : chains (target .base + o) (gathering (target .base + j) (layerPart b (outputsAt b) t) false) (target .outputs) ≡ outGates F
+            pub outs-are : chainsFrom (target .base + o) (gathering (target .base + j) (layerPart b (outputsAt b) t) false) (target .outputs) ≡ outGates F
             unfolding outGates
-            outs-are = λ i. chains (outs-first i) (λ s. with-bit-are s i) (outs-count i)
+            outs-are = λ i. chainsFrom (outs-first i) (λ s. with-bit-are s i) (outs-count i)
 
             pub out-literals : listed [] (λ s. inverted (ending (target .base + o) (gathering (target .base + j) (layerPart b (outputsAt b) t) false) s)) (target .outputs)
                 ≡ listed [] (outLiteral F) (target .outputs)
@@ -173,7 +173,7 @@ parts-stored G k v v₁ v₂ v₃ v₄ F j g o e₁ e₂ e₃ e₄ ej eg eo h ro
 -- ---- frames one after the other
 
 module _ (b : List ℕ) where
-  pub frame-ends : (t : ℕ) → length (drawing b (suc t) .gates) ≡ length (drawing b t .gates) + length (frameGates (frameOf b t (drawing b t)))
+  pub frame-ends : (t : ℕ) → length (drawing b (suc t) .gates) ≡ length (drawing b t .gates) + length (frameGates (tableFrame b t (drawing b t)))
   unfolding drawing withFrame
   frame-ends t = length-append (drawing b t .gates) _
 
@@ -181,18 +181,18 @@ module _ (b : List ℕ) where
   gates-mono t u h = le-ind (λ u. length (drawing b t .gates) ≤ length (drawing b u .gates)) (le-refl _) (λ u _ p. omega (arith, frame-ends u)) u h
 
   -- the gates of a frame are among all
-  pub frame-room : (t : ℕ) → t < frames b → length (drawing b t .gates) + length (frameGates (frameOf b t (drawing b t))) ≤ gatesNeeded b
+  pub frame-room : (t : ℕ) → t < frames b → length (drawing b t .gates) + length (frameGates (tableFrame b t (drawing b t))) ≤ gatesNeeded b
   unfolding gatesNeeded
   frame-room t h = omega (arith, drawn-length b, frame-ends t, gates-mono (suc t) (frames b) h)
 
   -- so a layer that is drawn has few states
-  pub frame-edges : (t : ℕ) (d : Drawing) → frameOf b t d .edges ≡ states b t * 2 ^ inputs b
-  unfolding frameOf
+  pub frame-edges : (t : ℕ) (d : Drawing) → tableFrame b t d .edges ≡ states b t * 2 ^ inputs b
+  unfolding tableFrame
   frame-edges t d = refl
 
   pub few-states : (t : ℕ) → t < frames b → 1 ≤ inputs b → gatesNeeded b ≤ 4096 → states b t ≤ 2048
   few-states t h n l =
-      let F : Frame = frameOf b t (drawing b t) in
+      let F : Frame = tableFrame b t (drawing b t) in
       let p : 2 ≤ 2 ^ inputs b = pow-mono {i = 1} n in
       omega (arith, frame-room t h, frame-count F, edge-count F, frame-edges t (drawing b t), mul-le-mul-left (states b t) p)
 
@@ -210,7 +210,7 @@ module _ (b : List ℕ) where
   states-count one (suc t) h = listed-length _ _ ∙ frame-nexts b t (drawing b t) h
 
   -- and so have the next layer's
-  pub states-next : (t : ℕ) → let F : Frame = frameOf b t (drawing b t) in drawing b (suc t) .states ≡ listed [] (nextLiteral F) (F .nexts)
+  pub states-next : (t : ℕ) → let F : Frame = tableFrame b t (drawing b t) in drawing b (suc t) .states ≡ listed [] (nextLiteral F) (F .nexts)
   unfolding drawing withFrame
   states-next t = refl
 
@@ -218,11 +218,11 @@ module _ (b : List ℕ) where
 
 -- one frame more, behind those that are stored
 pub drawn-more : (b : List ℕ) (G : ℕ) (v w w′ : List ℕ) (t k : ℕ) → w ≡ gatesStored G 0 v (drawing b t .gates) → k ≡ length (drawing b t .gates)
-    → w′ ≡ gatesStored G k w (frameGates (frameOf b t (drawing b t))) → length (drawing b (suc t) .gates) ≤ G → 8 + 4 * G ≤ length v
+    → w′ ≡ gatesStored G k w (frameGates (tableFrame b t (drawing b t))) → length (drawing b (suc t) .gates) ≤ G → 8 + 4 * G ≤ length v
     → w′ ≡ gatesStored G 0 v (drawing b (suc t) .gates)
 unfolding drawing withFrame
 drawn-more b G v w w′ t k ew ek e h room =
-    let fs : List (ℕ × ℕ) = frameGates (frameOf b t (drawing b t)) in
+    let fs : List (ℕ × ℕ) = frameGates (tableFrame b t (drawing b t)) in
     e ∙ ap (λ (w : List ℕ). gatesStored G k w fs) ew ∙ gates-append G 0 v (drawing b t .gates) fs k (omega arith) (omega (arith, frame-ends b t)) room
 
 -- literals that are kept behind others
@@ -236,17 +236,17 @@ module _ (b : List ℕ) where
   states-kept v w t u eu ew h = rw (eu, ew) (kept-behind v (drawing b (suc t) .states) [] 0 (length (drawing b (suc t) .states)) refl (omega arith) (omega arith))
 
   pub outputs-kept : (v : List ℕ) (t m : ℕ) → m ≡ outputs b → take (m * t) v ≡ drawing b t .outputs → m * t + m ≤ length v
-      → take (m * (t + 1)) (sets v (m * t) (listed [] (outLiteral (frameOf b t (drawing b t))) m)) ≡ drawing b (suc t) .outputs
-  unfolding drawing withFrame frameOf
+      → take (m * (t + 1)) (sets v (m * t) (listed [] (outLiteral (tableFrame b t (drawing b t))) m)) ≡ drawing b (suc t) .outputs
+  unfolding drawing withFrame tableFrame
   outputs-kept v t m em e h =
-      let ls : List ℕ = listed [] (outLiteral (frameOf b t (drawing b t))) m in
+      let ls : List ℕ = listed [] (outLiteral (tableFrame b t (drawing b t))) m in
       let n : length ls ≡ m = listed-length _ m in
       kept-behind v ls (drawing b t .outputs) (m * t) (m * (t + 1)) e (omega arith) (omega (arith, mul-suc m t, ap (λ (k : ℕ). m * k) (add-one t)))
-      ∙ ap (λ (k : ℕ). drawing b t .outputs ++ listed [] (outLiteral (frameOf b t (drawing b t))) k) em
+      ∙ ap (λ (k : ℕ). drawing b t .outputs ++ listed [] (outLiteral (tableFrame b t (drawing b t))) k) em
 
   -- a layer that is drawn has a literal for each state, and the last has none
   pub states-few : (t : ℕ) → (suc t < frames b → states b (suc t) ≤ 2048) → length (drawing b (suc t) .states) ≤ 2048
-  unfolding frameOf
+  unfolding tableFrame
   states-few t h = rw (states-next b t, listed-length) (few-drawn b (suc t) h)
 
   -- the output gates, behind all frames

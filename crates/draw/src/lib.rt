@@ -17,8 +17,8 @@ ghost use lib.Seq.{sets};
 ghost use Rattle.sizes.specs.Sizes.{inputs, outputs, frames};
 ghost use Rattle.circuit.specs.Lists.{listed};
 ghost use Rattle.table.specs.Table.{states, entryCount, layerPart};
-ghost use Rattle.table.specs.Headed.{Headed, Sound, layoutOf};
-ghost use Rattle.unfolded.specs.Unfolded.{inverted, chains, ending, outLiteral, frameOf, frameGates, drawing, drawn};
+ghost use Rattle.table.specs.Sound.{TableHeaded, Sound, layoutOf};
+ghost use Rattle.unfolded.specs.Unfolded.{inverted, chainsFrom, ending, outLiteral, tableFrame, frameGates, drawing, drawn};
 ghost use Rattle.chains.specs.Chains.{Fits, targetOf, gatesStored, gathering};
 
 // The most states of a layer that are drawn, as each has two edges or more, and the most outputs over all frames.
@@ -32,7 +32,7 @@ impl Limits {
 
 // How many states of layer t are drawn: none of the last layer.
 fn drawn_states(table: &[u8], layout: Layout, t: usize) -> usize
-    requires { ⌜ Headed (now table) ⌝ }
+    requires { ⌜ TableHeaded (now table) ⌝ }
     requires { ⌜ layout ≡ layoutOf (now table) ⌝ }
     requires { ⌜ t ≤ frames (now table) ⌝ }
     ensures { λ r. ⌜ r ≡ cond (ltb t (frames (now (table .entry)))) (states (now (table .entry)) t) 0 ⌝ }
@@ -57,15 +57,15 @@ fn put_layer(
     at: usize,
     result: &mut [u8],
 ) -> usize
-    requires { ⌜ Headed (now table) ⌝ }
+    requires { ⌜ TableHeaded (now table) ⌝ }
     requires { ⌜ (start + 2 * entryCount (now table) ≤ length (now table)) × (t < frames (now table)) × (target .words ≡ 2 ^ inputs (now table)) ⌝ }
     requires { ⌜ Fits target (now result) ⌝ }
     requires { ⌜ (nexts ≡ false → count ≤ 16) ⌝ }
     requires { ⌜ (edges + states (now table) t * 2 ^ inputs (now table) ≤ target .gates) × (at + count ≤ length (now literals)) ⌝ }
-    requires { ⌜ k + length (chains (target .base + k) (gathering (target .base + edges) (layerPart (now table) start t) nexts) count) ≤ target .gates ⌝ }
-    ensures gates { λ _. ⌜ now (result .exit) ≡ gatesStored (target .gates) k (now (result .entry)) (chains (target .base + k) (gathering (target .base + edges) (layerPart (now (table .entry)) start t) nexts) count) ⌝ }
+    requires { ⌜ k + length (chainsFrom (target .base + k) (gathering (target .base + edges) (layerPart (now table) start t) nexts) count) ≤ target .gates ⌝ }
+    ensures gates { λ _. ⌜ now (result .exit) ≡ gatesStored (target .gates) k (now (result .entry)) (chainsFrom (target .base + k) (gathering (target .base + edges) (layerPart (now (table .entry)) start t) nexts) count) ⌝ }
     ensures ends { λ _. ⌜ now (literals .exit) ≡ sets (now (literals .entry)) at (listed [] (λ i. inverted (ending (target .base + k) (gathering (target .base + edges) (layerPart (now (table .entry)) start t) nexts) i)) count) ⌝ }
-    ensures end { λ r. ⌜ r ≡ k + length (chains (target .base + k) (gathering (target .base + edges) (layerPart (now (table .entry)) start t) nexts) count) ⌝ }
+    ensures end { λ r. ⌜ r ≡ k + length (chainsFrom (target .base + k) (gathering (target .base + edges) (layerPart (now (table .entry)) start t) nexts) count) ⌝ }
 {
     let from = start + 2 * entries_below(table, target.words, t);
     let to = from + 2 * (states_of(table, t) * target.words);
@@ -101,9 +101,9 @@ fn put_frame(
     requires { ⌜ (t < frames (now table)) × (k ≡ length (drawing (now table) t .gates)) ⌝ }
     requires { ⌜ (length (now states) ≡ 2048) × (take (length (drawing (now table) t .states)) (now states) ≡ drawing (now table) t .states) ⌝ }
     requires { ⌜ length (now outputs) ≡ 256 ⌝ }
-    ensures gates { λ _. ⌜ now (result .exit) ≡ gatesStored (target .gates) k (now (result .entry)) (frameGates (frameOf (now (table .entry)) t (drawing (now (table .entry)) t))) ⌝ }
+    ensures gates { λ _. ⌜ now (result .exit) ≡ gatesStored (target .gates) k (now (result .entry)) (frameGates (tableFrame (now (table .entry)) t (drawing (now (table .entry)) t))) ⌝ }
     ensures states { λ _. ⌜ now (states .exit) ≡ sets (now (states .entry)) 0 (drawing (now (table .entry)) (suc t) .states) ⌝ }
-    ensures outputs { λ _. ⌜ now (outputs .exit) ≡ sets (now (outputs .entry)) (target .outputs * t) (listed [] (outLiteral (frameOf (now (table .entry)) t (drawing (now (table .entry)) t))) (target .outputs)) ⌝ }
+    ensures outputs { λ _. ⌜ now (outputs .exit) ≡ sets (now (outputs .entry)) (target .outputs * t) (listed [] (outLiteral (tableFrame (now (table .entry)) t (drawing (now (table .entry)) t))) (target .outputs)) ⌝ }
     ensures end { λ r. ⌜ r ≡ length (drawing (now (table .entry)) (suc t) .gates) ⌝ }
 {
     let edges = put_matches(target, t, k, result);

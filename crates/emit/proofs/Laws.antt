@@ -22,7 +22,7 @@ use Rattle.layered.proofs.Lists.{join-cong, tabulate-length, tabulate-at}
 use Rattle.layered.proofs.States.{first-smallest, smallest-le}
 use Rattle.layered.proofs.Theorems.{rows}
 use Rattle.circuit.specs.Theorems.{response}
-use Rattle.classify.specs.Classified.{stateOf, stateCount, Counted}
+use Rattle.classify.specs.Classified.{stateNumber, stateCount, Counted}
 use Rattle.classify.specs.declared.Plan.{Plan}
 use Rattle.emit.specs.Emitted.{entryOf, rowWords, layerWords, arrayWords, headWords, allWords}
 
@@ -67,7 +67,7 @@ smallests b t = first (2 ^ inputs b) (frames b) (response b) t
 
 -- a history's number is the next new one exactly where it is the smallest of its class
 module _ (b : List ℕ) (t h : ℕ) where
-  pub new-first : stateOf b t h ≡ tally h (smallests b t) → T (smallests b t h)
+  pub new-first : stateNumber b t h ≡ tally h (smallests b t) → T (smallests b t h)
   unfolding number first
   new-first e =
       let K : ℕ = 2 ^ inputs b in
@@ -78,7 +78,7 @@ module _ (b : List ℕ) (t h : ℕ) where
       (λ (q : g < h). absurd (omega (arith, tally-lt (smallests b t) g h q (first-smallest K (frames b) (response b) t h))))
       (eq-or-lt-of-le l)
 
-  pub first-new : T (smallests b t h) → stateOf b t h ≡ tally h (smallests b t)
+  pub first-new : T (smallests b t h) → stateNumber b t h ≡ tally h (smallests b t)
   unfolding number first
   first-new f = ap (λ g. tally g (smallests b t)) (eqb→eq (smallest (2 ^ inputs b) (frames b) (response b) t h) h f)
 

@@ -15,14 +15,14 @@ use Rattle.layered.specs.Search.{tally, join, tabulate}
 use Rattle.layered.proofs.Search.{iff-eq, eq-eqb, tally-more, tally-none, tally-at-most}
 use Rattle.layered.proofs.Lists.{parts, join-cong, tabulate-cong, tabulate-length, tabulate-at}
 use Rattle.layered.proofs.States.{digit-below}
-use Rattle.circuit.specs.Legal.{Headed}
+use Rattle.circuit.specs.WellFormed.{CircuitHeaded}
 use Rattle.circuit.specs.Theorems.{response}
 use Rattle.rows.specs.Rows.{Placed}
 use Rattle.rows.specs.declared.Layer.{Layer}
-use Rattle.classify.specs.Classified.{LayerOf, stateOf, Known}
+use Rattle.classify.specs.Classified.{LayerOf, stateNumber, Known}
 use Rattle.classify.proofs.Step.{same-front, next-is}
 use Rattle.emit.specs.Emitted.{entryOf, rowWords, layerWords}
-use Rattle.emit.specs.Listed.{newNumbers, isNew, listedEntry, listedRow, listed}
+use Rattle.emit.specs.Listed.{newNumbers, isNew, listedEntry, listedRow, listedLayer}
 use Rattle.emit.proofs.Laws.{joined-more, joined-none, joined-length, smallests, new-first, first-new}
 
 -- ---- what is read while a row is listed
@@ -68,15 +68,15 @@ module _ (s : List ℕ) (layer : Layer) (nexts : Bool) where
   new-tally zero = refl
   new-tally (suc h) = ap (λ n. cond (isNew s (layer .at) h) 1 0 + n) (new-tally h)
 
-  pub listed-long : (h : ℕ) → length (listed s layer nexts h) ≡ newNumbers s (layer .at) h * layer .fan
-  unfolding listed
+  pub listed-long : (h : ℕ) → length (listedLayer s layer nexts h) ≡ newNumbers s (layer .at) h * layer .fan
+  unfolding listedLayer
   listed-long h = joined-length (isNew s (layer .at)) (listedRow s layer nexts) (layer .fan) row-long h ∙ ap (λ n. n * layer .fan) (sym (new-tally h))
 
   pub new-most : (h : ℕ) → newNumbers s (layer .at) h ≤ h
   new-most h = omega (arith, new-tally h, tally-at-most (isNew s (layer .at)) h)
 
   -- there is room for one row more
-  pub row-room : (h : ℕ) → h < layer .size → length (listed s layer nexts h) + layer .fan ≤ layer .size * layer .fan
+  pub row-room : (h : ℕ) → h < layer .size → length (listedLayer s layer nexts h) + layer .fan ≤ layer .size * layer .fan
   row-room h l =
       let m : suc (newNumbers s (layer .at) h) ≤ layer .size = omega (arith, new-most h) in
       omega (arith, listed-long h, suc-mul (newNumbers s (layer .at) h) (layer .fan), mul-le-mul-right (layer .fan) m)
@@ -112,7 +112,7 @@ reaches n m s a x k q e = omega (arith, sym (length-take (n + m) s) ∙ ap lengt
 
 -- s is s₀ with the rows of the first h histories listed, which are `count` entries
 module _ (layer : Layer) (nexts : Bool) (s₀ s : List ℕ) (P : Placed s₀ layer) (ls : length s ≡ length s₀) (h count : ℕ) (l : h < layer .size)
-    (ec : count ≡ length (listed s₀ layer nexts h)) (e : take (layer .responses + count) s ≡ take (layer .responses) s₀ ++ listed s₀ layer nexts h) where
+    (ec : count ≡ length (listedLayer s₀ layer nexts h)) (e : take (layer .responses + count) s ≡ take (layer .responses) s₀ ++ listedLayer s₀ layer nexts h) where
   half-kept : take (layer .responses) s ≡ take (layer .responses) s₀
   half-kept = begins (layer .responses) count s s₀ _ (omega (arith, P .responses-in)) (omega (arith, P .responses-in)) e .0
 
@@ -122,28 +122,28 @@ module _ (layer : Layer) (nexts : Bool) (s₀ s : List ℕ) (P : Placed s₀ lay
   module _ (fresh : ℕ) (ef : fresh ≡ newNumbers s₀ (layer .at) h) where
     -- the number of h is the next new one: its row is listed behind the others
     pub turn-new : getD s (layer .at + h) 0 ≡ fresh → (s₁ : List ℕ) → s₁ ≡ paste s (layer .responses + count) (listedRow s layer nexts h) (layer .fan)
-        → (fresh + 1 ≡ newNumbers s₀ (layer .at) (h + 1)) × (count + layer .fan ≡ length (listed s₀ layer nexts (h + 1)))
-        × (take (layer .responses + (count + layer .fan)) s₁ ≡ take (layer .responses) s₀ ++ listed s₀ layer nexts (h + 1))
-    unfolding listed
+        → (fresh + 1 ≡ newNumbers s₀ (layer .at) (h + 1)) × (count + layer .fan ≡ length (listedLayer s₀ layer nexts (h + 1)))
+        × (take (layer .responses + (count + layer .fan)) s₁ ≡ take (layer .responses) s₀ ++ listedLayer s₀ layer nexts (h + 1))
+    unfolding listedLayer
     turn-new en s₁ es =
         let new : T (isNew s₀ (layer .at) h) = eq-eqb (sym number-kept ∙ en ∙ ef) in
         let row : List ℕ = listedRow s₀ layer nexts h in
-        let more : listed s₀ layer nexts (h + 1) ≡ listed s₀ layer nexts h ++ row =
-        ap (listed s₀ layer nexts) (add-one h) ∙ joined-more (isNew s₀ (layer .at)) (listedRow s₀ layer nexts) h new in
+        let more : listedLayer s₀ layer nexts (h + 1) ≡ listedLayer s₀ layer nexts h ++ row =
+        ap (listedLayer s₀ layer nexts) (add-one h) ∙ joined-more (isNew s₀ (layer .at)) (listedRow s₀ layer nexts) h new in
         let long : length row ≡ layer .fan = row-long s₀ layer nexts h in
         let whole : layer .responses + (count + layer .fan) ≡ layer .responses + count + layer .fan = omega arith in (
           rw (add-one h) (omega (arith, new-tally s₀ layer nexts h, new-tally s₀ layer nexts (suc h), tally-more (isNew s₀ (layer .at)) h new)),
-          sym (ap length more ∙ length-append (listed s₀ layer nexts h) row ∙ omega arith),
+          sym (ap length more ∙ length-append (listedLayer s₀ layer nexts h) row ∙ omega arith),
           ap₂ take whole (es ∙ ap (λ r. paste s (layer .responses + count) r (layer .fan)) (row-kept layer s₀ s P nexts h half-kept l))
               ∙ take-paste s (layer .responses + count) row (layer .fan) (omega (arith, P .responses-in, row-room s₀ layer nexts h l)) (omega arith)
               ∙ ap₂ _++_ e (take-all (layer .fan) row (omega arith))
-              ∙ append-assoc (take (layer .responses) s₀) (listed s₀ layer nexts h) row
+              ∙ append-assoc (take (layer .responses) s₀) (listedLayer s₀ layer nexts h) row
               ∙ ap (λ r. take (layer .responses) s₀ ++ r) (sym more),
         )
 
     -- it is not: nothing changes
-    pub turn-old : (getD s (layer .at + h) 0 ≡ fresh → ⊥) → (fresh ≡ newNumbers s₀ (layer .at) (h + 1)) × (listed s₀ layer nexts h ≡ listed s₀ layer nexts (h + 1))
-    unfolding listed
+    pub turn-old : (getD s (layer .at + h) 0 ≡ fresh → ⊥) → (fresh ≡ newNumbers s₀ (layer .at) (h + 1)) × (listedLayer s₀ layer nexts h ≡ listedLayer s₀ layer nexts (h + 1))
+    unfolding listedLayer
     turn-old en =
         let old : T (isNew s₀ (layer .at) h) → ⊥ = λ n. en (number-kept ∙ eqb→eq _ _ n ∙ sym ef) in (
           rw (add-one h) (omega (arith, new-tally s₀ layer nexts h, new-tally s₀ layer nexts (suc h), tally-none (isNew s₀ (layer .at)) h old)),
@@ -164,7 +164,7 @@ map-join f zero g = refl
 map-join f (suc n) g = map-app f (join n g) (g n) ∙ ap (λ r. r ++ map f (g n)) (map-join f n g)
 
 module _ (b : List ℕ) (t : ℕ) (bt : t < frames b) (layer : Layer) (L : LayerOf (2 ^ inputs b) (frames b) t layer) (s : List ℕ) (kn : Known b s 0) where
-  own-is : (h : ℕ) → h < (2 ^ inputs b) ^ t → getD s (layer .at + h) 0 ≡ stateOf b t h
+  own-is : (h : ℕ) → h < (2 ^ inputs b) ^ t → getD s (layer .at + h) 0 ≡ stateNumber b t h
   unfolding Known
   own-is h l = ap (λ j. getD s (j + h) 0) (L .at-is) ∙ kn t h (omega arith) bt l
 
@@ -189,8 +189,8 @@ module _ (b : List ℕ) (t : ℕ) (bt : t < frames b) (layer : Layer) (L : Layer
         ∙ ap (λ k. join k (λ w. f (listedEntry s layer nexts (h * k + w)) ∷ [])) (L .fan-is)
         ∙ join-cong (2 ^ inputs b) _ _ (λ w k. ap (λ x. x ∷ []) (entry-is (h * 2 ^ inputs b + w) (digit-below t l k)))
 
-    pub listed-words : map f (listed s layer nexts (layer .size)) ≡ layerWords b nexts t ((2 ^ inputs b) ^ t)
-    unfolding listed layerWords
+    pub listed-words : map f (listedLayer s layer nexts (layer .size)) ≡ layerWords b nexts t ((2 ^ inputs b) ^ t)
+    unfolding listedLayer layerWords
     listed-words =
         map-join f (layer .size) _
         ∙ ap (λ k. join k (λ h. map f (cond (isNew s (layer .at) h) (listedRow s layer nexts h) []))) (L .size-is)
@@ -201,14 +201,14 @@ module _ (b : List ℕ) (t : ℕ) (bt : t < frames b) (layer : Layer) (L : Layer
         go h l false = refl
 
   -- the next states are listed themselves
-  pub nexts-listed : Headed b → (nexts : Bool) → nexts ≡ true → listed s layer nexts (layer .size) ≡ layerWords b nexts t ((2 ^ inputs b) ^ t)
+  pub nexts-listed : CircuitHeaded b → (nexts : Bool) → nexts ≡ true → listedLayer s layer nexts (layer .size) ≡ layerWords b nexts t ((2 ^ inputs b) ^ t)
   unfolding entryOf Known
   nexts-listed H nexts e =
       sym (map-same _)
       ∙ listed-words nexts (λ x. x) (λ i l. rw e (next-is b H t bt layer L s (λ u h lo hi k. kn u h (omega arith) hi k) i l))
 
   -- the outputs are the responses of what is listed
-  pub outputs-listed : (nexts : Bool) → nexts ≡ false → (u : ℕ) → u ≡ suc t → map (response b u) (listed s layer nexts (layer .size)) ≡ layerWords b nexts t ((2 ^ inputs b) ^ t)
+  pub outputs-listed : (nexts : Bool) → nexts ≡ false → (u : ℕ) → u ≡ suc t → map (response b u) (listedLayer s layer nexts (layer .size)) ≡ layerWords b nexts t ((2 ^ inputs b) ^ t)
   unfolding entryOf
   outputs-listed nexts e u eu = listed-words nexts (response b u) (λ i l. rw (e, eu))
 

@@ -6,11 +6,11 @@ use Rattle.sizes.specs.Sizes.{inputs, outputs, frames}
 use Rattle.layered.specs.Search.{join, tabulate}
 use Rattle.layered.specs.States.{first}
 use Rattle.circuit.specs.Theorems.{response}
-use Rattle.classify.specs.Classified.{stateOf, stateCount}
+use Rattle.classify.specs.Classified.{stateNumber, stateCount}
 
 -- entry i of layer t, which is that of history h and word w at h * 2^n + w: its next state, or its output
 unfoldable pub entryOf : (b : List ℕ) (nexts : Bool) (t i : ℕ) → ℕ
-entryOf b nexts t i = cond nexts (stateOf b (suc t) i) (response b (suc t) i)
+entryOf b nexts t i = cond nexts (stateNumber b (suc t) i) (response b (suc t) i)
 
 -- the entries of a history's row
 unfoldable pub rowWords : (b : List ℕ) (nexts : Bool) (t h : ℕ) → List ℕ

@@ -26,5 +26,5 @@ unfoldable pub listedRow : (s : List ℕ) (layer : Layer) (nexts : Bool) (h : �
 listedRow s layer nexts h = tabulate (layer .fan) (λ w. listedEntry s layer nexts (h * layer .fan + w))
 
 -- the rows of the first `size` histories whose number is new
-unfoldable pub listed : (s : List ℕ) (layer : Layer) (nexts : Bool) (size : ℕ) → List ℕ
-listed s layer nexts size = join size (λ h. cond (isNew s (layer .at) h) (listedRow s layer nexts h) [])
+unfoldable pub listedLayer : (s : List ℕ) (layer : Layer) (nexts : Bool) (size : ℕ) → List ℕ
+listedLayer s layer nexts size = join size (λ h. cond (isNew s (layer .at) h) (listedRow s layer nexts h) [])

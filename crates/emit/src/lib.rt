@@ -15,11 +15,11 @@ ghost use lib.Seq.{paste};
 ghost use Rattle.words.specs.Words.{stored};
 ghost use Rattle.sizes.specs.Sizes.{inputs, frames};
 ghost use Rattle.circuit.specs.Circuit.{allInputs};
-ghost use Rattle.circuit.specs.Legal.{Headed, HeadOf, Legal};
+ghost use Rattle.circuit.specs.WellFormed.{WellFormed};
 ghost use Rattle.rows.specs.Rows.{Placed};
 ghost use Rattle.classify.specs.Classified.{stateCount, Known, Counted};
 ghost use Rattle.emit.specs.Emitted.{layerWords, arrayWords, allWords};
-ghost use Rattle.emit.specs.Listed.{listedEntry, listedRow, listed};
+ghost use Rattle.emit.specs.Listed.{listedEntry, listedRow, listedLayer};
 
 // What is listed of entry i: its next state, or its index, which its response replaces later.
 fn listed_entry(scratch: &[u16], layer: Layer, nexts: bool, i: usize) -> u16
@@ -51,8 +51,8 @@ fn list_row(scratch: &mut [u16], layer: Layer, nexts: bool, h: usize, at: usize)
 fn list_layer(scratch: &mut [u16], layer: Layer, nexts: bool) -> usize
     requires { ⌜ Placed (now scratch) layer ⌝ }
     requires { ⌜ layer .size * layer .fan ≤ 65536 ⌝ }
-    ensures rows { λ r. ⌜ take (layer .responses + r) (now (scratch .exit)) ≡ take (layer .responses) (now (scratch .entry)) ++ listed (now (scratch .entry)) layer nexts (layer .size) ⌝ }
-    ensures count { λ r. ⌜ r ≡ length (listed (now (scratch .entry)) layer nexts (layer .size)) ⌝ }
+    ensures rows { λ r. ⌜ take (layer .responses + r) (now (scratch .exit)) ≡ take (layer .responses) (now (scratch .entry)) ++ listedLayer (now (scratch .entry)) layer nexts (layer .size) ⌝ }
+    ensures count { λ r. ⌜ r ≡ length (listedLayer (now (scratch .entry)) layer nexts (layer .size)) ⌝ }
 {
     let own = layer.at;
     let size = layer.size;
@@ -72,9 +72,7 @@ fn list_layer(scratch: &mut [u16], layer: Layer, nexts: bool) -> usize
 
 // Lists the entries of layer t in one of the two arrays behind the half, and answers how many there are. Their responses are computed at once.
 fn list_entries(circuit: &[u8], head: Head, scratch: &mut [u16], nexts: bool, t: usize) -> usize
-    requires { ⌜ Headed (now circuit) ⌝ }
-    requires { ⌜ HeadOf (now circuit) head ⌝ }
-    requires { ⌜ Legal (now circuit) ⌝ }
+    requires { ⌜ WellFormed (now circuit) head ⌝ }
     requires { ⌜ length (now scratch) ≡ 2 * 2 ^ allInputs (now circuit) ⌝ }
     requires { ⌜ Known (now circuit) (now scratch) 0 × (t < frames (now circuit)) ⌝ }
     ensures entries { λ r. ⌜ take (2 ^ allInputs (now (circuit .entry)) + r) (now (scratch .exit)) ≡ take (2 ^ allInputs (now (circuit .entry))) (now (scratch .entry)) ++ layerWords (now (circuit .entry)) nexts t ((2 ^ inputs (now (circuit .entry))) ^ t) ⌝ }
@@ -100,9 +98,7 @@ fn put_layer(
     result: &mut [u8],
     at: usize,
 ) -> usize
-    requires { ⌜ Headed (now circuit) ⌝ }
-    requires { ⌜ HeadOf (now circuit) head ⌝ }
-    requires { ⌜ Legal (now circuit) ⌝ }
+    requires { ⌜ WellFormed (now circuit) head ⌝ }
     requires { ⌜ length (now scratch) ≡ 2 * 2 ^ allInputs (now circuit) ⌝ }
     requires { ⌜ Known (now circuit) (now scratch) 0 × (t < frames (now circuit)) × (at + 2 * (stateCount (now circuit) t * 2 ^ inputs (now circuit)) ≤ length (now result)) ⌝ }
     ensures kept { λ _. ⌜ take (2 ^ allInputs (now (circuit .entry))) (now (scratch .exit)) ≡ take (2 ^ allInputs (now (circuit .entry))) (now (scratch .entry)) ⌝ }
@@ -124,9 +120,7 @@ fn put_array(
     result: &mut [u8],
     at: usize,
 ) -> usize
-    requires { ⌜ Headed (now circuit) ⌝ }
-    requires { ⌜ HeadOf (now circuit) head ⌝ }
-    requires { ⌜ Legal (now circuit) ⌝ }
+    requires { ⌜ WellFormed (now circuit) head ⌝ }
     requires { ⌜ length (now scratch) ≡ 2 * 2 ^ allInputs (now circuit) ⌝ }
     requires { ⌜ Known (now circuit) (now scratch) 0 × (at + 2 * length (arrayWords (now circuit) nexts (frames (now circuit))) ≤ length (now result)) ⌝ }
     ensures kept { λ _. ⌜ take (2 ^ allInputs (now (circuit .entry))) (now (scratch .exit)) ≡ take (2 ^ allInputs (now (circuit .entry))) (now (scratch .entry)) ⌝ }
@@ -143,9 +137,8 @@ fn put_array(
 
 // Writes the table to the front of the result. The half of the scratch behind the numbers is overwritten.
 pub fn write_table(circuit: &[u8], head: Head, plan: Plan, scratch: &mut [u16], result: &mut [u8])
-    requires { ⌜ Headed (now circuit) ⌝ }
-    requires { ⌜ HeadOf (now circuit) head ⌝ }
-    requires { ⌜ Legal (now circuit) × Counted (now circuit) plan ⌝ }
+    requires { ⌜ WellFormed (now circuit) head ⌝ }
+    requires { ⌜ Counted (now circuit) plan ⌝ }
     requires { ⌜ length (now scratch) ≡ 2 * 2 ^ allInputs (now circuit) ⌝ }
     requires { ⌜ Known (now circuit) (now scratch) 0 × (2 * length (allWords (now circuit)) ≤ length (now result)) ⌝ }
     ensures { λ _. ⌜ now (result .exit) ≡ stored 2 (now (result .entry)) 0 (allWords (now (circuit .entry))) ⌝ }

@@ -9,7 +9,7 @@ use lib.Seq.{drop-at}
 use borrow.Author.Tests.{lt-ltb, le-ltb}
 use Rattle.words.specs.Words.{stored, wordBytes}
 use Rattle.words.proofs.Laws.{allBytes-length}
-use Rattle.verdict.specs.Figures.{answer, resultAfter}
+use Rattle.verdict.specs.Judgements.{answer, resultAfter}
 use Rattle.verdict.specs.declared.Figures.{Figures}
 use Rattle.circuit.specs.Circuit.{checked}
 use Rattle.emit.specs.Emitted.{allWords}

@@ -4,7 +4,7 @@ use mathlib.Core.Path.{_≡_}
 use mathlib.Core.List.{List}
 use lib.Dec.{ltb}
 use lib.ListN.{length, take}
-use Rattle.verdict.specs.Figures.{answer, refuse}
+use Rattle.verdict.specs.Judgements.{answer, refuse}
 use Rattle.verdict.specs.declared.Figures.{Figures}
 use Rattle.sizes.specs.Sizes.{inputs, outputs, frames}
 use Rattle.folded.specs.Folded.{foldedBytes}

@@ -10,9 +10,9 @@ use verdict::Verdict;
 ghost use mathlib.Core.Path.{_≡_};
 ghost use Prim.Native.Nat.{_*_, _^_};
 ghost use lib.ListN.{length, replicate};
-ghost use Rattle.verdict.specs.Figures.{figures, resultAfter};
+ghost use Rattle.verdict.specs.Judgements.{figures, resultAfter};
 ghost use Rattle.circuit.specs.Circuit.{allInputs};
-ghost use Rattle.circuit.specs.Legal.{Headed, HeadOf, Legal};
+ghost use Rattle.circuit.specs.WellFormed.{WellFormed};
 ghost use Rattle.classify.specs.Classified.{Counted};
 ghost use Rattle.folded.specs.Folded.{foldedBytes, foldChecked, foldResult, foldScratch};
 ghost use Rattle.fold.specs.Fold.{roomChecked, Promised};
@@ -30,8 +30,7 @@ fn clear(scratch: &mut [u16])
 
 // How many bytes the table takes.
 fn bytes_needed(circuit: &[u8], head: Head, plan: Plan) -> usize
-    requires { ⌜ Headed (now circuit) ⌝ }
-    requires { ⌜ HeadOf (now circuit) head ⌝ }
+    requires { ⌜ WellFormed (now circuit) head ⌝ }
     requires { ⌜ Counted (now circuit) plan ⌝ }
     ensures { λ r. ⌜ r ≡ length (foldedBytes (now (circuit .entry))) ⌝ }
 {
@@ -46,9 +45,7 @@ fn bytes_needed(circuit: &[u8], head: Head, plan: Plan) -> usize
 
 // Folds an accepted circuit: classifies its histories in the scratch, which is just as long as needed, and writes the table if there is room.
 fn fold_in(circuit: &[u8], head: Head, scratch: &mut [u16], result: &mut [u8]) -> Verdict
-    requires { ⌜ Headed (now circuit) ⌝ }
-    requires { ⌜ HeadOf (now circuit) head ⌝ }
-    requires { ⌜ Legal (now circuit) ⌝ }
+    requires { ⌜ WellFormed (now circuit) head ⌝ }
     requires { ⌜ length (now scratch) ≡ 2 * 2 ^ allInputs (now circuit) ⌝ }
     ensures verdict { λ r. ⌜ figures r ≡ roomChecked (now (circuit .entry)) (length (now (result .entry))) ⌝ }
     ensures result { λ r. ⌜ now (result .exit) ≡ resultAfter (roomChecked (now (circuit .entry)) (length (now (result .entry)))) (foldedBytes (now (circuit .entry))) (now (result .entry)) ⌝ }

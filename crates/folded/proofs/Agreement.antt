@@ -7,7 +7,7 @@ use native.Mathlib.Omega.{arith}
 use Rattle.layered.specs.States.{Words, none, more}
 use Rattle.layered.specs.Machines.{Machine, Legal, feed, Gives, Renumbered}
 use Rattle.layered.proofs.Machines.{renumbered-trans, renumbered-feed}
-use Rattle.table.specs.Theorems.{reached}
+use Rattle.layered.specs.Machines.{reached}
 
 -- M and N are the same machine: states of layers 0 to T, start, and all entries of layers below T
 pub record Agree (K T : ℕ) (M N : Machine) : Type 0 where

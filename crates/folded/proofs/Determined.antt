@@ -16,9 +16,10 @@ use Rattle.circuit.specs.Circuit.{outputWords}
 use Rattle.circuit.specs.Theorems.{historyWords, response, Causal}
 use Rattle.table.specs.Table.{states, machine}
 use Rattle.folded.specs.Folded.{foldedBytes}
-use Rattle.table.specs.Theorems.{reached}
-use Rattle.folded.specs.Theorems.{numbered, stateOf, Smallest, Folding}
-use Rattle.folded.proofs.Histories.{words-length, words-append, words-whole, numbered-append, number-words, history-below, outputs-then, reached-append, reached-below, feed-then}
+use Rattle.layered.specs.Machines.{reached}
+use Rattle.folded.specs.Theorems.{historyNumber, stateOf, Smallest, Folding}
+use Rattle.layered.proofs.Feeding.{words-length, words-append, words-whole, reached-append, reached-below, feed-then}
+use Rattle.folded.proofs.Histories.{numbered-append, number-words, history-below, outputs-then}
 use Rattle.folded.proofs.Agreement.{Agree}
 use Rattle.folded.proofs.Checked.{Writable, passed-table}
 use Rattle.folded.proofs.Written.{Below, tableBytes}
@@ -68,7 +69,7 @@ module _
         (F .fewest (folded K T y) (legal K m T y B) (λ c W. gives K T y c W ∙ sym (O c W)) k h)
 
     -- histories come to one state exactly when they are equivalent
-    state-decides : {k : ℕ} {c d : List ℕ} → k ≤ T → Words K k c → Words K k d → (stateOf t c ≡ stateOf t d) ↔ Equivalent K T y k (numbered K 0 c) (numbered K 0 d)
+    state-decides : {k : ℕ} {c d : List ℕ} → k ≤ T → Words K k c → Words K k d → (stateOf t c ≡ stateOf t d) ↔ Equivalent K T y k (historyNumber K 0 c) (historyNumber K 0 d)
     state-decides {k} {c} {d} h W U =
         let N = no-telling K T y (outputWords b) O h W U in
         let A = F .apart k c d h W U in
@@ -80,7 +81,7 @@ module _
       rep : (s : ℕ) → List ℕ
       rep s = historyWords K k (history K T y k s)
 
-      rep-is : (s : ℕ) → s < count K T y k → Words K k (rep s) × (numbered K 0 (rep s) ≡ history K T y k s)
+      rep-is : (s : ℕ) → s < count K T y k → Words K k (rep s) × (historyNumber K 0 (rep s) ≡ history K T y k s)
       unfolding rep
       rep-is s l = number-words K k _ (history-is K T y k s l .0)
 
@@ -91,7 +92,7 @@ module _
           let (W, e) = rep-is s l in
           let X : Words K k d = subst (λ r. Words K r d) (words-length W) U in
           let E = number-decides K T y k _ _ .1 (state-decides h X W .0 q) in
-          omega (arith, e, history-least K T y k s (numbered K 0 d) (history-below X) (E ∙ ap (number K T y k) e ∙ history-is K T y k s l .1))
+          omega (arith, e, history-least K T y k s (historyNumber K 0 d) (history-below X) (E ∙ ap (number K T y k) e ∙ history-is K T y k s l .1))
 
       rep-below : (s : ℕ) → s < count K T y k → stateOf t (rep s) < count K T y k
       unfolding stateOf
@@ -111,12 +112,12 @@ module _
       rep-state = climbs (count K T y k) (λ s. stateOf t (rep s)) rep-below rep-climbs
 
       -- and each history comes to the state that has its number
-      state-is : {c : List ℕ} → Words K k c → stateOf t c ≡ number K T y k (numbered K 0 c)
+      state-is : {c : List ℕ} → Words K k c → stateOf t c ≡ number K T y k (historyNumber K 0 c)
       state-is {c} W =
-          let s : ℕ = number K T y k (numbered K 0 c) in
+          let s : ℕ = number K T y k (historyNumber K 0 c) in
           let l : s < count K T y k = number-below K T y k _ (history-below W) in
           let (U, e) = rep-is s l in
-          let q : s ≡ number K T y k (numbered K 0 (rep s)) = sym (ap (number K T y k) e ∙ history-is K T y k s l .1) in
+          let q : s ≡ number K T y k (historyNumber K 0 (rep s)) = sym (ap (number K T y k) e ∙ history-is K T y k s l .1) in
           state-decides h W U .1 (number-decides K T y k _ _ .0 q) ∙ rep-state s l
 
     -- ---- the machine
@@ -139,7 +140,7 @@ module _
           sym (head-eq-of-cons-eq a)
 
       next-is : number K T y (suc k) (history K T y k s * K + w) ≡ machine t .next k s w
-      unfolding stateOf reached numbered
+      unfolding stateOf reached historyNumber
       next-is =
           let g : k ≤ T = omega arith in
           let c : List ℕ = rep k g s in

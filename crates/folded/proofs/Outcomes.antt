@@ -1,6 +1,6 @@
 -- What folding answers and leaves in each case: refused by the circuit's check, by 6, by 7, or accepted; and what acceptance tells.
 use mathlib.Core.Path.{_≡_, refl, sym, ap, _∙_}
-use mathlib.Core.Bool.{Bool, true, false, not}
+use mathlib.Core.Bool.{Bool, true, false, not, cond}
 use mathlib.Core.List.{List, _++_}
 use Prim.Native.Nat.{ℕ, zero, suc, _*_, _≤_, _<_}
 use native.Mathlib.Omega.{arith}
@@ -8,7 +8,7 @@ use lib.Dec.{ltb, eqb, lit<}
 use lib.ListN.{length, take, drop, replicate}
 use lib.Seq.{take-at}
 use borrow.Author.Tests.{lt-ltb, le-ltb, ltb-false, ne-eqb}
-use Rattle.verdict.specs.Figures.{answer, figures, pick, refuse, andThen, refuseFirst, resultAfter}
+use Rattle.verdict.specs.Judgements.{answer, figures, refuse, andThen, refuseFirst, resultAfter}
 use Rattle.verdict.specs.declared.Figures.{Figures}
 use Rattle.verdict.specs.declared.Verdict.{Verdict}
 use Rattle.verdict.specs.declared.Verdict.the-variants.{Refused}
@@ -18,6 +18,7 @@ use Rattle.sizes.specs.Sizes.{inputs, outputs, frames, outside, sizesChecked}
 use Rattle.sizes.specs.Sized.{Sized}
 use Rattle.sizes.proofs.Laws.{sized}
 use Rattle.circuit.specs.Circuit.{gates, leftsAt, rightsAt, circuitLength, allOutputs, headChecked, literalsChecked, lookAheadChecked, checked}
+use Rattle.circuit.proofs.Accepted.{accepted as circuitAccepted}
 use Rattle.folded.specs.Folded.{foldedBytes, scratchNeeded, foldChecked, foldResult, foldScratch}
 
 -- ---- the numbers that a circuit's check can answer
@@ -30,7 +31,7 @@ module _ (k : ℕ) where
   under-then : (f g : Figures) → f .number < k → g .number < k → andThen f g .number < k
   under-then f g l m = go (eqb (f .number) 0)
     where
-      go : (t : Bool) → pick t g f .number < k
+      go : (t : Bool) → cond t g f .number < k
       go true = m
       go false = l
 
@@ -76,12 +77,7 @@ circuit-number b =
 
 -- of a circuit
 pub circuit-sized : (b : List ℕ) (p : ℕ) → checked b ≡ answer 0 p → Sized 8 (inputs b) (outputs b) (frames b)
-unfolding checked headChecked
-circuit-sized b p e =
-    let e₁ = both-accept (headChecked 8 b) _ p e in
-    let e₂ = passed (ltb (length b) 8) 1 (length b) _ (e₁ .0) refl (e₁ .1) in
-    let e₃ = both-accept (sizesChecked 8 (inputs b) (outputs b) (frames b)) _ (e₁ .0) (e₂ .1) in
-    sized 8 _ _ _ (e₃ .0) (e₃ .1)
+circuit-sized b p e = circuitAccepted b p e .sizes
 
 -- of folding
 pub record Accepted (b : List ℕ) (scratchRoom resultRoom p : ℕ) : Type 0 where

@@ -12,14 +12,15 @@ use Rattle.layered.specs.Machines.{folded}
 use Rattle.layered.proofs.States.{digit-below, empty-below, number-decides, number-below, number-order, history-is, history-least, equivalent-step}
 use Rattle.layered.proofs.Machines.{number-first}
 use Rattle.circuit.specs.Theorems.{historyWords}
-use Rattle.table.specs.Theorems.{reached}
-use Rattle.folded.specs.Theorems.{numbered}
-use Rattle.folded.proofs.Histories.{words-whole, history-below, number-words, outputs-then}
+use Rattle.layered.specs.Machines.{reached}
+use Rattle.folded.specs.Theorems.{historyNumber}
+use Rattle.folded.proofs.Histories.{history-below, number-words, outputs-then}
+use Rattle.layered.proofs.Feeding.{words-whole}
 
 module _ (K T : ℕ) (y : ℕ → ℕ → ℕ) where
   -- from the state of a history it comes to the state of what follows
-  reaches : {r : ℕ} {c : List ℕ} (t h : ℕ) → t + r ≤ T → h < K ^ t → Words K r c → reached (folded K T y) t (number K T y t h) c ≡ number K T y (t + r) (numbered K h c)
-  unfolding reached numbered
+  reaches : {r : ℕ} {c : List ℕ} (t h : ℕ) → t + r ≤ T → h < K ^ t → Words K r c → reached (folded K T y) t (number K T y t h) c ≡ number K T y (t + r) (historyNumber K h c)
+  unfolding reached historyNumber
   reaches t h e l none = ap (λ i. number K T y i h) (omega arith)
   reaches t h e l (more {k = r} {w = w} {c = c} k W) =
       let g : ℕ = history K T y t (number K T y t h) in
@@ -27,26 +28,26 @@ module _ (K T : ℕ) (y : ℕ → ℕ → ℕ) where
       let p : suc t + r ≡ t + suc r = omega arith in
       ap (λ q. reached (folded K T y) (suc t) q c) (number-decides K T y (suc t) _ _ .1 (s .1))
       ∙ reaches (suc t) (h * K + w) (omega arith) (digit-below t l k) W
-      ∙ ap (λ i. number K T y i (numbered K (h * K + w) c)) p
+      ∙ ap (λ i. number K T y i (historyNumber K (h * K + w) c)) p
 
   -- from the start
-  pub comes-to : {k : ℕ} {c : List ℕ} → k ≤ T → Words K k c → reached (folded K T y) 0 0 c ≡ number K T y k (numbered K 0 c)
+  pub comes-to : {k : ℕ} {c : List ℕ} → k ≤ T → Words K k c → reached (folded K T y) 0 0 c ≡ number K T y k (historyNumber K 0 c)
   comes-to {k} {c} b W =
       ap (λ q. reached (folded K T y) 0 q c) (sym (number-first K T y))
       ∙ reaches 0 0 (omega arith) (empty-below K) W
-      ∙ ap (λ i. number K T y i (numbered K 0 c)) (omega arith)
+      ∙ ap (λ i. number K T y i (historyNumber K 0 c)) (omega arith)
 
   -- two histories are equivalent exactly when no continuation tells them apart by the outputs `given`, which are the response's
   pub no-telling : (given : List ℕ → List ℕ) → ((c : List ℕ) → Words K T c → given c ≡ outputs K y 0 0 c) → {k : ℕ} {c d : List ℕ} → k ≤ T → Words K k c → Words K k d
-      → Equivalent K T y k (numbered K 0 c) (numbered K 0 d) ↔ ((e : List ℕ) → Words K (T - k) e → drop k (given (c ++ e)) ≡ drop k (given (d ++ e)))
+      → Equivalent K T y k (historyNumber K 0 c) (historyNumber K 0 d) ↔ ((e : List ℕ) → Words K (T - k) e → drop k (given (c ++ e)) ≡ drop k (given (d ++ e)))
   unfolding Equivalent
   no-telling given O {k} h W U = ((λ E e X. after W X ∙ E e X ∙ sym (after U X)), (λ S e X. sym (after W X) ∙ S e X ∙ after U X))
     where
-      after : {c e : List ℕ} → Words K k c → Words K (T - k) e → drop k (given (c ++ e)) ≡ outputs K y k (numbered K 0 c) e
+      after : {c e : List ℕ} → Words K k c → Words K (T - k) e → drop k (given (c ++ e)) ≡ outputs K y k (historyNumber K 0 c) e
       after {c} {e} W X = ap (drop k) (O (c ++ e) (words-whole h W X)) ∙ outputs-then K y e W
 
   -- a history that is the smallest of those that come to its state is the smallest of its class
-  pub smallest-class : (k h : ℕ) → h < K ^ k → ((d : List ℕ) → Words K k d → number K T y k (numbered K 0 d) ≡ number K T y k h → h ≤ numbered K 0 d)
+  pub smallest-class : (k h : ℕ) → h < K ^ k → ((d : List ℕ) → Words K k d → number K T y k (historyNumber K 0 d) ≡ number K T y k h → h ≤ historyNumber K 0 d)
       → (g : ℕ) → Equivalent K T y k g h → h ≤ g
   smallest-class k h l S g E = go (decLt g (K ^ k))
     where
@@ -60,7 +61,7 @@ module _ (K T : ℕ) (y : ℕ → ℕ → ℕ) where
   pub history-smallest : (k s : ℕ) → s < count K T y k → (g : ℕ) → Equivalent K T y k g (history K T y k s) → history K T y k s ≤ g
   history-smallest k s l =
       let i = history-is K T y k s l in
-      smallest-class k (history K T y k s) (i .0) (λ d W q. history-least K T y k s (numbered K 0 d) (history-below W) (q ∙ i .1))
+      smallest-class k (history K T y k s) (i .0) (λ d W q. history-least K T y k s (historyNumber K 0 d) (history-below W) (q ∙ i .1))
 
   -- a larger state has a larger smallest history
   pub history-climbs : (k s r : ℕ) → s < r → r < count K T y k → history K T y k s < history K T y k r

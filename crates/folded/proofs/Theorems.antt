@@ -7,7 +7,7 @@ use native.Mathlib.Omega.{arith}
 use lib.ListN.{length, drop}
 use Rattle.words.specs.Words.{wordBytes, allBytes}
 use Rattle.words.proofs.Laws.{bytes-injective}
-use Rattle.verdict.specs.Figures.{answer}
+use Rattle.verdict.specs.Judgements.{answer}
 use Rattle.sizes.specs.Sizes.{inputs, outputs, frames}
 use Rattle.sizes.specs.Sized.{Sized}
 use Rattle.layered.specs.States.{Words, outputs as outputsOf, number, history}
@@ -19,9 +19,10 @@ use Rattle.circuit.specs.Circuit.{outputWords}
 use Rattle.circuit.specs.Theorems.{historyWords, response, Causal, AcceptedCausal}
 use Rattle.table.specs.Table.{states, machine, checked}
 use Rattle.folded.specs.Folded.{foldedBytes, foldChecked}
-use Rattle.folded.specs.Theorems.{numbered, stateOf, Smallest, Folding, Canonical, Foldings}
+use Rattle.folded.specs.Theorems.{historyNumber, stateOf, Smallest, Folding, Canonical, Foldings}
 use Rattle.circuit.proofs.Causal.{causal}
-use Rattle.folded.proofs.Histories.{words-length, number-words, history-below}
+use Rattle.folded.proofs.Histories.{number-words, history-below}
+use Rattle.layered.proofs.Feeding.{words-length}
 use Rattle.folded.proofs.Agreement.{Agree, agree-renumberings, agree-reached, agree-gives}
 use Rattle.folded.proofs.Written.{tableBytes, fits, inputs-back, outputs-back, frames-back, machine-back, bytes-pass}
 use Rattle.folded.proofs.Response.{comes-to, no-telling, smallest-class}
@@ -36,7 +37,7 @@ module _
     (B : (t h : ℕ) → y t h < 2 ^ m)
     (A : Agree K T (folded K T y) (machine t))
   where
-    state-is : {k : ℕ} {c : List ℕ} → k ≤ T → Words K k c → stateOf t c ≡ number K T y k (numbered K 0 c)
+    state-is : {k : ℕ} {c : List ℕ} → k ≤ T → Words K k c → stateOf t c ≡ number K T y k (historyNumber K 0 c)
     unfolding stateOf
     state-is h W = agree-reached (folded K T y) (machine t) (legal K m T y B) A 0 0 (omega arith) (legal K m T y B .start-is) W ∙ comes-to K T y h W
 
@@ -44,7 +45,7 @@ module _
         → (stateOf t c ≡ stateOf t d) ↔ ((e : List ℕ) → Words K (T - k) e → drop k (outputWords b (c ++ e)) ≡ drop k (outputWords b (d ++ e)))
     apart k c d h W U =
         let N = no-telling K T y (outputWords b) F h W U in
-        let D = number-decides K T y k (numbered K 0 c) (numbered K 0 d) in
+        let D = number-decides K T y k (historyNumber K 0 c) (historyNumber K 0 d) in
         ((λ q. N .0 (D .0 (sym (state-is h W) ∙ q ∙ state-is h U))), (λ S. state-is h W ∙ D .1 (N .1 S) ∙ sym (state-is h U)))
 
     every-state : (k s : ℕ) → k ≤ T → s < states t k → (c : List ℕ) × Words K k c × (stateOf t c ≡ s)
@@ -53,11 +54,11 @@ module _
         let (W, e) = number-words K k _ (i .0) in
         (historyWords K k (history K T y k s), W, state-is h W ∙ ap (number K T y k) e ∙ i .1)
 
-    in-order : (k : ℕ) (c d : List ℕ) → k ≤ T → Words K k c → Words K k d → Smallest K t c → Smallest K t d → numbered K 0 c < numbered K 0 d
+    in-order : (k : ℕ) (c d : List ℕ) → k ≤ T → Words K k c → Words K k d → Smallest K t c → Smallest K t d → historyNumber K 0 c < historyNumber K 0 d
         → stateOf t c < stateOf t d
     unfolding Smallest
     in-order k c d h W U S R l =
-        let i = smallest-class K T y k (numbered K 0 d) (history-below U) (λ e X q.
+        let i = smallest-class K T y k (historyNumber K 0 d) (history-below U) (λ e X q.
         R e (subst (λ r. Words K r e) (sym (words-length U)) X) (state-is h X ∙ q ∙ sym (state-is h U))) in
         rw (state-is h W, state-is h U) (number-order K T y k _ _ l i)
 

@@ -10,7 +10,7 @@ use lib.ListN.{length, getD, length-append, List·getD-append}
 use lib.Seq.{getD-append-add}
 use Rattle.words.specs.Words.{wordAt, wordBytes, bytesOf, allBytes, Fit, more}
 use Rattle.words.proofs.Laws.{allBytes-length, fit-append, fit-at, word-back}
-use Rattle.verdict.specs.Figures.{answer}
+use Rattle.verdict.specs.Judgements.{answer}
 use Rattle.sizes.specs.Sizes.{inputs, outputs, frames}
 use Rattle.layered.specs.Search.{join, tabulate, total}
 use Rattle.layered.specs.Machines.{Machine, entries, tableWords}

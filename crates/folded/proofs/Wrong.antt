@@ -14,7 +14,7 @@ use Rattle.circuit.specs.Lists.{grown, bit, packed}
 use Rattle.circuit.specs.Circuit.{gates, leftsAt, rightsAt, literalAt, allInputs, allOutputs, gateSignal, outputSignal, inputValues, literalValue, gateValue, signalValues, outputWord, outputWords}
 use Rattle.sizes.specs.Sizes.{inputs, outputs, frames}
 use Rattle.table.specs.Table.{states, machine}
-use Rattle.folded.specs.Theorems.{numbered, stateOf, Smallest, Folding}
+use Rattle.folded.specs.Theorems.{historyNumber, stateOf, Smallest, Folding}
 use Rattle.folded.proofs.Checked.{passed-table}
 
 -- ---- circuits
@@ -87,7 +87,7 @@ next-output-alone t e F =
 
 -- Numbering states by discovery backwards in time: the state of x1 = 1 is not the first.
 pub backwards : (t : List ℕ) → stateOf t (1 ∷ []) ≡ 0 → ¬ Folding 2 1 2 parity t
-unfolding numbered Smallest
+unfolding historyNumber Smallest
 backwards t e F = omega (arith, F .in-order 1 (0 ∷ []) (1 ∷ []) (lit≤ tt) (bit-below 0 (lit< tt)) (bit-below 1 (lit< tt)) first second (lit< tt))
   where
     first : Smallest 2 t (0 ∷ [])

@@ -1,11 +1,11 @@
 -- What folding answers and leaves: the table of the circuit's response, as bytes.
 use Prim.Native.Nat.{ℕ, _*_, _^_}
-use mathlib.Core.Bool.{_||_}
+use mathlib.Core.Bool.{_||_, cond}
 use mathlib.Core.List.{List, _++_}
 use lib.Dec.{ltb, eqb}
 use lib.ListN.{length, drop, replicate}
 use Rattle.words.specs.Words.{wordBytes}
-use Rattle.verdict.specs.Figures.{answer, pick, refuse, andThen, resultAfter}
+use Rattle.verdict.specs.Judgements.{answer, refuse, andThen, resultAfter}
 use Rattle.verdict.specs.declared.Figures.{Figures}
 use Rattle.sizes.specs.Sizes.{inputs, outputs, frames}
 use Rattle.layered.specs.Machines.{tableWords, folded}
@@ -37,4 +37,4 @@ foldResult b scratchRoom before = resultAfter (foldChecked b scratchRoom (length
 unfoldable pub foldScratch : List ℕ → (before : List ℕ) (resultRoom : ℕ) → List ℕ
 foldScratch b before resultRoom =
     let f = foldChecked b (length before) resultRoom in
-    pick (eqb (f .number) 0 || eqb (f .number) 7) (replicate (scratchNeeded b) 0 ++ drop (scratchNeeded b) before) before
+    cond (eqb (f .number) 0 || eqb (f .number) 7) (replicate (scratchNeeded b) 0 ++ drop (scratchNeeded b) before) before

@@ -5,19 +5,19 @@ use mathlib.Core.Path.{_≡_}
 use mathlib.Core.Logic.{_↔_}
 use mathlib.Core.List.{List, [], _∷_, _++_}
 use lib.ListN.{length, take, drop}
-use Rattle.verdict.specs.Figures.{answer}
+use Rattle.verdict.specs.Judgements.{answer}
 use Rattle.sizes.specs.Sizes.{inputs, outputs, frames}
 use Rattle.layered.specs.States.{Words}
 use Rattle.layered.specs.Machines.{Machine, Legal, Gives, Renumbered}
 use Rattle.circuit.specs.Circuit.{outputWords}
 use Rattle.table.specs.Table.{states, machine, checked}
-use Rattle.table.specs.Theorems.{reached}
+use Rattle.layered.specs.Machines.{reached}
 use Rattle.folded.specs.Folded.{foldChecked, foldResult}
 
 -- the number of the history h followed by the words c: first word highest
-unfoldable pub numbered : (K h : ℕ) → List ℕ → ℕ
-numbered K h [] = h
-numbered K h (w ∷ c) = numbered K (h * K + w) c
+unfoldable pub historyNumber : (K h : ℕ) → List ℕ → ℕ
+historyNumber K h [] = h
+historyNumber K h (w ∷ c) = historyNumber K (h * K + w) c
 
 -- the state of the table that the history c comes to
 unfoldable pub stateOf : List ℕ → List ℕ → ℕ
@@ -25,7 +25,7 @@ stateOf t c = reached (machine t) 0 0 c
 
 -- c is the smallest of the histories of its length that come to the same state
 unfoldable pub Smallest : (K : ℕ) (t c : List ℕ) → Type 0
-Smallest K t c = (d : List ℕ) → Words K (length c) d → stateOf t d ≡ stateOf t c → numbered K 0 c ≤ numbered K 0 d
+Smallest K t c = (d : List ℕ) → Words K (length c) d → stateOf t d ≡ stateOf t c → historyNumber K 0 c ≤ historyNumber K 0 d
 
 module _ (K m T : ℕ) (b t : List ℕ) where
   -- of the circuit b with 2^n = K, m outputs and T frames
@@ -40,7 +40,7 @@ module _ (K m T : ℕ) (b t : List ℕ) where
     -- every state is reached
     pub every-state : (k s : ℕ) → k ≤ T → s < states t k → (c : List ℕ) × Words K k c × (stateOf t c ≡ s)
     -- a layer's states are numbered by their smallest history
-    pub in-order : (k : ℕ) (c d : List ℕ) → k ≤ T → Words K k c → Words K k d → Smallest K t c → Smallest K t d → numbered K 0 c < numbered K 0 d
+    pub in-order : (k : ℕ) (c d : List ℕ) → k ≤ T → Words K k c → Words K k d → Smallest K t c → Smallest K t d → historyNumber K 0 c < historyNumber K 0 d
         → stateOf t c < stateOf t d
     -- the bytes pass every check, and run from the start they give the circuit's outputs on every sequence
     pub legal : checked t ≡ answer 0 0

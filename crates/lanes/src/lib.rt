@@ -9,7 +9,7 @@ ghost use lib.ListN.{length, take, drop};
 ghost use Rattle.sizes.specs.Sizes.{frames};
 ghost use Rattle.circuit.specs.Lists.{listed, bit, packed};
 ghost use Rattle.circuit.specs.Circuit.{inputValues};
-ghost use Rattle.circuit.specs.Legal.{Headed, HeadOf, Legal};
+ghost use Rattle.circuit.specs.WellFormed.{WellFormed};
 ghost use Rattle.lanes.specs.Lanes.{lane, literalLanes, sequence, Lanes, SignalLanes};
 
 // Room for the lanes of all signals.
@@ -55,9 +55,7 @@ fn literal_lanes(lanes: u64, literal: usize) -> u64
 
 // Stores the lanes of all signals on histories of t words.
 pub fn store_signals(circuit: &[u8], head: Head, t: usize, histories: &[u16], lanes: &mut [u64])
-    requires { ⌜ Headed (now circuit) ⌝ }
-    requires { ⌜ HeadOf (now circuit) head ⌝ }
-    requires { ⌜ Legal (now circuit) ⌝ }
+    requires { ⌜ WellFormed (now circuit) head ⌝ }
     requires { ⌜ (t ≤ frames (now circuit)) × (length (now histories) ≤ 64) × (4113 ≤ length (now lanes)) ⌝ }
     ensures { λ _. ⌜ SignalLanes (now (circuit .entry)) t (now (histories .entry)) (now (lanes .exit)) ⌝ }
 {

@@ -4,11 +4,12 @@ use Prim.Native.Char.{code}
 use Prim.Native.String.{String}
 use Prim.Native.String as text
 use mathlib.Core.Path.{_≡_}
+use mathlib.Core.Bool.{cond}
 use mathlib.Core.List.{List, [], _∷_, _++_}
 use lib.Dec.{ltb, eqb}
 use lib.ListN.{length}
 use lib.Seq.{sets}
-use Rattle.verdict.specs.Figures.{pick}
+use Rattle.verdict.specs.Judgements.{}
 use Rattle.verdict.specs.declared.Figures.{Figures}
 use Rattle.sizes.specs.Sizes.{frames}
 use Rattle.table.specs.Table.{states, headChecked}
@@ -25,7 +26,7 @@ unfoldable pub digits : (k n : ℕ) → List ℕ
 digits zero n = []
 digits (suc k) n =
     let front = digits k (n / 10) in
-    pick (ltb n 10) [] front ++ ((48 + n % 10) ∷ [])
+    cond (ltb n 10) [] front ++ ((48 + n % 10) ∷ [])
 
 -- a number in decimal: it has no more than n + 1 digits
 unfoldable pub decimal : ℕ → List ℕ
@@ -66,13 +67,13 @@ refusalLine number place = ascii "refused " ++ pairLine number place
 -- the lines of a fold that answered f and, where it accepted, wrote the table b; none where the head of that is refused
 unfoldable pub reportOf : Figures → (table : List ℕ) → List ℕ
 reportOf f b =
-    pick (eqb (f .number) 0)
-    (pick (eqb (headChecked b .number) 0) (tableLines b) [])
+    cond (eqb (f .number) 0)
+    (cond (eqb (headChecked b .number) 0) (tableLines b) [])
     (refusalLine (f .number) (f .place))
 
 -- those that go into a buffer of `room` bytes: none where it is shorter than 256 bytes, in which there is room for any
 unfoldable pub reported : Figures → (table : List ℕ) (room : ℕ) → List ℕ
-reported f b room = pick (ltb room 256) [] (reportOf f b)
+reported f b room = cond (ltb room 256) [] (reportOf f b)
 
 -- ---- how the code makes them
 

@@ -8,7 +8,7 @@ ghost use mathlib.Core.Path.{_≡_};
 ghost use mathlib.Core.List.{_++_};
 ghost use Prim.Native.Nat.{_+_, _*_, _≤_};
 ghost use lib.ListN.{length, drop};
-ghost use Rattle.table.specs.Headed.{Headed};
+ghost use Rattle.table.specs.Sound.{TableHeaded};
 ghost use Rattle.report.specs.Report.{decimal, field, pairLine, layerLines, statesBelow, totalLine, tableLines, refusalLine, reported, Appended};
 
 // The length of a buffer into which every report fits.
@@ -101,7 +101,7 @@ fn append_total(out: &mut [u8], at: usize, total: usize) -> usize
 // The lines of a table.
 fn append_table(out: &mut [u8], table: &[u8]) -> usize
     requires { ⌜ 256 ≤ length (now out) ⌝ }
-    requires { ⌜ Headed (now table) ⌝ }
+    requires { ⌜ TableHeaded (now table) ⌝ }
     ensures { λ r. ⌜ Appended (now (out .entry)) 0 (tableLines (now (table .entry))) (now (out .exit)) r ⌝ }
 {
     let count = Sizes::read(table).frames + 1;

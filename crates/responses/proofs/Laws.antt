@@ -14,7 +14,7 @@ use Rattle.layered.specs.Search.{join, tabulate}
 use Rattle.layered.proofs.Rows.{pow-mul}
 use Rattle.circuit.specs.Lists.{grown, listed, packed}
 use Rattle.circuit.specs.Circuit.{gates, gateSignal, outputSignal}
-use Rattle.circuit.specs.Legal.{Headed, HeadOf}
+use Rattle.circuit.specs.WellFormed.{CircuitHeaded, HeadOf}
 use Rattle.circuit.specs.declared.Head.{Head}
 use Rattle.circuit.specs.Theorems.{response}
 use Rattle.circuit.proofs.Laws.{signals-fit, output-at, output-room, word-is}
@@ -64,7 +64,7 @@ module _ (f : ℕ → ℕ) where
 abbrev pub firstOutput : Head → (t : ℕ) → ℕ
 firstOutput head t = head .base + (head .gates - head .total) + head .outputs * (t - 1)
 
-module _ (b : List ℕ) (head : Head) (H : Headed b) (O : HeadOf b head) (t : ℕ) (from : 1 ≤ t) (to : t ≤ frames b) where
+module _ (b : List ℕ) (head : Head) (H : CircuitHeaded b) (O : HeadOf b head) (t : ℕ) (from : 1 ≤ t) (to : t ≤ frames b) where
   first-is : firstOutput head t ≡ outputSignal b (outputs b * (t - 1))
   first-is = rw (O .outputs-is) (output-at b (head .base) (head .gates) (head .total) (outputs b * (t - 1)) (O .base-is) (O .gates-is) (O .total-is))
 
@@ -87,7 +87,7 @@ module _ (b : List ℕ) (head : Head) (H : Headed b) (O : HeadOf b head) (t : �
 -- ---- all histories
 
 -- how many there are of t words, by `1 << n * t`
-module _ (b : List ℕ) (H : Headed b) (n t : ℕ) (en : n ≡ inputs b) (l : t ≤ frames b) where
+module _ (b : List ℕ) (H : CircuitHeaded b) (n t : ℕ) (en : n ≡ inputs b) (l : t ≤ frames b) where
   pub bits-to : n * t ≤ 16
   bits-to = rw en (omega (arith, mul-le-mul-left (inputs b) l, H .sizes .bits-to))
 

@@ -8,15 +8,13 @@ ghost use mathlib.Core.List.{map};
 ghost use Prim.Native.Nat.{_+_, _^_, _≤_, min};
 ghost use lib.ListN.{length};
 ghost use Rattle.sizes.specs.Sizes.{inputs, frames};
-ghost use Rattle.circuit.specs.Legal.{Headed, HeadOf, Legal};
+ghost use Rattle.circuit.specs.WellFormed.{WellFormed};
 ghost use Rattle.circuit.specs.Theorems.{response};
 ghost use Rattle.responses.specs.Responses.{filled};
 
 // Replaces each of up to 64 histories by the response of frame t, from 1, to it. All are simulated side by side.
 fn respond_part(circuit: &[u8], head: Head, t: usize, lanes: &mut [u64], histories: &mut [u16])
-    requires { ⌜ Headed (now circuit) ⌝ }
-    requires { ⌜ HeadOf (now circuit) head ⌝ }
-    requires { ⌜ Legal (now circuit) ⌝ }
+    requires { ⌜ WellFormed (now circuit) head ⌝ }
     requires { ⌜ (1 ≤ t) × (t ≤ frames (now circuit)) ⌝ }
     requires { ⌜ (4113 ≤ length (now lanes)) × (length (now histories) ≤ 64) ⌝ }
     ensures { λ _. ⌜ now (histories .exit) ≡ map (response (now (circuit .entry)) t) (now (histories .entry)) ⌝ }
@@ -37,9 +35,7 @@ fn part_end(at: usize, count: usize) -> usize
 
 // Replaces each history by the response of frame t, from 1, to it.
 pub fn respond_each(circuit: &[u8], head: Head, t: usize, histories: &mut [u16])
-    requires { ⌜ Headed (now circuit) ⌝ }
-    requires { ⌜ HeadOf (now circuit) head ⌝ }
-    requires { ⌜ Legal (now circuit) ⌝ }
+    requires { ⌜ WellFormed (now circuit) head ⌝ }
     requires { ⌜ (1 ≤ t) × (t ≤ frames (now circuit)) ⌝ }
     ensures { λ _. ⌜ now (histories .exit) ≡ map (response (now (circuit .entry)) t) (now (histories .entry)) ⌝ }
 {
@@ -55,9 +51,7 @@ pub fn respond_each(circuit: &[u8], head: Head, t: usize, histories: &mut [u16])
 
 // Stores the responses of frame t, from 1, to all its histories.
 pub fn fill(circuit: &[u8], head: Head, t: usize, responses: &mut [u16])
-    requires { ⌜ Headed (now circuit) ⌝ }
-    requires { ⌜ HeadOf (now circuit) head ⌝ }
-    requires { ⌜ Legal (now circuit) ⌝ }
+    requires { ⌜ WellFormed (now circuit) head ⌝ }
     requires { ⌜ (1 ≤ t) × (t ≤ frames (now circuit)) ⌝ }
     requires { ⌜ (2 ^ inputs (now circuit)) ^ t ≤ length (now responses) ⌝ }
     ensures { λ _. ⌜ now (responses .exit) ≡ filled (now (circuit .entry)) t (now (responses .entry)) ⌝ }

@@ -1,4 +1,4 @@
 -- The proofs of `rows`: laws by subject, lowest first.
 pub mod Laws
-pub mod Chains
+pub mod Buckets
 pub mod Numbers

@@ -4,7 +4,7 @@ ghost use mathlib.Core.Path.{_≡_};
 ghost use Prim.Native.Nat.{_*_, _<_};
 ghost use lib.ListN.{replicate};
 ghost use Rattle.rows.specs.Rows.{Placed, outIn, nextIn, firstWith, rowCount, numbered};
-ghost use Rattle.rows.specs.Chains.{Entry, Linked, hashIn, chainIn};
+ghost use Rattle.rows.specs.Buckets.{Entry, Linked, hashIn, bucketIn};
 
 // Where a layer lies in scratch: `size` histories whose numbers go to `at`, `fan` words each; the entry of history h and word w has its output
 // at `responses` + h * fan + w, and its next state at `nexts` + h * fan + w, or 0 in the last layer.
@@ -41,17 +41,17 @@ fn entry(scratch: &[u16], layer: Layer, i: usize) -> usize
     out + 65536 * next_state(scratch, layer, i) as usize
 }
 
-// As many chains as there are hashes.
-const CHAINS: usize = 8161;
+// As many buckets as there are hashes.
+const BUCKETS: usize = 8161;
 
 // A link for each history: a layer has no more.
 const LINKS: usize = 32768;
 
-// No chain has a history yet.
-fn no_chains() -> [u16; CHAINS]
+// No bucket has a history yet.
+fn no_buckets() -> [u16; BUCKETS]
     ensures { λ r. ⌜ r ≡ replicate 8161 0 ⌝ }
 {
-    [0; CHAINS]
+    [0; BUCKETS]
 }
 
 fn no_links() -> [u16; LINKS]
@@ -69,18 +69,18 @@ fn row_hash(scratch: &[u16], layer: Layer, h: usize) -> usize
     let fan = layer.fan;
     let mut hash: usize = 0;
     for w in 0..fan {
-        hash = (hash * 769 + entry(scratch, layer, h * fan + w)) % CHAINS;
+        hash = (hash * 769 + entry(scratch, layer, h * fan + w)) % BUCKETS;
     }
     hash
 }
 
-// The first history with the row of h, sought along the chain of its hash, which starts at `start` and goes on by links. Two rows differ as soon
+// The first history with the row of h, sought along the bucket of its hash, which starts at `start` and goes on by links. Two rows differ as soon
 // as one word tells them apart.
 fn seek(scratch: &[u16], layer: Layer, links: &[u16], start: u16, h: usize) -> usize
     requires { ⌜ Placed (now scratch) layer ⌝ }
     requires { ⌜ h < layer .size ⌝ }
     requires { ⌜ Linked (layer .fan) (outIn (now scratch) layer) (nextIn (now scratch) layer) (now links) h ⌝ }
-    requires { ⌜ start ≡ chainIn (now scratch) layer h ⌝ }
+    requires { ⌜ start ≡ bucketIn (now scratch) layer h ⌝ }
     ensures { λ r. ⌜ r ≡ firstWith (layer .fan) (outIn (now (scratch .entry)) layer) (nextIn (now (scratch .entry)) layer) h ⌝ }
 {
     let fan = layer.fan;
@@ -98,7 +98,7 @@ fn seek(scratch: &[u16], layer: Layer, links: &[u16], start: u16, h: usize) -> u
     h
 }
 
-// Stores the number of each history of a layer, and answers how many different numbers there are. The first history with each row is in the chain
+// Stores the number of each history of a layer, and answers how many different numbers there are. The first history with each row is in the bucket
 // of the row's hash, the latest foremost, so that a row is compared with few others.
 pub fn number_layer(scratch: &mut [u16], layer: Layer) -> usize
     requires { ⌜ Placed (now scratch) layer ⌝ }
@@ -107,12 +107,12 @@ pub fn number_layer(scratch: &mut [u16], layer: Layer) -> usize
 {
     let at = layer.at;
     let size = layer.size;
-    let mut chains = no_chains();
+    let mut buckets = no_buckets();
     let mut links = no_links();
     let mut fresh: u16 = 0;
     for h in 0..size {
         let hash = row_hash(scratch, layer, h);
-        let start = chains[hash];
+        let start = buckets[hash];
         let g = seek(scratch, layer, &links, start, h);
         let mut number = fresh;
         if g < h {
@@ -120,7 +120,7 @@ pub fn number_layer(scratch: &mut [u16], layer: Layer) -> usize
         } else {
             fresh += 1;
             links[h] = start;
-            chains[hash] = (h + 1) as u16;
+            buckets[hash] = (h + 1) as u16;
         }
         scratch[at + h] = number;
     }

@@ -9,7 +9,7 @@ use lib.ListN.{length, getD}
 use lib.Pow.{shl-exact}
 use lib.Dec.{ltb, leb, eqb, lit<}
 use borrow.Author.Tests.{ltb-false, le-ltb, leb-false, eqb-true}
-use Rattle.verdict.specs.Figures.{answer}
+use Rattle.verdict.specs.Judgements.{answer}
 use Rattle.verdict.specs.declared.Figures.{Figures}
 use Rattle.verdict.proofs.Laws.{both-accept, passed, none-found}
 use Rattle.sizes.specs.Sizes.{outside, sizesChecked, wordsChecked, sequenceChecked}

@@ -5,7 +5,7 @@ use mathlib.Core.List.{List}
 use lib.Dec.{ltb, leb, eqb}
 use lib.ListN.{length, getD}
 use Rattle.words.specs.Words.{wordAt}
-use Rattle.verdict.specs.Figures.{answer, refuse, refuseFirst, andThen}
+use Rattle.verdict.specs.Judgements.{answer, refuse, refuseFirst, andThen}
 use Rattle.verdict.specs.declared.Figures.{Figures}
 
 -- n, m and T of document 01

@@ -5,7 +5,7 @@ use words::read;
 ghost use mathlib.Core.Path.{_≡_};
 ghost use Prim.Native.Nat.{_≤_};
 ghost use lib.ListN.{length};
-ghost use Rattle.verdict.specs.Figures.{figures};
+ghost use Rattle.verdict.specs.Judgements.{figures};
 ghost use Rattle.sizes.specs.Sizes.{outside, sizesChecked, wordsChecked, sequenceChecked};
 ghost use Rattle.sizes.specs.Sized.{sizesOf};
 

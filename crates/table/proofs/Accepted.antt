@@ -1,20 +1,20 @@
 -- What acceptance tells of a table. Assumes nothing.
 use mathlib.Core.Path.{_≡_, refl, sym, ap, _∙_}
-use mathlib.Core.Bool.{Bool, true, false, not, _||_, or-true}
+use mathlib.Core.Bool.{Bool, true, false, not, _||_, or-true, cond}
 use mathlib.Core.List.{List}
 use Prim.Native.Nat.{ℕ, zero, suc, _+_, _*_, _/_, _^_, _≤_, _<_, zero-le}
 use native.Mathlib.Omega.{arith}
 use lib.Dec.{ltb, leb, eqb, lit≤}
 use lib.ListN.{length, take, drop, length-take, length-drop}
-use borrow.Author.Tests.{ltb-false, leb-false, eqb-true, eqb-false, eq-eqb, not-false}
+use borrow.Author.Tests.{leb-false, eqb-true, eq-eqb, not-false}
 use Rattle.words.specs.Words.{wordAt}
-use Rattle.verdict.specs.Figures.{answer, pick, refuse, firstRefusal}
+use Rattle.verdict.specs.Judgements.{answer, firstRefusal}
 use Rattle.verdict.specs.declared.Figures.{Figures}
 use Rattle.verdict.proofs.Laws.{both-accept, passed, none-found, row-accepts}
 use Rattle.sizes.specs.Sizes.{inputs, outputs, frames, outside, sizesChecked}
 use Rattle.sizes.proofs.Laws.{inside, sized}
-use Rattle.table.specs.Table.{countAt, states, headLength, entriesBelow, entryCount, outputsAt, nextsAt, tableLength, entryAt, layerPart, machine, countsChecked, headChecked, partChecked, outputsChecked, nextsChecked, checked, positionChecked}
-use Rattle.table.specs.Headed.{Headed, Sound}
+use Rattle.table.specs.Table.{countAt, states, headLength, entriesBelow, entryCount, outputsAt, nextsAt, tableLength, entryAt, layerPart, machine, countsChecked, headChecked, partChecked, outputsChecked, nextsChecked, checked}
+use Rattle.table.specs.Sound.{TableHeaded, Sound}
 use Rattle.table.specs.Theorems.{LegalTable}
 use Rattle.table.proofs.Offsets.{part-word, row-in, layer-in, arrays-stand}
 
@@ -22,22 +22,22 @@ use Rattle.table.proofs.Offsets.{part-word, row-in, layer-in, arrays-st
 
 -- each count is within its limits
 module _ (b : List ℕ) (p : ℕ) (e : countsChecked b ≡ answer 0 p) where
-  counted : (t : ℕ) → t ≤ frames b → (1 ≤ states b t) × (states b t ≤ pick (eqb t 0 || eqb t (frames b)) 1 32768)
+  counted : (t : ℕ) → t ≤ frames b → (1 ≤ states b t) × (states b t ≤ cond (eqb t 0 || eqb t (frames b)) 1 32768)
   unfolding countsChecked
   counted t h =
       inside 1 _ (states b t)
-      (none-found (λ t. outside 1 (pick (eqb t 0 || eqb t (frames b)) 1 32768) (states b t)) 2 countAt (answer 0 0) p 0 (suc (frames b)) refl e .0 t zero-le (omega arith))
+      (none-found (λ t. outside 1 (cond (eqb t 0 || eqb t (frames b)) 1 32768) (states b t)) 2 countAt (answer 0 0) p 0 (suc (frames b)) refl e .0 t zero-le (omega arith))
 
 -- the limits of a count are at most 32,768, and 1 for layer T
-either-most : (s : Bool) → pick s 1 32768 ≤ 32768
+either-most : (s : Bool) → cond s 1 32768 ≤ 32768
 either-most true = lit≤ tt
 either-most false = lit≤ tt
 
-last-most : (s t : Bool) → t ≡ true → pick (s || t) 1 32768 ≤ 1
+last-most : (s t : Bool) → t ≡ true → cond (s || t) 1 32768 ≤ 1
 last-most s t e = rw (e, or-true) (lit≤ tt)
 
 -- a head that is accepted
-pub headed : (b : List ℕ) (p : ℕ) → headChecked b ≡ answer 0 p → Headed b
+pub headed : (b : List ℕ) (p : ℕ) → headChecked b ≡ answer 0 p → TableHeaded b
 unfolding headChecked
 headed b p e =
     let e₁ = passed (ltb (length b) 6) 1 (length b) _ p refl e in
@@ -74,7 +74,7 @@ words-below limit at b start k p l e i h =
     rw (part-word b start (2 * k) (2 * i) r) at (part-below limit at _ p e i (omega arith))
 
 -- so the outputs and the next states of the machine are
-module _ (b : List ℕ) (p : ℕ) (h : Headed b) where
+module _ (b : List ℕ) (p : ℕ) (h : TableHeaded b) where
   below-outputs : outputsChecked b ≡ answer 0 p → (t s w : ℕ) → t < frames b → s < states b t → w < 2 ^ inputs b → machine b .out t s w < 2 ^ outputs b
   unfolding outputsChecked entryAt
   below-outputs e t s w ht hs hw =
@@ -127,21 +127,3 @@ legal-table b p e =
 pub sound : (b : List ℕ) (p : ℕ) → checked b ≡ answer 0 p → Sound b
 unfolding LegalTable
 sound b p e = legal-table b p e .0
-
--- ---- a position
-
--- two tests of one judgement are two judgements
-apart : (s t : Bool) (k p : ℕ) (f : Figures) → refuse (s || t) k p f ≡ refuse s k p (refuse t k p f)
-apart true t k p f = refl
-apart false t k p f = refl
-
--- a position and a word that are accepted are those of an entry
-pub placed : (b : List ℕ) (t s w p : ℕ) → positionChecked b t s w ≡ answer 0 p → (t < frames b) × (s < states b t) × (w < 2 ^ inputs b)
-unfolding positionChecked
-placed b t s w p e =
-    let e₁ = passed (ltb (frames b) t) 11 t _ p refl (sym (apart (ltb (frames b) t) (leb (states b t) s) 11 t _) ∙ e) in
-    let e₂ = passed (leb (states b t) s) 11 t _ p refl (e₁ .1) in
-    let e₃ = passed (eqb t (frames b)) 10 (frames b) _ p refl (e₂ .1) in
-    let e₄ = passed (leb (2 ^ inputs b) w) 9 0 _ p refl (e₃ .1) in
-    let n = eqb-false t (frames b) (e₃ .0) in
-    (omega (arith, ltb-false (frames b) t (e₁ .0)), leb-false (states b t) s (e₂ .0), leb-false (2 ^ inputs b) w (e₄ .0))

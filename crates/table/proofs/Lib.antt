@@ -2,5 +2,3 @@
 pub mod Offsets
 pub mod Parts
 pub mod Accepted
-pub mod Steps
-pub mod Runs

@@ -12,7 +12,7 @@ use Rattle.words.specs.Words.{wordAt}
 use Rattle.words.proofs.Laws.{number-take, number-drop}
 use Rattle.sizes.specs.Sizes.{inputs, outputs, frames}
 use Rattle.table.specs.Table.{countAt, states, headLength, entriesBelow, entryCount, outputsAt, nextsAt, tableLength}
-use Rattle.table.specs.Headed.{Headed, layoutOf}
+use Rattle.table.specs.Sound.{TableHeaded, layoutOf}
 use Rattle.table.specs.declared.Layout.{Layout}
 
 -- the length of the head
@@ -72,7 +72,7 @@ pub record Laid (b : List ℕ) (l : Layout) : Type 0 where
   pub end-at : length b ≡ l .nexts + 2 * entryCount b
 
 -- of a table whose head is accepted
-pub laid : (b : List ℕ) (l : Layout) → Headed b → l ≡ layoutOf b → Laid b l
+pub laid : (b : List ℕ) (l : Layout) → TableHeaded b → l ≡ layoutOf b → Laid b l
 laid b l h e =
     let a = arrays-stand b in
     let f : l .frames ≡ frames b = ap (λ (l : Layout). l .frames) e in

@@ -8,12 +8,12 @@ use lib.ListN.{length, take, drop, length-take, length-drop}
 use Rattle.words.specs.Words.{wordAt}
 use Rattle.sizes.specs.Sizes.{inputs, frames}
 use Rattle.table.specs.Table.{states, entriesBelow, entryCount, entryAt, layerPart}
-use Rattle.table.specs.Headed.{Headed}
+use Rattle.table.specs.Sound.{TableHeaded}
 use Rattle.table.proofs.Offsets.{arrays-stand, layer-in, part-word}
 
 module _ (b : List ℕ) where
   -- the counts of all layers stand in the table
-  pub count-in : Headed b → (t : ℕ) → t ≤ frames b → 7 + 2 * t < length b
+  pub count-in : TableHeaded b → (t : ℕ) → t ≤ frames b → 7 + 2 * t < length b
   count-in H t h = omega (arith, H .whole, arrays-stand b)
 
   module _ (start t : ℕ) where

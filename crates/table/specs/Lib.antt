@@ -1,4 +1,4 @@
 -- What a reader of `table` must believe, in the order of reading.
 pub mod Table
-pub mod Headed
+pub mod Sound
 pub mod Theorems

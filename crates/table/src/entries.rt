@@ -1,8 +1,5 @@
-// The arrays of a table: number 5 of all entries, and the reading of one.
+// The arrays of a table: number 5 of all entries.
 use super::Layout;
-use super::Position;
-use super::Stepped;
-use super::head::entries_below;
 use super::head::states_of;
 use verdict::Refusal;
 use verdict::Verdict;
@@ -10,10 +7,9 @@ use words::read;
 ghost use mathlib.Core.Path.{_≡_};
 ghost use Prim.Native.Nat.{_+_, _^_, _<_};
 ghost use lib.ListN.{length};
-ghost use Rattle.verdict.specs.Figures.{figures};
-ghost use Rattle.sizes.specs.Sizes.{inputs, frames};
-ghost use Rattle.table.specs.Table.{states, partChecked, outputsChecked, nextsChecked, entryChecked, stepAfter, stepFigures};
-ghost use Rattle.table.specs.Headed.{Headed, layoutOf};
+ghost use Rattle.verdict.specs.Judgements.{figures};
+ghost use Rattle.table.specs.Table.{partChecked, outputsChecked, nextsChecked};
+ghost use Rattle.table.specs.Sound.{TableHeaded, layoutOf};
 
 // Number 5, of a part of an array that stands at byte offset `at`: its first word at or above the limit.
 fn check_part(part: &[u8], limit: usize, at: usize) -> Verdict
@@ -31,7 +27,7 @@ fn check_part(part: &[u8], limit: usize, at: usize) -> Verdict
 
 // Number 5, of all outputs: they are one part.
 pub fn check_outputs(table: &[u8], layout: Layout) -> Verdict
-    requires { ⌜ Headed (now table) ⌝ }
+    requires { ⌜ TableHeaded (now table) ⌝ }
     requires { ⌜ layout ≡ layoutOf (now table) ⌝ }
     ensures { λ r. ⌜ figures r ≡ outputsChecked (now (table .entry)) ⌝ }
 {
@@ -42,7 +38,7 @@ pub fn check_outputs(table: &[u8], layout: Layout) -> Verdict
 
 // Number 5, of all next states: those of a layer are one part.
 pub fn check_nexts(table: &[u8], layout: Layout) -> Verdict
-    requires { ⌜ Headed (now table) ⌝ }
+    requires { ⌜ TableHeaded (now table) ⌝ }
     requires { ⌜ layout ≡ layoutOf (now table) ⌝ }
     ensures { λ r. ⌜ figures r ≡ nextsChecked (now (table .entry)) ⌝ }
 {
@@ -57,31 +53,4 @@ pub fn check_nexts(table: &[u8], layout: Layout) -> Verdict
         start = end;
     }
     Verdict::Accepted(0)
-}
-
-// A step by the one entry of a position and a word, and number 5 of that entry, output before next state.
-pub fn read_entry(table: &[u8], layout: Layout, position: Position, word: usize) -> Stepped
-    requires { ⌜ Headed (now table) ⌝ }
-    requires { ⌜ layout ≡ layoutOf (now table) ⌝ }
-    requires { ⌜ (position .layer < frames (now table)) × (position .state < states (now table) (position .layer)) × (word < 2 ^ inputs (now table)) ⌝ }
-    ensures { λ r. ⌜ stepFigures r ≡ stepAfter (entryChecked (now (table .entry)) (position .layer) (position .state) word) (now (table .entry)) (position .layer) (position .state) word ⌝ }
-{
-    let layer = position.layer;
-    let below = entries_below(table, layout.words, layer);
-    let offset = 2 * (below + (position.state * layout.words + word));
-    let output_at = layout.outputs + offset;
-    let output = read(table, output_at);
-    if layout.limit <= output {
-        return Stepped::Refused(Refusal::Entry(output_at), position);
-    }
-    let next_at = layout.nexts + offset;
-    let next = read(table, next_at);
-    let moved = Position {
-        layer: layer + 1,
-        state: next,
-    };
-    if states_of(table, moved.layer) <= next {
-        return Stepped::Refused(Refusal::Entry(next_at), position);
-    }
-    Stepped::Moved(output as u16, moved)
 }

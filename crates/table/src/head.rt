@@ -7,14 +7,14 @@ use verdict::Refusal;
 use verdict::Verdict;
 use words::read;
 ghost use mathlib.Core.Path.{_≡_};
-ghost use mathlib.Core.Bool.{_||_};
+ghost use mathlib.Core.Bool.{_||_, cond};
 ghost use Prim.Native.Nat.{_+_, _*_, _^_, _≤_, _<_};
 ghost use lib.Dec.{eqb};
 ghost use lib.ListN.{length};
-ghost use Rattle.verdict.specs.Figures.{figures, pick};
+ghost use Rattle.verdict.specs.Judgements.{figures};
 ghost use Rattle.sizes.specs.Sizes.{inputs, frames};
 ghost use Rattle.table.specs.Table.{states, headLength, entriesBelow, countsChecked, headChecked};
-ghost use Rattle.table.specs.Headed.{Headed, layoutOf};
+ghost use Rattle.table.specs.Sound.{TableHeaded, layoutOf};
 
 // 2 to the power of `bits`.
 fn power(bits: usize) -> usize
@@ -42,7 +42,7 @@ pub fn states_of(table: &[u8], t: usize) -> usize
 
 // How many states layer t can have.
 fn most_states(t: usize, frames: usize) -> usize
-    ensures { λ r. ⌜ r ≡ pick (eqb t 0 || eqb t frames) 1 32768 ⌝ }
+    ensures { λ r. ⌜ r ≡ cond (eqb t 0 || eqb t frames) 1 32768 ⌝ }
 {
     if t == 0 || t == frames {
         Limits::ENDS
@@ -109,7 +109,7 @@ pub fn check_head(table: &[u8]) -> Verdict
 
 impl Layout {
     pub fn read(table: &[u8]) -> Layout
-        requires { ⌜ Headed (now table) ⌝ }
+        requires { ⌜ TableHeaded (now table) ⌝ }
         ensures { λ r. ⌜ r ≡ layoutOf (now (table .entry)) ⌝ }
     {
         let sizes = Sizes::read(table);

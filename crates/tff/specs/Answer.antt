@@ -1,11 +1,12 @@
 -- What the C interface leaves in `answer` and in the buffers beside it.
 use Prim.Native.Nat.{ℕ}
+use mathlib.Core.Bool.{cond}
 use mathlib.Core.List.{List}
 use lib.Dec.{ltb}
 use lib.ListN.{length, set}
-use Rattle.verdict.specs.Figures.{pick}
+use Rattle.verdict.specs.Judgements.{}
 use Rattle.verdict.specs.declared.Figures.{Figures}
-use Rattle.table.specs.declared.StepFigures.{StepFigures}
+use Rattle.steps.specs.declared.StepFigures.{StepFigures}
 
 -- number and place in the first two numbers, the rest as before
 abbrev pub answered : Figures → List ℕ → List ℕ
@@ -17,4 +18,4 @@ stepAnswered f answer = set (set (set (set (set answer 0 (f .number)) 1 (f .plac
 
 -- a buffer as the call leaves it where `answer` has room for so many numbers, else as before
 unfoldable pub ifRoom : (answer : List ℕ) (room : ℕ) (after before : List ℕ) → List ℕ
-ifRoom answer room after before = pick (ltb (length answer) room) before after
+ifRoom answer room after before = cond (ltb (length answer) room) before after

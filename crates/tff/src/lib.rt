@@ -1,14 +1,15 @@
 // The C interface. Slices pass as pointer and length. `answer` receives document 01's number and place in its first two numbers, then the
 // further values named; the rest of it stays as before. Where `answer` is too short for that, nothing at all is changed.
-use table::Position;
-use table::StepFigures;
+use steps::Position;
+use steps::StepFigures;
 use verdict::Verdict;
 ghost use mathlib.Core.Path.{_≡_};
 ghost use Prim.Native.Nat.{_≤_};
 ghost use lib.ListN.{length};
-ghost use Rattle.verdict.specs.Figures.{figures};
+ghost use Rattle.verdict.specs.Judgements.{figures};
 ghost use Rattle.circuit.specs.Circuit.{checked, simulated, simulationResult};
-ghost use Rattle.table.specs.Table.{checked as tableChecked, ran, runResult, stepped};
+ghost use Rattle.table.specs.Table.{checked as tableChecked};
+ghost use Rattle.steps.specs.Steps.{ran, runResult, stepped};
 ghost use Rattle.folded.specs.Folded.{foldChecked, foldResult, foldScratch};
 ghost use Rattle.unfolded.specs.Unfolded.{unfoldChecked, unfoldResult};
 ghost use Rattle.tff.specs.Answer.{answered, stepAnswered, ifRoom};
@@ -67,7 +68,7 @@ pub extern "C" fn tff_run(table: &[u8], words: &[u16], result: &mut [u16], answe
     if answer.len() < 2 {
         return;
     }
-    put(table::run(table, words, result), answer);
+    put(steps::run(table, words, result), answer);
 }
 
 // Puts all figures of a step into `answer`, which has room for them.
@@ -93,7 +94,7 @@ pub extern "C" fn tff_step(table: &[u8], layer: u16, state: u16, word: u16, answ
         layer: layer as usize,
         state: state as usize,
     };
-    let step = table::step(table, position, word);
+    let step = steps::step(table, position, word);
     put_step(step.figures(), answer);
 }
 

@@ -18,12 +18,12 @@ ghost use Prim.Native.Nat.{suc, _*_, _/_, _+_, _≤_, _<_};
 ghost use lib.Dec.{ltb};
 ghost use lib.ListN.{length};
 ghost use Rattle.words.specs.Words.{wordAt, stored};
-ghost use Rattle.verdict.specs.Figures.{figures};
+ghost use Rattle.verdict.specs.Judgements.{figures};
 ghost use Rattle.sizes.specs.Sizes.{inputs, outputs, frames};
 ghost use Rattle.sizes.specs.Sized.{sizesOf};
 ghost use Rattle.circuit.specs.Lists.{bit};
 ghost use Rattle.layered.specs.Search.{tally, total};
-ghost use Rattle.table.specs.Headed.{Headed, Sound, layoutOf};
+ghost use Rattle.table.specs.Sound.{TableHeaded, Sound, layoutOf};
 ghost use Rattle.unfolded.specs.Unfolded.{drawn, gatesNeeded, circuitWords, unfoldChecked, unfoldResult};
 ghost use Rattle.unfolded.specs.Counted.{frameNeeds};
 ghost use Rattle.unfold.specs.Unfold.{Promised};
@@ -65,7 +65,7 @@ fn gathered(edges: usize, t: usize, frames: usize) -> usize
 
 // How many gates the frame from layer t needs.
 fn frame_needs(table: &[u8], layout: Layout, sizes: Sizes, t: usize) -> usize
-    requires { ⌜ Headed (now table) ⌝ }
+    requires { ⌜ TableHeaded (now table) ⌝ }
     requires { ⌜ (layout ≡ layoutOf (now table)) × (sizes ≡ sizesOf (now table)) × (t < frames (now table)) ⌝ }
     ensures { λ r. ⌜ (r ≡ frameNeeds (now (table .entry)) t) × (r ≤ 536870912) ⌝ }
 {

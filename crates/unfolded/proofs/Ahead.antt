@@ -14,11 +14,11 @@ use borrow.Author.Tests.{le-ltb, eqb-false, eqb-true}
 use Rattle.sizes.specs.Sizes.{inputs, outputs, frames}
 use Rattle.sizes.specs.Sized.{Sized}
 use Rattle.circuit.specs.Lists.{grown, listed, bit}
-use Rattle.circuit.specs.Circuit.{frameOf as frameOfItem, inputFrames, looksAhead}
+use Rattle.circuit.specs.Circuit.{frameOf, inputFrames, looksAhead}
 use Rattle.circuit.proofs.Laws.{length-grown}
 use Rattle.table.specs.Table.{states}
-use Rattle.unfolded.specs.Unfolded.{ending, inverted, Frame, inputLiteral, matching, edgesAt, invertedEdges, entering, nextLiteral, withBit, outLiteral, nextGatesAt, outGatesAt, Drawing, frameOf, drawing, drawn}
-use Rattle.unfolded.proofs.Lists.{listed-at, listed-cons}
+use Rattle.unfolded.specs.Unfolded.{ending, inverted, Frame, inputLiteral, matching, edgesAt, invertedEdges, entering, nextLiteral, withBit, outLiteral, nextGatesAt, outGatesAt, Drawing, tableFrame, drawing, drawn}
+use Rattle.circuit.proofs.Lists.{listed-at, listed-cons}
 use Rattle.unfolded.proofs.Gates.{Reads, Admitted, run, together, together-append}
 use Rattle.unfolded.proofs.Frames.{Placed, crossed, edge-reads, next-reads, out-reads}
 use Rattle.unfolded.proofs.Drawings.{base, behind, input-low, HandsOn, Step, outputs-read}
@@ -65,21 +65,21 @@ module _ (b : List ℕ) where
   start : List ℕ
   start = inputFrames (inputs b) (inputs b * frames b)
 
-  start-is : start ≡ 0 ∷ listed [] (frameOfItem (inputs b)) (inputs b * frames b)
+  start-is : start ≡ 0 ∷ listed [] (frameOf (inputs b)) (inputs b * frames b)
   unfolding start inputFrames
-  start-is = listed-cons 0 (frameOfItem (inputs b)) (inputs b * frames b)
+  start-is = listed-cons 0 (frameOf (inputs b)) (inputs b * frames b)
 
   true-read : frameRead start 1 ≡ 0
   unfolding frameRead
   true-read = ap (λ l. getD l 0 0) start-is
 
   input-read : (t w i : ℕ) → t < frames b → i < inputs b → frameRead start (inputLiteral (inputs b) t w i) ≡ suc t
-  unfolding frameRead inputLiteral frameOfItem
+  unfolding frameRead inputLiteral frameOf
   input-read t w i h l =
       let n : ℕ = inputs b in
       let q : (2 * (1 + (t * n + i)) + cond (bit w i) 0 1) / 2 ≡ suc (t * n + i) = half (bit w i) (t * n + i) in
       let k : t * n + i < n * frames b = omega (arith, mul-comm t n, mul-suc n t, mul-le-mul-left n h) in
-      ap₂ (λ l i. getD l i 0) start-is q ∙ listed-at (frameOfItem n) 0 (n * frames b) (t * n + i) k ∙ ap suc (digits-div t l)
+      ap₂ (λ l i. getD l i 0) start-is q ∙ listed-at (frameOf n) 0 (n * frames b) (t * n + i) k ∙ ap suc (digits-div t l)
     where
       half : (t : Bool) (x : ℕ) → (2 * (1 + x) + cond t 0 1) / 2 ≡ suc x
       half true x = omega arith
@@ -92,7 +92,7 @@ module _ (b : List ℕ) where
   OfOutput t j a = a ≤ suc t
 
   module _
-      (t : ℕ) (d : Drawing) (vs : List ℕ) (h : t < frames b) (P : Placed (frameOf b t d)) (at : length vs ≡ frameOf b t d .at)
+      (t : ℕ) (d : Drawing) (vs : List ℕ) (h : t < frames b) (P : Placed (tableFrame b t d)) (at : length vs ≡ tableFrame b t d .at)
       (old : (l : ℕ) → l < 2 * base b → frameRead vs l ≡ frameRead start l)
       (S : (s : ℕ) → s < states b t → frameRead vs (getD (d .states) s 0) ≤ t)
     where
@@ -101,24 +101,24 @@ module _ (b : List ℕ) where
       true-now = old 1 (omega arith) ∙ true-read
 
       match-now : (w : ℕ) → together max (frameRead vs) (frameRead vs 1) (matching (inputs b) t w) ≤ suc t
-      unfolding matching frameOf
+      unfolding matching tableFrame
       match-now w =
           most-listed (frameRead vs) (frameRead vs 1) (suc t) (omega (arith, true-now)) (inputLiteral (inputs b) t w) (inputs b) (λ i l.
           omega (arith, old (inputLiteral (inputs b) t w i) (input-low b t w i h l), input-read t w i h l))
 
       -- an edge, and its inverse
-      edge-now : (e : ℕ) → e < frameOf b t d .edges → frameRead (crossed (frameOf b t d) P max frameRead frame-reads vs at) (2 * (edgesAt (frameOf b t d) + e) + 1) ≤ suc t
-      unfolding frameRead frameOf
+      edge-now : (e : ℕ) → e < tableFrame b t d .edges → frameRead (crossed (tableFrame b t d) P max frameRead frame-reads vs at) (2 * (edgesAt (tableFrame b t d) + e) + 1) ≤ suc t
+      unfolding frameRead tableFrame
       edge-now e l =
-          let F : Frame = frameOf b t d in
+          let F : Frame = tableFrame b t d in
           let q : (2 * (edgesAt F + e) + 1) / 2 ≡ 2 * (edgesAt F + e) / 2 = omega arith in
           rw q
           (omega (arith, edge-reads F P max frameRead frame-reads vs at e l, match-now (e % 2 ^ inputs b), S (e / 2 ^ inputs b) (div-lt-iff-lt-mul (pow-pos (inputs b)) .1 l)))
 
       hands-on : HandsOn max frameRead frame-reads b start OfState OfOutput t d vs
-      unfolding nextLiteral outLiteral entering withBit frameRead frameOf
+      unfolding nextLiteral outLiteral entering withBit frameRead tableFrame
       hands-on =
-          let F : Frame = frameOf b t d in
+          let F : Frame = tableFrame b t d in
           let low : frameRead vs 1 ≤ suc t = omega (arith, true-now) in
           let E = most-edges (frameRead (crossed F P max frameRead frame-reads vs at)) (frameRead vs 1) (suc t) low (edgesAt F) in
           record {
@@ -133,7 +133,7 @@ module _ (b : List ℕ) where
   step : Step max frameRead frame-reads b start OfState OfOutput
   unfolding start inputFrames base
   step = record {
-    from = length-grown (0 ∷ []) (λ _ i. frameOfItem (inputs b) i) (inputs b * frames b);
+    from = length-grown (0 ∷ []) (λ _ i. frameOf (inputs b) i) (inputs b * frames b);
     first = omega (arith, true-read);
     on = λ t d vs h P at old S. hands-on t d vs h P at old S;
   }
@@ -142,7 +142,7 @@ module _ (b : List ℕ) where
 
   module _ (one : states b 0 ≡ 1) (Z : Sized 8 (inputs b) (outputs b) (frames b)) (D : Admitted (base b) (drawn b)) (G : length (drawn b) ≤ 4096) where
     pub none-ahead : (q : ℕ) → q < outputs b * frames b → looksAhead (circuitBytes (inputs b) (outputs b) (frames b) (drawn b)) q ≡ false
-    unfolding looksAhead frameOfItem base frameRead start
+    unfolding looksAhead frameOf base frameRead start
     none-ahead q h =
         let n : ℕ = inputs b in
         let m : ℕ = outputs b in

@@ -12,7 +12,7 @@ use borrow.Author.Tests.{eqb-true, eqb-false}
 use Rattle.circuit.specs.Lists.{listed, bit, packed}
 use Rattle.circuit.proofs.Bits.{bit-zero, bit-suc, digit}
 use Rattle.layered.specs.Search.{every}
-use Rattle.unfolded.proofs.Lists.{listed-length, listed-at}
+use Rattle.circuit.proofs.Lists.{listed-length, listed-at}
 
 -- ---- truth values
 

@@ -14,20 +14,20 @@ use Rattle.layered.specs.Search.{tally, total}
 use Rattle.layered.specs.Machines.{Legal}
 use Rattle.layered.proofs.Lists.{total-cong, total-each, total-swap, tally-absent, tally-once}
 use Rattle.table.specs.Table.{states, machine}
-use Rattle.unfolded.specs.Unfolded.{chains, Frame, inputLiteral, matching, matchGates, edgesAt, edgeGate, edgeGates, invertedEdges, entering, nextGates, nextGatesAt, withBit, outGates, outGatesAt, frameGates, Drawing, frameOf, withFrame, drawing, gatesNeeded}
+use Rattle.unfolded.specs.Unfolded.{chainsFrom, Frame, inputLiteral, matching, matchGates, edgesAt, edgeGate, edgeGates, invertedEdges, entering, nextGates, nextGatesAt, withBit, outGates, outGatesAt, frameGates, Drawing, tableFrame, withFrame, drawing, gatesNeeded}
 use Rattle.unfolded.specs.Counted.{ones, frameNeeds}
-use Rattle.unfolded.proofs.Lists.{listed-length}
+use Rattle.circuit.proofs.Lists.{listed-length}
 use Rattle.unfolded.proofs.Gates.{chains-more}
 use Rattle.unfolded.proofs.Drawings.{drawn-length}
 
 -- ---- chains
 
-chains-length : (at : ℕ) (f : ℕ → List ℕ) (k : ℕ) → length (chains at f k) ≡ total k (λ i. length (f i))
-unfolding chains total
+chains-length : (at : ℕ) (f : ℕ → List ℕ) (k : ℕ) → length (chainsFrom at f k) ≡ total k (λ i. length (f i))
+unfolding chainsFrom total
 chains-length at f zero = refl
 chains-length at f (suc k) = chains-more at f k ∙ ap (λ n. n + length (f k)) (chains-length at f k)
 
-pub matches-length : (at n t k : ℕ) → length (chains at (matching n t) k) ≡ k * n
+pub matches-length : (at n t k : ℕ) → length (chainsFrom at (matching n t) k) ≡ k * n
 unfolding matching
 matches-length at n t k =
     chains-length at (matching n t) k ∙ total-cong k _ _ (λ w h. listed-length (inputLiteral n t w) n) ∙ total-each k n
@@ -74,9 +74,9 @@ module _ (F : Frame) where
 
 module _ (b : List ℕ) where
   module _ (L : Legal (2 ^ inputs b) (outputs b) (frames b) (machine b)) where
-    nexts-count : (t : ℕ) (d : Drawing) → t < frames b → length (nextGates (frameOf b t d)) ≡ cond (ltb (suc t) (frames b)) (states b t * 2 ^ inputs b) 0
-    unfolding frameOf
-    nexts-count t d h = gather-count (frameOf b t d) ∙ go (ltb (suc t) (frames b))
+    nexts-count : (t : ℕ) (d : Drawing) → t < frames b → length (nextGates (tableFrame b t d)) ≡ cond (ltb (suc t) (frames b)) (states b t * 2 ^ inputs b) 0
+    unfolding tableFrame
+    nexts-count t d h = gather-count (tableFrame b t d) ∙ go (ltb (suc t) (frames b))
       where
         E : ℕ
         E = states b t * 2 ^ inputs b
@@ -94,10 +94,10 @@ module _ (b : List ℕ) where
         go true = total-cong E _ (λ e. 1) one ∙ total-each E 1 ∙ omega arith
         go false = total-cong E _ (λ e. 0) (λ e l. no-states (to e)) ∙ total-each E 0 ∙ mul-zero E
 
-    frame-needs : (t : ℕ) (d : Drawing) → t < frames b → length (frameGates (frameOf b t d)) ≡ frameNeeds b t
-    unfolding frameOf frameNeeds ones
+    frame-needs : (t : ℕ) (d : Drawing) → t < frames b → length (frameGates (tableFrame b t d)) ≡ frameNeeds b t
+    unfolding tableFrame frameNeeds ones
     frame-needs t d h =
-        let F : Frame = frameOf b t d in
+        let F : Frame = tableFrame b t d in
         frame-count F ∙ ap₂ _+_ (match-count F) (ap₂ _+_ (edge-count F) (ap₂ _+_ (nexts-count t d h) (out-count F)))
 
     drawing-length : (t : ℕ) → t ≤ frames b → length (drawing b t .gates) ≡ total t (frameNeeds b)

@@ -13,8 +13,9 @@ use borrow.Author.Tests.{lt-ltb, le-ltb}
 use Rattle.sizes.specs.Sizes.{inputs, outputs, frames}
 use Rattle.circuit.specs.Lists.{listed, bit}
 use Rattle.table.specs.Table.{states}
-use Rattle.unfolded.specs.Unfolded.{Frame, inputLiteral, frameGates, nextLiteral, outLiteral, Drawing, frameOf, withFrame, drawing, outputGate, drawn}
-use Rattle.unfolded.proofs.Lists.{Under, none, under-more, under-widen, under-listed, under-at, listed-length, listed-at}
+use Rattle.unfolded.specs.Unfolded.{Frame, inputLiteral, frameGates, nextLiteral, outLiteral, Drawing, tableFrame, withFrame, drawing, outputGate, drawn}
+use Rattle.circuit.proofs.Lists.{listed-length, listed-at}
+use Rattle.unfolded.proofs.Lists.{Under, none, under-more, under-widen, under-listed, under-at}
 use Rattle.unfolded.proofs.Gates.{Admitted, no-gate, admitted-append, each-admitted, Reads, run, run-append, run-length, run-read, each-reads}
 use Rattle.unfolded.proofs.Frames.{Placed, frame-admitted, next-below, out-below}
 
@@ -54,35 +55,35 @@ pub record Drawn (b : List ℕ) (t : ℕ) (d : Drawing) : Type 0 where
   pub outputs-before : Under (2 * behind b d) (d .outputs)
 
 module _ (b : List ℕ) (t : ℕ) (d : Drawing) where
-  pub frame-at : frameOf b t d .at ≡ behind b d
-  unfolding frameOf behind base
+  pub frame-at : tableFrame b t d .at ≡ behind b d
+  unfolding tableFrame behind base
   frame-at = refl
 
   -- how many next states are drawn: in the last frame none
-  pub last-nexts : frames b ≤ suc t → frameOf b t d .nexts ≡ 0
-  unfolding frameOf
+  pub last-nexts : frames b ≤ suc t → tableFrame b t d .nexts ≡ 0
+  unfolding tableFrame
   last-nexts h = ap (λ t′. cond t′ (states b (suc t)) 0) (le-ltb (suc t) (frames b) h)
 
-  pub frame-nexts : suc t < frames b → frameOf b t d .nexts ≡ states b (suc t)
-  unfolding frameOf
+  pub frame-nexts : suc t < frames b → tableFrame b t d .nexts ≡ states b (suc t)
+  unfolding tableFrame
   frame-nexts h = ap (λ t′. cond t′ (states b (suc t)) 0) (lt-ltb (suc t) (frames b) h)
 
-  pub frame-placed : t < frames b → Drawn b t d → Placed (frameOf b t d)
-  unfolding frameOf behind base
+  pub frame-placed : t < frames b → Drawn b t d → Placed (tableFrame b t d)
+  unfolding tableFrame behind base
   frame-placed h D = record {
     inputs-before = omega (arith, mul-suc (inputs b) t, mul-comm t (inputs b), mul-le-mul-left (inputs b) h);
     states-before = λ e l. D .states-before h (e / 2 ^ inputs b) (div-lt-iff-lt-mul (pow-pos (inputs b)) .1 l);
   }
 
-  pub behind-more : behind b (withFrame d (frameOf b t d)) ≡ frameOf b t d .at + length (frameGates (frameOf b t d))
-  unfolding behind withFrame frameOf base
-  behind-more = omega (arith, length-append (d .gates) (frameGates (frameOf b t d)))
+  pub behind-more : behind b (withFrame d (tableFrame b t d)) ≡ tableFrame b t d .at + length (frameGates (tableFrame b t d))
+  unfolding behind withFrame tableFrame base
+  behind-more = omega (arith, length-append (d .gates) (frameGates (tableFrame b t d)))
 
   -- one frame more
-  drawn-more : t < frames b → Drawn b t d → Drawn b (suc t) (withFrame d (frameOf b t d))
-  unfolding withFrame base frameOf
+  drawn-more : t < frames b → Drawn b t d → Drawn b (suc t) (withFrame d (tableFrame b t d))
+  unfolding withFrame base tableFrame
   drawn-more h D =
-      let F : Frame = frameOf b t d in
+      let F : Frame = tableFrame b t d in
       let P = frame-placed h D in
       let m = behind-more in
       let a = frame-at in
@@ -129,13 +130,13 @@ module _
   where
     -- what one frame hands on
     pub record HandsOn (t : ℕ) (d : Drawing) (vs : List A) : Type 0 where
-      pub nexts : (s : ℕ) → s < frameOf b t d .nexts → OfState (suc t) s (read (run meet read vs (frameGates (frameOf b t d))) (nextLiteral (frameOf b t d) s))
-      pub outs : (j : ℕ) → j < outputs b → OfOutput t j (read (run meet read vs (frameGates (frameOf b t d))) (outLiteral (frameOf b t d) j))
+      pub nexts : (s : ℕ) → s < tableFrame b t d .nexts → OfState (suc t) s (read (run meet read vs (frameGates (tableFrame b t d))) (nextLiteral (tableFrame b t d) s))
+      pub outs : (j : ℕ) → j < outputs b → OfOutput t j (read (run meet read vs (frameGates (tableFrame b t d))) (outLiteral (tableFrame b t d) j))
 
     pub record Step : Type 0 where
       pub from : length start ≡ base b
       pub first : OfState 0 0 (read start 1)
-      pub on : (t : ℕ) (d : Drawing) (vs : List A) → t < frames b → Placed (frameOf b t d) → length vs ≡ frameOf b t d .at
+      pub on : (t : ℕ) (d : Drawing) (vs : List A) → t < frames b → Placed (tableFrame b t d) → length vs ≡ tableFrame b t d .at
           → ((l : ℕ) → l < 2 * base b → read vs l ≡ read start l)
           → ((s : ℕ) → s < states b t → OfState t s (read vs (getD (d .states) s 0)))
           → HandsOn t d vs
@@ -150,10 +151,10 @@ module _
       unfolding behind
       run-behind d = run-length meet read start (d .gates) ∙ ap (λ k. k + length (d .gates)) (S .from)
 
-      known-more : (t : ℕ) (d : Drawing) → t < frames b → Drawn b t d → Known t d → Known (suc t) (withFrame d (frameOf b t d))
-      unfolding withFrame run frameOf
+      known-more : (t : ℕ) (d : Drawing) → t < frames b → Drawn b t d → Known t d → Known (suc t) (withFrame d (tableFrame b t d))
+      unfolding withFrame run tableFrame
       known-more t d h D k =
-          let F : Frame = frameOf b t d in
+          let F : Frame = tableFrame b t d in
           let vs : List A = run meet read start (d .gates) in
           let a : length vs ≡ F .at = run-behind d ∙ sym (frame-at b t d) in
           let H = S .on t d vs h (frame-placed b t d h D) a (λ l q. run-read meet read R start (d .gates) l (omega (arith, S .from))) (k .of-states h) in

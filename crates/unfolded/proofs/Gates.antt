@@ -9,8 +9,9 @@ use native.Mathlib.Nat.{le-of-suc-le-suc, eq-or-lt-of-le, le-suc, le-trans, le-r
 use native.Mathlib.Omega.{arith}
 use lib.ListN.{length, length-append}
 use Rattle.circuit.specs.Lists.{grown, listed}
-use Rattle.unfolded.specs.Unfolded.{chain, lastOf, chains, ending, invertedEdges}
-use Rattle.unfolded.proofs.Lists.{Under, none, more, under-widen, listed-length}
+use Rattle.unfolded.specs.Unfolded.{chain, lastOf, chainsFrom, ending, invertedEdges}
+use Rattle.circuit.proofs.Lists.{listed-length}
+use Rattle.unfolded.proofs.Lists.{Under, none, more, under-widen}
 
 -- ---- the edges of a chain ascend
 
@@ -44,24 +45,24 @@ unfolding chain
 chain-admitted at left [] h none = no-gate
 chain-admitted at left (r ∷ rs) h (more l U) = gate h l (chain-admitted (suc at) (2 * at) rs (omega arith) (under-widen (omega arith) U))
 
-pub chains-more : (at : ℕ) (f : ℕ → List ℕ) (k : ℕ) → length (chains at f (suc k)) ≡ length (chains at f k) + length (f k)
-unfolding chains
-chains-more at f k = length-append (chains at f k) _ ∙ omega (arith, chain-length (at + length (chains at f k)) 1 (f k))
+pub chains-more : (at : ℕ) (f : ℕ → List ℕ) (k : ℕ) → length (chainsFrom at f (suc k)) ≡ length (chainsFrom at f k) + length (f k)
+unfolding chainsFrom
+chains-more at f k = length-append (chainsFrom at f k) _ ∙ omega (arith, chain-length (at + length (chainsFrom at f k)) 1 (f k))
 
 module _ (at : ℕ) (f : ℕ → List ℕ) (p : 1 ≤ at) where
-  pub chains-admitted : (k : ℕ) → ((i : ℕ) → i < k → Under (2 * at) (f i)) → Admitted at (chains at f k)
-  unfolding chains
+  pub chains-admitted : (k : ℕ) → ((i : ℕ) → i < k → Under (2 * at) (f i)) → Admitted at (chainsFrom at f k)
+  unfolding chainsFrom
   chains-admitted zero U = no-gate
   chains-admitted (suc k) U =
       admitted-append (chains-admitted k (λ i l. U i (le-trans l (le-suc k))))
-      (chain-admitted (at + length (chains at f k)) 1 (f k) (omega arith) (under-widen (omega arith) (U k (le-refl (suc k)))))
+      (chain-admitted (at + length (chainsFrom at f k)) 1 (f k) (omega arith) (under-widen (omega arith) (U k (le-refl (suc k)))))
 
-  pub ending-below : (k i : ℕ) → i < k → ending at f i < 2 * (at + length (chains at f k))
+  pub ending-below : (k i : ℕ) → i < k → ending at f i < 2 * (at + length (chainsFrom at f k))
   unfolding ending
   ending-below zero i h = absurd (omega arith)
   ending-below (suc k) i h =
       ⊎-elim
-      (λ (e : i ≡ k). rw e (omega (arith, chains-more at f k, last-below (at + length (chains at f k)) 1 (f k) (omega arith))))
+      (λ (e : i ≡ k). rw e (omega (arith, chains-more at f k, last-below (at + length (chainsFrom at f k)) 1 (f k) (omega arith))))
       (λ (l : i < k). omega (arith, chains-more at f k, ending-below k i l))
       (eq-or-lt-of-le (le-of-suc-le-suc h))
 
@@ -127,11 +128,11 @@ module _ {A : Type 0} (meet : A → A → A) (read : List A → ℕ → A) (R : 
 
   module _ (vs : List A) (at : ℕ) (f : ℕ → List ℕ) (p : 1 ≤ at) (e : length vs ≡ at) where
     pub chains-read : (k i : ℕ) → i < k → ((i : ℕ) → i < k → Under (2 * at) (f i))
-        → read (run meet read vs (chains at f k)) (ending at f i) ≡ together meet (read vs) (read vs 1) (f i)
-    unfolding chains ending
+        → read (run meet read vs (chainsFrom at f k)) (ending at f i) ≡ together meet (read vs) (read vs 1) (f i)
+    unfolding chainsFrom ending
     chains-read zero i h U = absurd (omega arith)
     chains-read (suc k) i h U =
-        let gs : List (ℕ × ℕ) = chains at f k in
+        let gs : List (ℕ × ℕ) = chainsFrom at f k in
         let ws : List A = run meet read vs gs in
         let ch : List (ℕ × ℕ) = chain (at + length gs) 1 (f k) in
         let l : length ws ≡ at + length gs = run-length meet read vs gs ∙ omega arith in

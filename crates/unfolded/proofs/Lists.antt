@@ -11,37 +11,6 @@ use lib.Seq.{getD-at}
 use Rattle.circuit.specs.Lists.{grown, listed}
 use Rattle.circuit.proofs.Laws.{length-grown}
 
--- ---- listed
-
-module _ {A : Type 0} (f : ℕ → A) where
-  pub listed-length : (k : ℕ) → length (listed [] f k) ≡ k
-  listed-length k = length-grown [] (λ _ i. f i) k ∙ omega arith
-
-  pub listed-at : (d : A) (k i : ℕ) → i < k → getD (listed [] f k) i d ≡ f i
-  unfolding grown
-  listed-at d zero i h = absurd (omega arith)
-  listed-at d (suc k) i h =
-      ⊎-elim
-      (λ (e : i ≡ k). rw e (getD-at (listed [] f k) (f k) [] d k (listed-length k)))
-      (λ (l : i < k). List·getD-append (listed [] f k) _ d i (omega (arith, listed-length k)) ∙ listed-at d k i l)
-      (eq-or-lt-of-le (le-of-suc-le-suc h))
-
-  -- one element more
-  pub listed-more : (k : ℕ) (x : A) → x ≡ f k → listed [] f k ++ (x ∷ []) ≡ listed [] f (k + 1)
-  unfolding grown
-  listed-more k x e = rw (add-one k, e)
-
-pub listed-cong : {A : Type 0} (f g : ℕ → A) (k : ℕ) → ((i : ℕ) → i < k → f i ≡ g i) → listed [] f k ≡ listed [] g k
-unfolding grown
-listed-cong f g zero h = refl
-listed-cong {A} f g (suc k) h = ap₂ (λ (l : List A) (x : A). l ++ (x ∷ [])) (listed-cong f g k (λ i l. h i (le-trans l (le-suc k)))) (h k (le-refl (suc k)))
-
--- a list that begins with x
-pub listed-cons : {A : Type 0} (x : A) (f : ℕ → A) (k : ℕ) → listed (x ∷ []) f k ≡ x ∷ listed [] f k
-unfolding grown
-listed-cons x f zero = refl
-listed-cons x f (suc k) = ap (λ l. l ++ (f k ∷ [])) (listed-cons x f k)
-
 -- ---- lists of literals below a bound
 
 pub data Under (x : ℕ) : List ℕ → Type 0 where

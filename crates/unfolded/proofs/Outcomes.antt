@@ -6,14 +6,14 @@ use lib.Dec.{ltb}
 use lib.ListN.{length, take, drop}
 use lib.Seq.{take-at}
 use borrow.Author.Tests.{lt-ltb, le-ltb, ltb-false}
-use Rattle.verdict.specs.Figures.{answer, figures, resultAfter}
+use Rattle.verdict.specs.Judgements.{answer, figures, resultAfter}
 use Rattle.verdict.specs.declared.Figures.{Figures}
 use Rattle.verdict.specs.declared.Verdict.{Verdict}
 use Rattle.verdict.specs.declared.Verdict.the-variants.{Refused}
 use Rattle.verdict.specs.declared.Refusal.{Refusal}
 use Rattle.verdict.proofs.Laws.{stop, kept, both-accept, passed}
 use Rattle.table.specs.Table.{checked}
-use Rattle.table.specs.Headed.{Sound}
+use Rattle.table.specs.Sound.{Sound}
 use Rattle.table.proofs.Accepted.{sound}
 use Rattle.unfolded.specs.Unfolded.{gatesNeeded, unfoldedBytes, unfoldChecked, unfoldResult}
 

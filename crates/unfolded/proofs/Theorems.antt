@@ -7,7 +7,7 @@ use native.Mathlib.Nat.{mul-suc, mul-le-mul-left}
 use native.Mathlib.Omega.{arith}
 use lib.ListN.{length, getD, take, drop, length-take, length-drop}
 use lib.Seq.{ext-getD, getD-take, getD-drop}
-use Rattle.verdict.specs.Figures.{answer}
+use Rattle.verdict.specs.Judgements.{answer}
 use Rattle.verdict.proofs.Laws.{both-accept}
 use Rattle.sizes.specs.Sizes.{inputs, outputs, frames}
 use Rattle.sizes.specs.Sized.{Sized}
@@ -19,15 +19,15 @@ use Rattle.circuit.specs.Theorems.{AcceptedCausal}
 use Rattle.circuit.proofs.Laws.{length-grown}
 use Rattle.circuit.proofs.Causal.{causal}
 use Rattle.table.specs.Table.{machine}
-use Rattle.table.specs.Headed.{Sound}
-use Rattle.table.specs.Theorems.{reached}
+use Rattle.table.specs.Sound.{Sound}
+use Rattle.layered.specs.Machines.{reached}
 use Rattle.folded.specs.Folded.{foldedBytes, scratchNeeded, foldChecked}
-use Rattle.folded.proofs.Histories.{words-length}
+use Rattle.layered.proofs.Feeding.{words-length, feed-length}
 use Rattle.folded.proofs.Outcomes.{circuit-sized, accepted as foldAccepted, written-bytes as foldWritten}
 use Rattle.folded.proofs.Theorems.{folding, same-bytes}
 use Rattle.unfolded.specs.Unfolded.{drawing, drawn, gatesNeeded, unfoldedBytes}
 use Rattle.unfolded.specs.Theorems.{Unfolding, Unfoldings}
-use Rattle.unfolded.proofs.Lists.{listed-length, listed-at}
+use Rattle.circuit.proofs.Lists.{listed-length, listed-at}
 use Rattle.unfolded.proofs.Gates.{Admitted, run, run-length}
 use Rattle.unfolded.proofs.Drawings.{base, behind, drawn-admitted, drawn-length}
 use Rattle.unfolded.proofs.Written.{circuitBytes, inputs-back, outputs-back, frames-back, values-run, output-at, circuit-passes}
@@ -88,11 +88,6 @@ module _ (b : List ℕ) (S : Sound b) (G : length (drawn b) ≤ 4096) where
         ∙ getD-drop p values j false
         ∙ ap (λ i. getD values i false) q
         ∙ output-value b c W (S .legal) (S .headed .one-first) t j h l))
-
-    feed-length : (M : Machine) (k s : ℕ) (c : List ℕ) → length (feed M k s c) ≡ length c
-    unfolding feed
-    feed-length M k s [] = refl
-    feed-length M k s (w ∷ c) = ap suc (feed-length M (suc k) (M .next k s w) c)
 
     words-are : outputWords circuit c ≡ feed (machine b) 0 0 c
     unfolding outputWords circuit base stateAfter

@@ -20,10 +20,10 @@ use Rattle.layered.specs.Search.{every}
 use Rattle.layered.specs.States.{Words, none, more}
 use Rattle.layered.specs.Machines.{Machine, Legal, feed}
 use Rattle.table.specs.Table.{states, machine}
-use Rattle.table.specs.Theorems.{reached}
-use Rattle.folded.proofs.Histories.{words-length}
-use Rattle.unfolded.specs.Unfolded.{ending, inverted, Frame, inputLiteral, matching, edgesAt, invertedEdges, entering, nextLiteral, withBit, outLiteral, frameGates, nextGatesAt, outGatesAt, Drawing, frameOf, drawing, drawn}
-use Rattle.unfolded.proofs.Lists.{listed-at, listed-cons}
+use Rattle.layered.specs.Machines.{reached}
+use Rattle.layered.proofs.Feeding.{words-length}
+use Rattle.unfolded.specs.Unfolded.{ending, inverted, Frame, inputLiteral, matching, edgesAt, invertedEdges, entering, nextLiteral, withBit, outLiteral, frameGates, nextGatesAt, outGatesAt, Drawing, tableFrame, drawing, drawn}
+use Rattle.circuit.proofs.Lists.{listed-at, listed-cons}
 use Rattle.unfolded.proofs.Gates.{Reads, run, together, together-append}
 use Rattle.unfolded.proofs.Frames.{Placed, crossed, edge-reads, next-reads, out-reads}
 use Rattle.unfolded.proofs.Drawings.{base, behind, input-low, HandsOn, Step, outputs-read}
@@ -183,7 +183,7 @@ module _ (b c : List ℕ) where
     state-below (suc t) h = rw (state-more t h) (L .next-is t (stateAfter t) (getD c t 0) h (state-below t (omega arith)) (words-at W t h))
 
     module _
-        (t : ℕ) (d : Drawing) (vs : List Bool) (h : t < frames b) (P : Placed (frameOf b t d)) (at : length vs ≡ frameOf b t d .at)
+        (t : ℕ) (d : Drawing) (vs : List Bool) (h : t < frames b) (P : Placed (tableFrame b t d)) (at : length vs ≡ tableFrame b t d .at)
         (old : (l : ℕ) → l < 2 * base b → literalValue vs l ≡ literalValue start l)
         (S : (s : ℕ) → s < states b t → literalValue vs (getD (d .states) s 0) ≡ eqb (stateAfter t) s)
       where
@@ -192,7 +192,7 @@ module _ (b c : List ℕ) where
         true-now = old 1 (omega arith) ∙ true-value
 
         match-now : (w : ℕ) → w < 2 ^ inputs b → together _&&_ (literalValue vs) (literalValue vs 1) (matching (inputs b) t w) ≡ eqb (getD c t 0) w
-        unfolding matching frameOf
+        unfolding matching tableFrame
         match-now w k =
             ap (λ a. together _&&_ (literalValue vs) a (matching (inputs b) t w)) true-now
             ∙ all-listed (literalValue vs) (inputLiteral (inputs b) t w) (λ i. same (bit w i) (bit (getD c t 0) i)) (inputs b)
@@ -200,12 +200,12 @@ module _ (b c : List ℕ) where
             ∙ same-bits (inputs b) w (getD c t 0) k (words-at W t h)
 
         -- the edge that the machine takes is true, and no other
-        edge-now : (e : ℕ) → e < frameOf b t d .edges
-            → literalValue (crossed (frameOf b t d) P _&&_ literalValue value-reads vs at) (2 * (edgesAt (frameOf b t d) + e) + 1)
+        edge-now : (e : ℕ) → e < tableFrame b t d .edges
+            → literalValue (crossed (tableFrame b t d) P _&&_ literalValue value-reads vs at) (2 * (edgesAt (tableFrame b t d) + e) + 1)
             ≡ not (eqb (stateAfter t) (e / 2 ^ inputs b) && eqb (getD c t 0) (e % 2 ^ inputs b))
-        unfolding frameOf
+        unfolding tableFrame
         edge-now e l =
-            let F : Frame = frameOf b t d in
+            let F : Frame = tableFrame b t d in
             let X : List Bool = crossed F P _&&_ literalValue value-reads vs at in
             literal-odd X (2 * (edgesAt F + e) + 1) (edgesAt F + e) refl
             ∙ ap not
@@ -215,11 +215,11 @@ module _ (b c : List ℕ) where
 
         -- a gather chain, inverted: the test of that edge
         gather-now : (test : ℕ → Bool) (a : Bool)
-            → a ≡ together _&&_ (literalValue (crossed (frameOf b t d) P _&&_ literalValue value-reads vs at)) (literalValue vs 1) (invertedEdges (edgesAt (frameOf b t d)) test (frameOf b t d .edges))
+            → a ≡ together _&&_ (literalValue (crossed (tableFrame b t d) P _&&_ literalValue value-reads vs at)) (literalValue vs 1) (invertedEdges (edgesAt (tableFrame b t d)) test (tableFrame b t d .edges))
             → not a ≡ test (stateAfter t * 2 ^ inputs b + getD c t 0)
-        unfolding frameOf
+        unfolding tableFrame
         gather-now test a e =
-            let F : Frame = frameOf b t d in
+            let F : Frame = tableFrame b t d in
             let f : ℕ → Bool = literalValue (crossed F P _&&_ literalValue value-reads vs at) in
             ap not
             (e
@@ -229,9 +229,9 @@ module _ (b c : List ℕ) where
             ∙ not-not (test (stateAfter t * 2 ^ inputs b + getD c t 0))
 
         hands-on : HandsOn _&&_ literalValue value-reads b start OfState OfOutput t d vs
-        unfolding nextLiteral outLiteral entering withBit frameOf
+        unfolding nextLiteral outLiteral entering withBit tableFrame
         hands-on =
-            let F : Frame = frameOf b t d in
+            let F : Frame = tableFrame b t d in
             let X : List Bool = run _&&_ literalValue vs (frameGates F) in
             let K : ℕ = 2 ^ inputs b in
             let s₀ : ℕ = stateAfter t in

@@ -9,7 +9,7 @@ use lib.Seq.{getD-append-add, take-suc, take-length}
 use borrow.Author.Tests.{lt-ltb, le-ltb, eq-eqb}
 use Rattle.words.specs.Words.{wordAt, wordBytes, Fit, none, more}
 use Rattle.words.proofs.Laws.{allBytes-length, fit-append, word-back}
-use Rattle.verdict.specs.Figures.{answer}
+use Rattle.verdict.specs.Judgements.{answer}
 use Rattle.sizes.specs.Sizes.{inputs, outputs, frames}
 use Rattle.sizes.specs.Sized.{Sized}
 use Rattle.circuit.specs.Lists.{grown}

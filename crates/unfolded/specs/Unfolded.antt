@@ -7,7 +7,7 @@ use mathlib.Core.List.{List, [], _∷_, _++_, map}
 use lib.Dec.{ltb, eqb}
 use lib.ListN.{length, getD}
 use Rattle.words.specs.Words.{wordBytes}
-use Rattle.verdict.specs.Figures.{answer, refuse, andThen, resultAfter}
+use Rattle.verdict.specs.Judgements.{answer, refuse, andThen, resultAfter}
 use Rattle.verdict.specs.declared.Figures.{Figures}
 use Rattle.sizes.specs.Sizes.{inputs, outputs, frames}
 use Rattle.circuit.specs.Lists.{grown, listed, bit}
@@ -26,15 +26,15 @@ lastOf at left [] = left
 lastOf at left (r ∷ rs) = lastOf (suc at) (2 * at) rs
 
 -- k chains from signal `at` on, one behind the other, each begun with literal 1; chain i has the right literals f i
-unfoldable pub chains : (at : ℕ) (f : ℕ → List ℕ) (k : ℕ) → List (ℕ × ℕ)
+unfoldable pub chainsFrom : (at : ℕ) (f : ℕ → List ℕ) (k : ℕ) → List (ℕ × ℕ)
 unfolding chain
-chains at f zero = []
-chains at f (suc k) = let g : List (ℕ × ℕ) = chains at f k in g ++ chain (at + length g) 1 (f k)
+chainsFrom at f zero = []
+chainsFrom at f (suc k) = let g : List (ℕ × ℕ) = chainsFrom at f k in g ++ chain (at + length g) 1 (f k)
 
 -- the literal that chain i ends with: its last gate, or 1
 unfoldable pub ending : (at : ℕ) (f : ℕ → List ℕ) (i : ℕ) → ℕ
-unfolding chains lastOf
-ending at f i = lastOf (at + length (chains at f i)) 1 (f i)
+unfolding chainsFrom lastOf
+ending at f i = lastOf (at + length (chainsFrom at f i)) 1 (f i)
 
 -- a literal inverted; a chain without gates ends with 1, so inverted with 0
 unfoldable pub inverted : ℕ → ℕ
@@ -69,8 +69,8 @@ unfolding inputLiteral grown
 matching n t w = listed [] (inputLiteral n t w) n
 
 unfoldable pub matchGates : Frame → List (ℕ × ℕ)
-unfolding matching chains
-matchGates F = chains (F .at) (matching (F .inputs) (F .frame)) (2 ^ F .inputs)
+unfolding matching chainsFrom
+matchGates F = chainsFrom (F .at) (matching (F .inputs) (F .frame)) (2 ^ F .inputs)
 
 unfoldable pub matchLiteral : Frame → (w : ℕ) → ℕ
 unfolding matching ending
@@ -105,8 +105,8 @@ unfolding invertedEdges edgesAt
 entering F s = invertedEdges (edgesAt F) (λ e. eqb (F .next e) s) (F .edges)
 
 unfoldable pub nextGates : Frame → List (ℕ × ℕ)
-unfolding nextGatesAt entering chains
-nextGates F = chains (nextGatesAt F) (entering F) (F .nexts)
+unfolding nextGatesAt entering chainsFrom
+nextGates F = chainsFrom (nextGatesAt F) (entering F) (F .nexts)
 
 unfoldable pub nextLiteral : Frame → (s : ℕ) → ℕ
 unfolding nextGatesAt entering ending inverted
@@ -122,8 +122,8 @@ unfolding invertedEdges edgesAt bit
 withBit F j = invertedEdges (edgesAt F) (λ e. bit (F .out e) j) (F .edges)
 
 unfoldable pub outGates : Frame → List (ℕ × ℕ)
-unfolding outGatesAt withBit chains
-outGates F = chains (outGatesAt F) (withBit F) (F .outputs)
+unfolding outGatesAt withBit chainsFrom
+outGates F = chainsFrom (outGatesAt F) (withBit F) (F .outputs)
 
 unfoldable pub outLiteral : Frame → (j : ℕ) → ℕ
 unfolding outGatesAt withBit ending inverted
@@ -142,9 +142,9 @@ pub record Drawing : Type 0 where
   pub outputs : List ℕ
 
 -- the frame from layer t to layer t + 1; next states are drawn if t + 1 < T. Gate g (from 0) is signal 1 + n·T + g.
-unfoldable pub frameOf : List ℕ → (t : ℕ) → Drawing → Frame
+unfoldable pub tableFrame : List ℕ → (t : ℕ) → Drawing → Frame
 unfolding inputs outputs frames states entryAt outputsAt nextsAt
-frameOf b t d = record {
+tableFrame b t d = record {
   frame = t;
   inputs = inputs b;
   outputs = outputs b;
@@ -166,9 +166,9 @@ withFrame d F = record {
 
 -- the first t frames; the start's literal is 1
 unfoldable pub drawing : List ℕ → (t : ℕ) → Drawing
-unfolding frameOf withFrame
+unfolding tableFrame withFrame
 drawing b zero = record { gates = []; states = 1 ∷ []; outputs = [] }
-drawing b (suc t) = let d : Drawing = drawing b t in withFrame d (frameOf b t d)
+drawing b (suc t) = let d : Drawing = drawing b t in withFrame d (tableFrame b t d)
 
 -- After all frames come the m·T output gates: left the last gather gate inverted (none: 0), right literal 1
 unfoldable pub outputGate : Drawing → (q : ℕ) → ℕ × ℕ

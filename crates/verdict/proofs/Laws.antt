@@ -1,6 +1,6 @@
 -- Laws of judgements: one after the other, the first that refuses, and what acceptance tells. Assumes nothing.
 use mathlib.Core.Path.{_≡_, refl, sym, ap, _∙_}
-use mathlib.Core.Bool.{Bool, true, false}
+use mathlib.Core.Bool.{Bool, true, false, cond}
 use mathlib.Core.List.{List, _++_}
 use Prim.Native.Nat.{ℕ, zero, suc, _+_, _-_, _≤_, _<_}
 use native.Mathlib.Nat.{le-refl}
@@ -10,7 +10,7 @@ use native.Mathlib.Decide.{decLt}
 use lib.Dec.{eqb}
 use lib.ListN.{drop}
 use borrow.Author.Tests.{eqb-true, eqb-false}
-use Rattle.verdict.specs.Figures.{answer, refusalFigures, figures, pick, refuse, andThen, refuseFirst, firstRefusal, resultAfter}
+use Rattle.verdict.specs.Judgements.{answer, refusalFigures, figures, refuse, andThen, refuseFirst, firstRefusal, resultAfter}
 use Rattle.verdict.specs.declared.Figures.{Figures}
 use Rattle.verdict.specs.declared.Verdict.{Verdict}
 use Rattle.verdict.specs.declared.Verdict.the-variants.{Accepted, Refused}
@@ -55,7 +55,7 @@ accepts x f p e q = sym e ∙ ap figures q
 pub both-accept : (f g : Figures) (p : ℕ) → andThen f g ≡ answer 0 p → (q : ℕ) × (f ≡ answer 0 q) × (g ≡ answer 0 p)
 both-accept f g p e = go (eqb (f .number) 0) refl e
   where
-    go : (t : Bool) → eqb (f .number) 0 ≡ t → pick t g f ≡ answer 0 p → (q : ℕ) × (f ≡ answer 0 q) × (g ≡ answer 0 p)
+    go : (t : Bool) → eqb (f .number) 0 ≡ t → cond t g f ≡ answer 0 p → (q : ℕ) × (f ≡ answer 0 q) × (g ≡ answer 0 p)
     go true q h = (f .place, ap (λ (n : ℕ). answer n (f .place)) (eqb-true _ 0 q), h)
     go false q h = absurd (eqb-false _ 0 q (ap (λ (f : Figures). f .number) h))
 

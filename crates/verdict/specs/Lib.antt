@@ -1,2 +1,2 @@
 -- What a reader of `verdict` must believe, in the order of reading.
-pub mod Figures
+pub mod Judgements

@@ -1,6 +1,6 @@
 // What every call answers: accepted with a place, or refused for one of document 01's reasons, each with its place.
 ghost use mathlib.Core.Path.{_≡_};
-ghost use Rattle.verdict.specs.Figures.{figures, refusalFigures};
+ghost use Rattle.verdict.specs.Judgements.{figures, refusalFigures};
 
 pub enum Verdict {
     Accepted(usize),

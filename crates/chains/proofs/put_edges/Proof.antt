@@ -8,7 +8,7 @@ use native.Mathlib.Omega.{arith}
 use denote.Ref.{now}
 use lib.ListN.{length}
 use Rattle.circuit.specs.Lists.{grown, listed}
-use Rattle.unfolded.proofs.Lists.{listed-length}
+use Rattle.circuit.proofs.Lists.{listed-length}
 use Rattle.chains.specs.Chains.{gatesStored, edgeOf}
 use Rattle.chains.proofs.Laws.{words-from, words-to, edge-is}
 use Rattle.chains.proofs.Stored.{gates-none, gates-length, fits-still, each-more}

@@ -8,7 +8,7 @@ use denote.Ref.{now}
 use lib.ListN.{length}
 use Rattle.circuit.specs.Lists.{grown, listed}
 use Rattle.unfolded.specs.Unfolded.{chain, inputLiteral, matching}
-use Rattle.unfolded.proofs.Lists.{listed-length, listed-more}
+use Rattle.circuit.proofs.Lists.{listed-length, listed-more}
 use Rattle.unfolded.proofs.Gates.{chain-length}
 use Rattle.chains.specs.Chains.{gatesStored}
 use Rattle.chains.proofs.Stored.{gates-none, gates-length, fits-still, chain-more}

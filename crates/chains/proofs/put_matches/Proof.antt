@@ -7,7 +7,7 @@ use native.Mathlib.Nat.{mul-le-mul-right}
 use native.Mathlib.Omega.{arith}
 use denote.Ref.{now}
 use lib.ListN.{length}
-use Rattle.unfolded.specs.Unfolded.{chains, matching}
+use Rattle.unfolded.specs.Unfolded.{chainsFrom, matching}
 use Rattle.unfolded.proofs.Counts.{matches-length}
 use Rattle.chains.specs.Chains.{gatesStored}
 use Rattle.chains.proofs.Laws.{words-to, match-room, match-length}
@@ -17,13 +17,13 @@ use Rattle.chains.proofs.put_matches.Tie as tie
 
 abbrev Inv-loop : tie.InvT-loop
 Inv-loop target t k result₀ words w₀ result w =
-    (w ≤ words) × (result ≡ gatesStored (target .gates) k result₀ (chains (target .base + k) (matching (target .inputs) t) w))
+    (w ≤ words) × (result ≡ gatesStored (target .gates) k result₀ (chainsFrom (target .base + k) (matching (target .inputs) t) w))
 
 abbrev μ-loop : tie.MeasureT-loop
 μ-loop target t k result₀ words w₀ result w = words - w
 
 loop-holds : tie.Need-loop-holds Inv-loop μ-loop
-unfolding chains
+unfolding chainsFrom
 loop-holds c = (omega arith, sym (gates-none _ _ _))
 
 -- at the loop's head: the entry of the function, and how many gates are stored
@@ -31,11 +31,11 @@ abbrev start : tie.At-loop Inv-loop μ-loop → tie.Start Inv-loop μ-loop
 start l = l .before .before
 
 many : (l : tie.At-loop Inv-loop μ-loop)
-    → length (chains (start l .args .target .base + start l .args .k) (matching (start l .args .target .inputs) (start l .args .t)) (l .loop .w)) ≡ l .loop .w * start l .args .target .inputs
+    → length (chainsFrom (start l .args .target .base + start l .args .k) (matching (start l .args .target .inputs) (start l .args .t)) (l .loop .w)) ≡ l .loop .w * start l .args .target .inputs
 many l = matches-length _ _ _ (l .loop .w)
 
 within : (l : tie.At-loop Inv-loop μ-loop)
-    → start l .args .k + length (chains (start l .args .target .base + start l .args .k) (matching (start l .args .target .inputs) (start l .args .t)) (l .loop .w)) ≤ start l .args .target .gates
+    → start l .args .k + length (chainsFrom (start l .args .target .base + start l .args .k) (matching (start l .args .target .inputs) (start l .args .t)) (l .loop .w)) ≤ start l .args .target .gates
 within l = let a = start l in omega (arith, many l, mul-le-mul-right (a .args .target .inputs) (l .loop .inv .0), a .pre .1)
 
 -- in a turn: there is room for one chain more
@@ -92,7 +92,7 @@ returns c =
     let l = c .before .before in
     let a = start l in
     let e : l .loop .w ≡ a .args .target .words = omega (arith, c .before .loop-test .left) in
-    (l .loop .inv .1 ∙ ap (λ (w : ℕ). gatesStored (a .args .target .gates) (a .args .k) (now (a .args .result)) (chains (a .args .target .base + a .args .k) (matching (a .args .target .inputs) (a .args .t)) w)) e, refl)
+    (l .loop .inv .1 ∙ ap (λ (w : ℕ). gatesStored (a .args .target .gates) (a .args .k) (now (a .args .result)) (chainsFrom (a .args .target .base + a .args .k) (matching (a .args .target .inputs) (a .args .t)) w)) e, refl)
 
 pub put-matches-spec : {M : Type 1} → statement M
 put-matches-spec =

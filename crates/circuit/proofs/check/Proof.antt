@@ -5,10 +5,10 @@ use mathlib.Core.List.{List}
 use Prim.Native.Nat.{ℕ, _+_, _*_}
 use native.Mathlib.Omega.{arith}
 use denote.Ref.{now}
-use Rattle.verdict.specs.Figures.{figures}
+use Rattle.verdict.specs.Judgements.{figures}
 use Rattle.verdict.proofs.Laws.{stop, go-on, accepts}
 use Rattle.circuit.specs.Circuit.{leftsAt, rightsAt, literalsChecked, checked}
-use Rattle.circuit.specs.Legal.{Headed}
+use Rattle.circuit.specs.WellFormed.{CircuitHeaded}
 use Rattle.circuit.proofs.Accepted.{headed, legal}
 use Rattle.circuit.proofs.Causal.{causal}
 use borrow.Author.Needs.{needs}
@@ -34,7 +34,7 @@ returns c =
 abbrev b₁ : tie.After-enum-told → List ℕ
 b₁ c = now (c .before .before .before .before .args .circuit)
 
-headed₁ : (c : tie.After-enum-told) → Headed (b₁ c)
+headed₁ : (c : tie.After-enum-told) → CircuitHeaded (b₁ c)
 headed₁ c =
     let h = c .before .before in
     headed (b₁ c) (c .enum-told .given .0 .0) 8 (omega arith) (accepts (h .check-head .result) _ (c .enum-told .given .0 .0) (h .check-head .ensures) (c .enum-told .given .1)) .0
@@ -113,15 +113,14 @@ check-look-ahead-requires : tie.Need-check-look-ahead-requires
 check-look-ahead-requires c κs =
     let r = c .before .before in
     let k = r .before .before in
-    let l = k .before .before in (
-      headed₁ (back r),
-      (
-        l .before .read .ensures,
-        legal (b₁ (back r)) (k .enum-told3 .given .0 .0) (c .enum-told5 .given .0 .0)
-            (accepts (l .check-literals .result) _ (k .enum-told3 .given .0 .0) (lefts-is l) (k .enum-told3 .given .1))
-            (accepts (r .check-literals2 .result) _ (c .enum-told5 .given .0 .0) (rights-is r) (c .enum-told5 .given .1)),
-      ),
-    )
+    let l = k .before .before in
+    record {
+      headed = headed₁ (back r);
+      head-is = l .before .read .ensures;
+      legal = legal (b₁ (back r)) (k .enum-told3 .given .0 .0) (c .enum-told5 .given .0 .0)
+          (accepts (l .check-literals .result) _ (k .enum-told3 .given .0 .0) (lefts-is l) (k .enum-told3 .given .1))
+          (accepts (r .check-literals2 .result) _ (c .enum-told5 .given .0 .0) (rights-is r) (c .enum-told5 .given .1));
+    }
 
 returns-4 : tie.Need-returns-4
 unfolding checked

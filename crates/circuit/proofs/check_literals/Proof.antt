@@ -6,7 +6,7 @@ use mathlib.Core.List.{List}
 use Prim.Native.Nat.{ℕ, _+_, _*_, _-_, _≤_}
 use native.Mathlib.Omega.{arith}
 use denote.Ref.{now}
-use Rattle.verdict.specs.Figures.{answer, refuseFirst}
+use Rattle.verdict.specs.Judgements.{answer, refuseFirst}
 use Rattle.verdict.specs.declared.Figures.{Figures}
 use Rattle.verdict.proofs.Laws.{first-here, first-later, first-none}
 use Rattle.circuit.specs.Circuit.{gates, admissible, literalAt, literalsChecked}

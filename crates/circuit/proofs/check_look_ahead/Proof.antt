@@ -7,7 +7,7 @@ use borrow.Author.Tests.{lt-ltb, le-ltb}
 use denote.Ref.{now}
 use lib.Dec.{ltb}
 use lib.ListN.{getD}
-use Rattle.verdict.specs.Figures.{answer, refuseFirst}
+use Rattle.verdict.specs.Judgements.{answer, refuseFirst}
 use Rattle.verdict.proofs.Laws.{first-here, first-later, first-none}
 use Rattle.circuit.specs.Circuit.{allOutputs, looksAhead, lookAheadChecked}
 use Rattle.circuit.proofs.Laws.{ahead-is, output-at, output-in}
@@ -62,10 +62,10 @@ test c =
     let b = now (a .args .circuit) in
     let h = a .args .head in
     let q = c .before .before .loop .q in
-    let e = output-at b (h .base) (h .gates) (h .total) q (a .pre .1 .0 .base-is) (a .pre .1 .0 .gates-is) (a .pre .1 .0 .total-is) in
+    let e = output-at b (h .base) (h .gates) (h .total) q (a .pre .head-is .base-is) (a .pre .head-is .gates-is) (a .pre .head-is .total-is) in
     ahead-is b (c .before .before .before .before .before .latest-frames .result) (h .outputs) (c .frame-of .result) (h .base + (h .gates - h .total) + q) q
-    (c .before .before .before .before .before .latest-frames .ensures) (a .pre .1 .0 .outputs-is) (c .frame-of .ensures) e
-    (omega (arith, e, output-in b q (a .pre .0 .outputs-to) (omega (arith, a .pre))))
+    (c .before .before .before .before .before .latest-frames .ensures) (a .pre .head-is .outputs-is) (c .frame-of .ensures) e
+    (omega (arith, e, output-in b q (a .pre .headed .outputs-to) (omega (arith, a .pre))))
 
 returns : tie.Need-returns Inv-loop μ-loop
 returns c = sym (c .before .before .before .loop .inv .1 ∙ first-here _ _ _ _ _ _ (omega arith) (test (c .before) ∙ lt-ltb _ _ (c .if1 .taken)))

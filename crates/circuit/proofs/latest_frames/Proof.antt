@@ -30,7 +30,7 @@ unfolding latestFrames
 loop-holds c =
     let s = c .before .before .args .head in
     let h = c .before .before .pre in
-    (omega arith, search needs, signals-none inputFrames (laterFrame (now (c .before .before .args .circuit))) (now (c .before .before .args .circuit)) (c .input-frames .result) (s .inputs) (s .base) (h .1 .0 .inputs-is) (h .1 .0 .base-is) (c .input-frames .ensures))
+    (omega arith, search needs, signals-none inputFrames (laterFrame (now (c .before .before .args .circuit))) (now (c .before .before .args .circuit)) (c .input-frames .result) (s .inputs) (s .base) (h .head-is .inputs-is) (h .head-is .base-is) (c .input-frames .ensures))
 
 mul-read : tie.Need-mul-read Inv-loop μ-loop
 mul-read c = omega arith
@@ -76,10 +76,10 @@ right : (c : tie.After-read2 Inv-loop μ-loop) → c .read2 .result ≡ literalA
 right c = c .read2 .ensures .0 ∙ right-is (b₂ c) (start c .args .head .gates) (g₂ c) (omega (arith, start c .pre))
 
 left-in : (c : tie.After-read2 Inv-loop μ-loop) → c .before .read .result / 2 < start c .args .head .base + g₂ c
-left-in c = left-below (b₂ c) (start c .pre .1 .1) (g₂ c) (start c .args .head .base + g₂ c) (c .before .read .result) (gate c) (omega (arith, start c .pre)) (left c)
+left-in c = left-below (b₂ c) (start c .pre .legal) (g₂ c) (start c .args .head .base + g₂ c) (c .before .read .result) (gate c) (omega (arith, start c .pre)) (left c)
 
 right-in : (c : tie.After-read2 Inv-loop μ-loop) → c .read2 .result / 2 < start c .args .head .base + g₂ c
-right-in c = right-below (b₂ c) (start c .pre .1 .1) (g₂ c) (start c .args .head .base + g₂ c) (c .read2 .result) (gate c) (omega (arith, start c .pre)) (right c)
+right-in c = right-below (b₂ c) (start c .pre .legal) (g₂ c) (start c .args .head .base + g₂ c) (c .read2 .result) (gate c) (omega (arith, start c .pre)) (right c)
 
 -- there is room for every gate
 room : (c : tie.After-read2 Inv-loop μ-loop) → start c .args .head .base + g₂ c < 4113
@@ -132,7 +132,7 @@ returns : tie.Need-returns Inv-loop μ-loop
 returns c =
     let a = c .before .before .before .before in
     signals-all (latestFrames (now (a .args .circuit))) (now (a .args .circuit)) (c .before .loop .latest) (a .args .head .base) (c .before .loop .g)
-    (a .pre .1 .0 .base-is) (omega (arith, a .pre, c .before .loop .inv)) (c .before .loop .inv .2)
+    (a .pre .head-is .base-is) (omega (arith, a .pre, c .before .loop .inv)) (c .before .loop .inv .2)
 
 pub latest-frames-spec : {M : Type 1} → statement M
 latest-frames-spec =

@@ -29,7 +29,7 @@ input-values-requires c κs =
       omega (arith, a .pre),
       omega (arith, a .pre),
       omega (arith, a .pre),
-      inputs-fit (now (a .args .circuit)) (s .inputs) (s .base) (length (now (a .args .words))) (a .pre .1 .0 .inputs-is) (a .pre .1 .0 .base-is) (a .pre .1 .1 .1),
+      inputs-fit (now (a .args .circuit)) (s .inputs) (s .base) (length (now (a .args .words))) (a .pre .0 .head-is .inputs-is) (a .pre .0 .head-is .base-is) (a .pre .1),
     )
 
 loop-holds : tie.Need-loop-holds Inv-loop μ-loop
@@ -41,7 +41,7 @@ loop-holds c =
       omega arith,
       search needs,
       signals-none (inputValues (now (a .args .words))) (gateValue b) b (c .input-values .result) (s .inputs) (s .base)
-          (a .pre .1 .0 .inputs-is) (a .pre .1 .0 .base-is) (c .input-values .ensures),
+          (a .pre .0 .head-is .inputs-is) (a .pre .0 .head-is .base-is) (c .input-values .ensures),
     )
 
 -- in a turn: the circuit, the sizes and the gate
@@ -86,7 +86,7 @@ left c = c .read .ensures .0 ∙ left-is (b₀ (c .before .before)) (g₀′ (c 
 left-in : (c : tie.After-read Inv-loop μ-loop) → c .read .result / 2 < n₀ (c .before .before)
 left-in c =
     let i = c .before .before in
-    left-below (b₀ i) (start i .pre .1 .1 .0) (g₀′ i) (n₀ i) (c .read .result) (gate i) (omega (arith, start i .pre)) (left c)
+    left-below (b₀ i) (start i .pre .0 .legal) (g₀′ i) (n₀ i) (c .read .result) (gate i) (omega (arith, start i .pre)) (left c)
 
 literal-value-requires : tie.Need-literal-value-requires Inv-loop μ-loop
 literal-value-requires c κs = omega (arith, left-in c, room (c .before .before), c .before .before .before .loop .inv .1)
@@ -113,12 +113,12 @@ abbrev i₂ : tie.After-read2 Inv-loop μ-loop → tie.In-loop Inv-loop μ-loop
 i₂ c = c .before .before .before .before .before
 
 right : (c : tie.After-read2 Inv-loop μ-loop) → c .read2 .result ≡ literalAt (b₀ (i₂ c)) (rightsAt (b₀ (i₂ c))) (g₀′ (i₂ c))
-right c = c .read2 .ensures .0 ∙ right-is (b₀ (i₂ c)) (start (i₂ c) .args .head .gates) (g₀′ (i₂ c)) (start (i₂ c) .pre .1 .0 .gates-is)
+right c = c .read2 .ensures .0 ∙ right-is (b₀ (i₂ c)) (start (i₂ c) .args .head .gates) (g₀′ (i₂ c)) (start (i₂ c) .pre .0 .head-is .gates-is)
 
 right-in : (c : tie.After-read2 Inv-loop μ-loop) → c .read2 .result / 2 < n₀ (i₂ c)
 right-in c =
     let i = i₂ c in
-    right-below (b₀ i) (start i .pre .1 .1 .0) (g₀′ i) (n₀ i) (c .read2 .result) (gate i) (omega (arith, start i .pre)) (right c)
+    right-below (b₀ i) (start i .pre .0 .legal) (g₀′ i) (n₀ i) (c .read2 .result) (gate i) (omega (arith, start i .pre)) (right c)
 
 literal-value-requires-2 : tie.Need-literal-value-requires-2 Inv-loop μ-loop
 literal-value-requires-2 c κs = omega (arith, right-in c, room (i₂ c), i₂ c .before .loop .inv .1)
@@ -158,7 +158,7 @@ returns c =
     let a = c .before .before .before .before .before in
     let b = now (a .args .circuit) in
     signals-all (signalValues b (now (a .args .words))) b (c .before .loop .values) (a .args .head .base) (c .before .loop .g)
-    (a .pre .1 .0 .base-is) (omega (arith, a .pre, c .before .loop .inv)) (c .before .loop .inv .2)
+    (a .pre .0 .head-is .base-is) (omega (arith, a .pre, c .before .loop .inv)) (c .before .loop .inv .2)
 
 pub signal-values-spec : {M : Type 1} → statement M
 signal-values-spec =

@@ -8,7 +8,7 @@ use denote.Ref.{now}
 use Rattle.verdict.proofs.Laws.{accepts}
 use Rattle.sizes.specs.Sizes.{inputs, frames}
 use Rattle.sizes.specs.Sized.{Fed}
-use Rattle.circuit.proofs.Accepted.{Accepted, accepted}
+use Rattle.circuit.proofs.Accepted.{Accepted, well-formed, accepted}
 use Rattle.circuit.proofs.Simulation.{refused-circuit, refused-sequence, sequence-fed, accepted-all}
 use borrow.Author.Needs.{needs}
 use Rattle.circuit.proofs.simulate.Statement.{statement}
@@ -75,7 +75,7 @@ write-outputs-requires c κs =
     let s = c .before .before .before in
     let r = s .before in
     let f = fed₁ (c .before) in
-    (known (r .before) .head, (r .read .ensures, (known (r .before) .literals, (f .0 .as-many, f .1))))
+    (well-formed (known (r .before)) (r .read .ensures), (f .0 .as-many, f .1))
 
 same-length : tie.Need-same-length
 same-length c = search needs

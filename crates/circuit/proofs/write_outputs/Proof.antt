@@ -25,7 +25,7 @@ abbrev μ-loop : tie.MeasureT-loop
 signal-values-requires : tie.Need-signal-values-requires Inv-loop μ-loop
 signal-values-requires c κs =
     let p = c .before .before .before .pre in
-    (p .0, (p .1 .0, (p .1 .1 .0, p .1 .1 .1 .0)))
+    (p .0, p .1 .0)
 
 sub-at : tie.Need-sub-at Inv-loop μ-loop
 sub-at c = omega (arith, c .before .before .before .before .before .pre)
@@ -53,7 +53,7 @@ full c = search needs
 fit : (c : tie.In-loop Inv-loop μ-loop) → c .before .loop .at + start c .args .head .outputs ≤ gateSignal (b₀ c) (gates (b₀ c))
 fit c =
     let p = start c .pre in
-    omega (arith, output-room (b₀ c) (c .before .loop .t) (p .0 .outputs-to) (omega (arith, c, p)), c .before .loop .inv .4, p .1 .0 .outputs-is)
+    omega (arith, output-room (b₀ c) (c .before .loop .t) (p .0 .headed .outputs-to) (omega (arith, c, p)), c .before .loop .inv .4, p .0 .head-is .outputs-is)
 
 slice-aggregate-pack : tie.Need-slice-aggregate-pack Inv-loop μ-loop
 slice-aggregate-pack c = sym (full (c .before .before .before .before .before))
@@ -61,7 +61,7 @@ slice-aggregate-pack c = sym (full (c .before .before .before .before .before))
 pack-requires : tie.Need-pack-requires Inv-loop μ-loop
 pack-requires c κs =
     let p = start (c .before) .pre in
-    (omega (arith, p), omega (arith, p, fit (c .before), signals-fit (b₀ (c .before)) (p .0), full (c .before .before .before .before .before)))
+    (omega (arith, p), omega (arith, p, fit (c .before), signals-fit (b₀ (c .before)) (p .0 .headed), full (c .before .before .before .before .before)))
 
 mul-result : tie.Need-mul-result Inv-loop μ-loop
 mul-result c = omega (arith, c .before .before, start (c .before .before) .pre)
@@ -72,7 +72,7 @@ slice-write-result c = omega (arith, c .before .before, start (c .before .before
 add-at-2 : tie.Need-add-at-2 Inv-loop μ-loop
 add-at-2 c =
     let i = c .before .before in
-    omega (arith, fit i, signals-fit (b₀ i) (start i .pre .0), start i .pre)
+    omega (arith, fit i, signals-fit (b₀ i) (start i .pre .0 .headed), start i .pre)
 
 add-t : tie.Need-add-t Inv-loop μ-loop
 add-t c = omega (arith, c .before .before, start (c .before .before) .pre)
@@ -90,10 +90,10 @@ loop-again c =
       simp length-set (l .inv .1),
       fill-grown [] (λ _ k. outputWord (b₀ i) (now (s .args .words)) k) (l .result) (l .t) (l .t) (c .pack .result)
           (omega (arith, i, s .pre)) (l .inv .2)
-          (c .pack .ensures ∙ word-is (b₀ i) (now (s .args .words)) (v .signal-values .result) (s .args .head .outputs) (l .at) (l .t) (v .signal-values .ensures) (s .pre .1 .0 .outputs-is) (l .inv .4) (fit i))
+          (c .pack .ensures ∙ word-is (b₀ i) (now (s .args .words)) (v .signal-values .result) (s .args .head .outputs) (l .at) (l .t) (v .signal-values .ensures) (s .pre .0 .head-is .outputs-is) (l .inv .4) (fit i))
           (l .t + 1) (l .t + 1) refl refl,
       drop-more (l .result) (now (s .args .result)) (l .t) (c .pack .result) (l .inv .3),
-      omega (arith, l .inv .4, s .pre .1 .0 .outputs-is, output-next (b₀ i) (l .t)),
+      omega (arith, l .inv .4, s .pre .0 .head-is .outputs-is, output-next (b₀ i) (l .t)),
     )
 
 same-length : tie.Need-same-length Inv-loop μ-loop

@@ -14,7 +14,7 @@ use mir.Val.{Fits}
 use mir.Syntax.{w16}
 use Rattle.layered.proofs.States.{count-last}
 use Rattle.layered.proofs.Theorems.{rows}
-use Rattle.circuit.specs.Legal.{Headed}
+use Rattle.circuit.specs.WellFormed.{CircuitHeaded}
 use Rattle.circuit.specs.Theorems.{response}
 use Rattle.classify.specs.Classified.{stateCount, Known}
 use Rattle.classify.proofs.Layers.{two-words}
@@ -30,7 +30,7 @@ abbrev μ-loop : tie.MeasureT-loop
 μ-loop circuit head scratch₀ counts₀ frames t₀ scratch counts t = t
 
 -- the count of layer T
-first-count : (b : List ℕ) → Headed b → (counts : List ℕ) (frames u : ℕ) → frames ≡ framesOf b → frames < length counts → frames ≤ u → u ≤ framesOf b
+first-count : (b : List ℕ) → CircuitHeaded b → (counts : List ℕ) (frames u : ℕ) → frames ≡ framesOf b → frames < length counts → frames ≤ u → u ≤ framesOf b
     → getD (set counts frames 1) u 0 ≡ stateCount b u
 first-count b H counts frames u e room lo hi =
     let q : u ≡ frames = omega arith in
@@ -57,21 +57,21 @@ few c =
     let l = c .before .before .before in
     let a = l .before .before .before in
     let b = now (a .args .circuit) in
-    record { fits = omega (arith, c .classify-layer .ensures .1, rows (2 ^ inputs b) (framesOf b) (response b) .in-word (inputs b) (l .loop .t - 1) refl (a .pre .0 .sizes .bits-to) (omega (arith, a .pre .1 .0, l .loop .inv .0))) }
+    record { fits = omega (arith, c .classify-layer .ensures .1, rows (2 ^ inputs b) (framesOf b) (response b) .in-word (inputs b) (l .loop .t - 1) refl (a .pre .0 .headed .sizes .bits-to) (omega (arith, a .pre .0 .head-is, l .loop .inv .0))) }
 
 mul-counts : tie.Need-mul-counts Inv-loop μ-loop
-mul-counts c = omega (arith, c .before .before .pre .0 .sizes, c .before .before .pre .1 .0)
+mul-counts c = omega (arith, c .before .before .pre .0 .headed .sizes, c .before .before .pre .0 .head-is)
 
 array-write-counts : tie.Need-array-write-counts Inv-loop μ-loop
-array-write-counts c = omega (arith, c .before .before .pre .0 .sizes, c .before .before .pre .1 .0)
+array-write-counts c = omega (arith, c .before .before .pre .0 .headed .sizes, c .before .before .pre .0 .head-is)
 
 loop-holds : tie.Need-loop-holds Inv-loop μ-loop
 unfolding Known
 loop-holds c =
     let a = c .before .before in
     let b = now (a .args .circuit) in
-    let e = a .pre .1 .0 .frames-is in
-    (omega arith, simp length-set, refl, (λ u h lo hi l. absurd (omega arith)), λ u lo hi. first-count b (a .pre .0) (replicate 17 0) (a .args .head .frames) u e (omega (arith, a .pre .0 .sizes)) lo hi)
+    let e = a .pre .0 .head-is .frames-is in
+    (omega arith, simp length-set, refl, (λ u h lo hi l. absurd (omega arith)), λ u lo hi. first-count b (a .pre .0 .headed) (replicate 17 0) (a .args .head .frames) u e (omega (arith, a .pre .0 .headed .sizes)) lo hi)
 
 sub-t : tie.Need-sub-t Inv-loop μ-loop
 sub-t c = omega arith
@@ -81,7 +81,7 @@ classify-layer-requires c κs =
     let l = c .before .before in
     let a = l .before .before .before in
     let q : suc (l .loop .t - 1) ≡ l .loop .t = omega arith in
-    (a .pre .0, (a .pre .1 .0, (a .pre .1 .1 .0, (omega (arith, a .pre .1 .0), (l .loop .inv .2 ∙ a .pre .1 .1 .1, rw q (l .loop .inv .3))))))
+    (a .pre .0, (omega (arith, a .pre .0 .head-is), (l .loop .inv .2 ∙ a .pre .1, rw q (l .loop .inv .3))))
 
 cast-counts : tie.Need-cast-counts Inv-loop μ-loop
 cast-counts c = few (c .before .before)
@@ -89,12 +89,12 @@ cast-counts c = few (c .before .before)
 mul-counts-2 : tie.Need-mul-counts-2 Inv-loop μ-loop
 mul-counts-2 c =
     let l = c .before .before .before .before .before in
-    omega (arith, l .loop .inv .0, l .before .before .before .pre .0 .sizes, l .before .before .before .pre .1 .0)
+    omega (arith, l .loop .inv .0, l .before .before .before .pre .0 .headed .sizes, l .before .before .before .pre .0 .head-is)
 
 array-write-counts-2 : tie.Need-array-write-counts-2 Inv-loop μ-loop
 array-write-counts-2 c =
     let l = c .before .before .before .before .before in
-    omega (arith, l .loop .inv .0, l .before .before .before .pre .0 .sizes, l .before .before .before .pre .1 .0)
+    omega (arith, l .loop .inv .0, l .before .before .before .pre .0 .headed .sizes, l .before .before .before .pre .0 .head-is)
 
 loop-less : tie.Need-loop-less Inv-loop μ-loop
 loop-less c = omega arith
@@ -109,7 +109,7 @@ loop-again c =
       simp length-set (l .loop .inv .1),
       k .classify-layer .kept .1 .1 .0 ∙ l .loop .inv .2,
       k .classify-layer .ensures .0,
-      more-counts b (l .loop .counts) (l .loop .t) (k .classify-layer .result) (omega arith) (omega (arith, l .loop .inv .0, l .loop .inv .1, a .pre .0 .sizes, a .pre .1 .0))
+      more-counts b (l .loop .counts) (l .loop .t) (k .classify-layer .result) (omega arith) (omega (arith, l .loop .inv .0, l .loop .inv .1, a .pre .0 .headed .sizes, a .pre .0 .head-is))
           (k .classify-layer .ensures .1) (l .loop .inv .4),
     )
 

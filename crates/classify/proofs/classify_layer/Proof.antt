@@ -20,7 +20,7 @@ use Rattle.classify.proofs.classify_layer.Tie as tie
 layer-of-requires : tie.Need-layer-of-requires
 layer-of-requires c κs =
     let a = c .before .before in
-    layer-asked (now (a .args .circuit)) (a .pre .0) (a .args .head) (a .pre .1 .0) (a .args .t) (a .pre .1 .1 .1 .0)
+    layer-asked (now (a .args .circuit)) (a .pre .0 .headed) (a .args .head) (a .pre .0 .head-is) (a .args .t) (a .pre .1 .0)
 
 -- once the layer is there: the entry of the function, the circuit's layer, and the half
 abbrev start : tie.After-layer-of → tie.Start
@@ -29,10 +29,10 @@ start c = c .before .before .before
 is-layer : (c : tie.After-layer-of) → LayerOf (2 ^ inputs (now (start c .args .circuit))) (frames (now (start c .args .circuit))) (start c .args .t) (c .layer-of .result)
 is-layer c =
     let a = start c in
-    layer-told (now (a .args .circuit)) (a .pre .0) (a .args .head) (a .pre .1 .0) (a .args .t) (c .layer-of .result) (c .layer-of .ensures)
+    layer-told (now (a .args .circuit)) (a .pre .0 .headed) (a .args .head) (a .pre .0 .head-is) (a .args .t) (c .layer-of .result) (c .layer-of .ensures)
 
 fits : (c : tie.After-layer-of) → c .layer-of .result .responses + c .layer-of .result .responses ≡ length (now (start c .args .scratch))
-fits c = let a = start c in omega (arith, is-layer c .responses-is, half-is (now (a .args .circuit)), a .pre .1 .1 .1 .1 .0)
+fits c = let a = start c in omega (arith, is-layer c .responses-is, half-is (now (a .args .circuit)), a .pre .1 .1 .0)
 
 add-fill : tie.Need-add-fill
 add-fill c = search needs
@@ -56,13 +56,13 @@ room : (c : tie.After-layer-of)
 room c =
     let a = start c in
     let b = now (a .args .circuit) in
-    let k = two-words (inputs b) (a .pre .0 .sizes .inputs-from) in
-    rw (length-take, length-drop) (omega (arith, fits c, is-layer c .responses-is, power-le (2 ^ inputs b) k (a .args .t + 1) (frames b) (omega (arith, a .pre .1 .1 .1 .0))))
+    let k = two-words (inputs b) (a .pre .0 .headed .sizes .inputs-from) in
+    rw (length-take, length-drop) (omega (arith, fits c, is-layer c .responses-is, power-le (2 ^ inputs b) k (a .args .t + 1) (frames b) (omega (arith, a .pre .1 .0))))
 
 fill-requires : tie.Need-fill-requires
 fill-requires c κs =
     let a = start (c .before) in
-    (a .pre .0, (a .pre .1 .0, (a .pre .1 .1 .0, ((omega arith, omega (arith, a .pre .1 .1 .1 .0)), room (c .before)))))
+    (a .pre .0, ((omega arith, omega (arith, a .pre .1 .0)), room (c .before)))
 
 -- the scratch after the filling
 abbrev layer : tie.After-fill → tie.After-layer-of
@@ -89,7 +89,7 @@ number-layer-requires : tie.Need-number-layer-requires
 number-layer-requires c κs =
     let f = c .before .before .before in
     let a = start (layer f) in
-    filled-placed (now (a .args .circuit)) (a .pre .0) (a .args .t) (a .pre .1 .1 .1 .0) (now (a .args .scratch)) _ (a .pre .1 .1 .1 .1 .0) (was-filled f) _ (is-layer (layer f))
+    filled-placed (now (a .args .circuit)) (a .pre .0 .headed) (a .args .t) (a .pre .1 .0) (now (a .args .scratch)) _ (a .pre .1 .1 .0) (was-filled f) _ (is-layer (layer f))
 
 same-length : tie.Need-same-length
 same-length c = search needs
@@ -104,9 +104,9 @@ returns c =
     let t = a .args .t in
     let s = now (a .args .scratch) in (
       subst (λ (r : List ℕ). Known b r t) (sym (n .number-layer .ensures .0))
-          (known b (a .pre .0) t (a .pre .1 .1 .1 .0) s (after f) (a .pre .1 .1 .1 .1 .0) (was-filled f) (l .layer-of .result) (is-layer l) (a .pre .1 .1 .1 .1 .1)),
+          (known b (a .pre .0 .headed) t (a .pre .1 .0) s (after f) (a .pre .1 .1 .0) (was-filled f) (l .layer-of .result) (is-layer l) (a .pre .1 .1 .1)),
       n .number-layer .ensures .1
-          ∙ counted b (a .pre .0) t (a .pre .1 .1 .1 .0) s (after f) (a .pre .1 .1 .1 .1 .0) (was-filled f) (l .layer-of .result) (is-layer l) (a .pre .1 .1 .1 .1 .1),
+          ∙ counted b (a .pre .0 .headed) t (a .pre .1 .0) s (after f) (a .pre .1 .1 .0) (was-filled f) (l .layer-of .result) (is-layer l) (a .pre .1 .1 .1),
     )
 
 pub classify-layer-spec : {M : Type 1} → statement M

@@ -14,7 +14,7 @@ use lib.Seq.{length-sets}
 use Rattle.circuit.specs.Lists.{listed}
 use Rattle.sizes.specs.Sizes.{outputs as outputsOf, frames as framesOf}
 use Rattle.table.proofs.Offsets.{laid}
-use Rattle.unfolded.specs.Unfolded.{outLiteral, frameOf, drawing, drawn, gatesNeeded}
+use Rattle.unfolded.specs.Unfolded.{outLiteral, tableFrame, drawing, drawn, gatesNeeded}
 use Rattle.unfolded.proofs.Drawings.{drawn-length}
 use Rattle.chains.specs.Chains.{Fits, targetOf, gatesStored}
 use Rattle.chains.specs.declared.Target.{Target}
@@ -132,7 +132,7 @@ loop-again c =
           ∙ ap (λ (t : ℕ). gatesStored (a .gates) 0 (now (s .args .result)) (drawing b t .gates)) (sym e),
       ap length (f .ensures .1 .0) ∙ length-sets (l .loop .states) 0 (drawing b (suc t) .states) ∙ l .loop .inv .3,
       states-kept b (l .loop .states) _ t (t + 1) e (f .ensures .1 .0) (omega (arith, few, l .loop .inv .3)),
-      ap length (f .ensures .1 .1 .0) ∙ length-sets (l .loop .outputs) (a .outputs * t) (listed [] (outLiteral (frameOf b t (drawing b t))) (a .outputs)) ∙ l .loop .inv .5,
+      ap length (f .ensures .1 .1 .0) ∙ length-sets (l .loop .outputs) (a .outputs * t) (listed [] (outLiteral (tableFrame b t (drawing b t))) (a .outputs)) ∙ l .loop .inv .5,
       ap (take (a .outputs * (t + 1))) (f .ensures .1 .1 .0) ∙ outputs-kept b (l .loop .outputs) t (a .outputs) (outputs-are l) (l .loop .inv .6) (omega (arith, places i, l .loop .inv .5))
           ∙ ap (λ (t : ℕ). drawing b t .outputs) (sym e),
     )

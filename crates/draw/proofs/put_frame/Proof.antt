@@ -15,9 +15,9 @@ use lib.Seq.{sets}
 use Rattle.sizes.specs.Sizes.{inputs, frames}
 use Rattle.circuit.specs.Lists.{listed}
 use Rattle.table.specs.Table.{states, layerPart}
-use Rattle.table.specs.Headed.{Headed}
+use Rattle.table.specs.Sound.{TableHeaded}
 use Rattle.table.proofs.Offsets.{laid}
-use Rattle.unfolded.specs.Unfolded.{chains, ending, inverted, Frame, matchGates, edgeGates, nextGates, outLiteral, outGates, frameGates, Drawing, frameOf, drawing}
+use Rattle.unfolded.specs.Unfolded.{chainsFrom, ending, inverted, Frame, matchGates, edgeGates, nextGates, outLiteral, outGates, frameGates, Drawing, tableFrame, drawing}
 use Rattle.unfolded.proofs.Counts.{edge-count, frame-count}
 use Rattle.chains.specs.Chains.{Fits, targetOf, gatesStored, gathering}
 use Rattle.chains.specs.declared.Target.{Target}
@@ -36,9 +36,9 @@ abbrev d₀ : tie.Start → Drawing
 d₀ s = drawing (b₀ s) (s .args .t)
 
 abbrev F₀ : tie.Start → Frame
-F₀ s = frameOf (b₀ s) (s .args .t) (d₀ s)
+F₀ s = tableFrame (b₀ s) (s .args .t) (d₀ s)
 
-head : (s : tie.Start) → Headed (b₀ s)
+head : (s : tie.Start) → TableHeaded (b₀ s)
 head s = s .pre .0 .headed
 
 early : (s : tie.Start) → s .args .t < frames (b₀ s)
@@ -161,7 +161,7 @@ abbrev s₃ : tie.After-drawn-states → tie.Start
 s₃ n = s₂ (x₃ n)
 
 nexts-is : (n : tie.After-drawn-states) → n .drawn-states .result ≡ F₀ (s₃ n) .nexts
-unfolding frameOf
+unfolding tableFrame
 nexts-is n = let s = s₃ n in n .drawn-states .ensures ∙ ap (λ (t : ℕ). cond (ltb t (frames (b₀ s))) (states (b₀ s) t) 0) (add-one (s .args .t))
 
 nexts-few : (n : tie.After-drawn-states) → n .drawn-states .result ≤ 2048
@@ -170,7 +170,7 @@ nexts-few n = rw (n .drawn-states .ensures) (few-drawn (b₀ (s₃ n)) (s₃ n .
 abbrev chains₃ : tie.After-drawn-states → ℕ → List (ℕ × ℕ)
 chains₃ n start =
     let a = s₃ n .args in
-    chains (a .target .base + g₂ (x₃ n)) (gathering (a .target .base + j₂ (x₃ n)) (layerPart (now (a .table)) start (a .t)) true) (n .drawn-states .result)
+    chainsFrom (a .target .base + g₂ (x₃ n)) (gathering (a .target .base + j₂ (x₃ n)) (layerPart (now (a .table)) start (a .t)) true) (n .drawn-states .result)
 
 chains₃-are : (n : tie.After-drawn-states) → chains₃ n (s₃ n .args .layout .nexts) ≡ nextGates (F₀ (s₃ n))
 chains₃-are n =
@@ -242,7 +242,7 @@ o₄-is l = l .put-layer .ensures .1 .1 ∙ ap (λ (gs : List (ℕ × ℕ)). g�
 abbrev chains₄ : tie.After-put-layer → ℕ → List (ℕ × ℕ)
 chains₄ l start =
     let a = s₄ l .args in
-    chains (a .target .base + l .put-layer .result) (gathering (a .target .base + j₂ (x₃ (n₄ l))) (layerPart (now (a .table)) start (a .t)) false) (a .target .outputs)
+    chainsFrom (a .target .base + l .put-layer .result) (gathering (a .target .base + j₂ (x₃ (n₄ l))) (layerPart (now (a .table)) start (a .t)) false) (a .target .outputs)
 
 chains₄-are : (l : tie.After-put-layer) → chains₄ l (s₄ l .args .layout .outputs) ≡ outGates (F₀ (s₄ l))
 chains₄-are l =

@@ -12,7 +12,7 @@ use Rattle.sizes.specs.Sizes.{inputs}
 use Rattle.circuit.specs.Lists.{listed}
 use Rattle.table.specs.Table.{states, entriesBelow, layerPart}
 use Rattle.table.proofs.Offsets.{words-most}
-use Rattle.unfolded.specs.Unfolded.{inverted, chains, ending}
+use Rattle.unfolded.specs.Unfolded.{inverted, chainsFrom, ending}
 use Rattle.chains.specs.Chains.{gatesStored, gathering}
 use Rattle.table.proofs.Parts.{count-in, part-is, part-in, part-length}
 use Rattle.draw.proofs.put_layer.Statement.{statement}
@@ -55,7 +55,7 @@ part-whole c = part-is (b₀ (entry c)) _ _ _ _ (from-is c) (ap (λ (k : ℕ). e
 
 -- the chains over a part, and what they end with
 abbrev stored-chains : tie.Start → List ℕ → List (ℕ × ℕ)
-stored-chains s p = let a = s .args in chains (a .target .base + a .k) (gathering (a .target .base + a .edges) p (a .nexts)) (a .count)
+stored-chains s p = let a = s .args in chainsFrom (a .target .base + a .k) (gathering (a .target .base + a .edges) p (a .nexts)) (a .count)
 
 abbrev kept-literals : tie.Start → List ℕ → List ℕ
 kept-literals s p = let a = s .args in listed [] (λ i. inverted (ending (a .target .base + a .k) (gathering (a .target .base + a .edges) p (a .nexts)) i)) (a .count)

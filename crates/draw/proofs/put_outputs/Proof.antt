@@ -7,7 +7,7 @@ use native.Mathlib.Omega.{arith}
 use denote.Ref.{now}
 use lib.ListN.{length, getD}
 use Rattle.circuit.specs.Lists.{grown, listed}
-use Rattle.unfolded.proofs.Lists.{listed-length}
+use Rattle.circuit.proofs.Lists.{listed-length}
 use Rattle.chains.specs.Chains.{gatesStored}
 use Rattle.chains.proofs.Stored.{gates-none, gates-length, fits-still, each-more}
 use Rattle.draw.proofs.put_outputs.Statement.{statement}

@@ -15,7 +15,7 @@ use Rattle.circuit.specs.Theorems.{response}
 use Rattle.classify.specs.Classified.{LayerOf}
 use Rattle.classify.proofs.Layers.{power-fits}
 use Rattle.classify.proofs.Step.{half-is, bits-fit, layer-asked, layer-told, placed, entries}
-use Rattle.emit.specs.Listed.{listed}
+use Rattle.emit.specs.Listed.{listedLayer}
 use Rattle.emit.proofs.Laws.{layer-length}
 use Rattle.emit.proofs.Listing.{reaches, nexts-listed, outputs-listed, replaced}
 use borrow.Author.Needs.{needs}
@@ -25,7 +25,7 @@ use Rattle.emit.proofs.list_entries.Tie as tie
 layer-of-requires : tie.Need-layer-of-requires
 layer-of-requires c κs =
     let a = c .before .before in
-    layer-asked (now (a .args .circuit)) (a .pre .0) (a .args .head) (a .pre .1 .0) (a .args .t) (a .pre .1 .1 .1 .1 .1)
+    layer-asked (now (a .args .circuit)) (a .pre .0 .headed) (a .args .head) (a .pre .0 .head-is) (a .args .t) (a .pre .1 .1 .1)
 
 -- once the layer is there: the entry of the function, the circuit's layer, and the half
 abbrev start : tie.After-layer-of → tie.Start
@@ -34,7 +34,7 @@ start c = c .before .before .before
 is-layer : (c : tie.After-layer-of) → LayerOf (2 ^ inputs (now (start c .args .circuit))) (frames (now (start c .args .circuit))) (start c .args .t) (c .layer-of .result)
 is-layer c =
     let a = start c in
-    layer-told (now (a .args .circuit)) (a .pre .0) (a .args .head) (a .pre .1 .0) (a .args .t) (c .layer-of .result) (c .layer-of .ensures)
+    layer-told (now (a .args .circuit)) (a .pre .0 .headed) (a .args .head) (a .pre .0 .head-is) (a .args .t) (c .layer-of .result) (c .layer-of .ensures)
 
 half : (c : tie.After-layer-of) → 2 ^ allInputs (now (start c .args .circuit)) ≡ c .layer-of .result .responses
 half c = half-is (now (start c .args .circuit)) ∙ sym (is-layer c .responses-is)
@@ -45,9 +45,9 @@ list-layer-requires c κs =
     let a = start l in
     let b = now (a .args .circuit) in
     let t = a .args .t in
-    let below = a .pre .1 .1 .1 .1 .1 in (
-      placed b (a .pre .0) t below (l .layer-of .result) (is-layer l) (now (a .args .scratch)) (a .pre .1 .1 .1 .0),
-      omega (arith, entries b (a .pre .0) t below (l .layer-of .result) (is-layer l) (now (a .args .scratch)), power-fits (inputs b) (suc t) (bits-fit b (a .pre .0) (inputs b) (suc t) refl below)),
+    let below = a .pre .1 .1 .1 in (
+      placed b (a .pre .0 .headed) t below (l .layer-of .result) (is-layer l) (now (a .args .scratch)) (a .pre .1 .0),
+      omega (arith, entries b (a .pre .0 .headed) t below (l .layer-of .result) (is-layer l) (now (a .args .scratch)), power-fits (inputs b) (suc t) (bits-fit b (a .pre .0 .headed) (inputs b) (suc t) refl below)),
     )
 
 -- once the rows are listed
@@ -57,7 +57,7 @@ layer c = c .before .before
 within : (c : tie.After-list-layer) → layer c .layer-of .result .responses + c .list-layer .result ≤ length (c .list-layer .last .0)
 within c =
     let a = start (layer c) in
-    reaches (layer c .layer-of .result .responses) (c .list-layer .result) (c .list-layer .last .0) (now (a .args .scratch)) _ (omega (arith, half (layer c), a .pre .1 .1 .1 .0)) (c .list-layer .ensures .1) (c .list-layer .ensures .0)
+    reaches (layer c .layer-of .result .responses) (c .list-layer .result) (c .list-layer .last .0) (now (a .args .scratch)) _ (omega (arith, half (layer c), a .pre .1 .0)) (c .list-layer .ensures .1) (c .list-layer .ensures .0)
 
 add-end : tie.Need-add-end
 add-end c = let l = c .before .before .before in omega (arith, within l, l .list-layer .kept .0, start (layer l) .good)
@@ -80,7 +80,7 @@ part-respond-each-end c = let l = c .before .before .before in omega (arith, wit
 respond-each-requires : tie.Need-respond-each-requires
 respond-each-requires c κs =
     let a = start (layer (c .before .before .before .before)) in
-    (a .pre .0, (a .pre .1 .0, (a .pre .1 .1 .0, (omega arith, omega (arith, a .pre .1 .1 .1 .1 .1)))))
+    (a .pre .0, (omega arith, omega (arith, a .pre .1 .1 .1)))
 
 same-length : tie.Need-same-length
 same-length c = search needs
@@ -99,11 +99,11 @@ returns c =
     let s = now (a .args .scratch) in
     let n = y .layer-of .result .responses in
     let count = l .list-layer .result in
-    let xs : List ℕ = listed s (y .layer-of .result) (a .args .nexts) (y .layer-of .result .size) in
-    let words = outputs-listed b (a .args .t) (a .pre .1 .1 .1 .1 .1) (y .layer-of .result) (is-layer y) s (a .pre .1 .1 .1 .1 .0) (a .args .nexts) (not-true (a .args .nexts) (r .before .before .if1 .taken)) (a .args .t + 1) (add-one (a .args .t)) in (
+    let xs : List ℕ = listedLayer s (y .layer-of .result) (a .args .nexts) (y .layer-of .result .size) in
+    let words = outputs-listed b (a .args .t) (a .pre .1 .1 .1) (y .layer-of .result) (is-layer y) s (a .pre .1 .1 .0) (a .args .nexts) (not-true (a .args .nexts) (r .before .before .if1 .taken)) (a .args .t + 1) (add-one (a .args .t)) in (
       listed-behind _ n count _ s _ _ (half y)
           (replaced n count (n + count - n) s (l .list-layer .last .0) (r .respond-each .last .1 .1 .1 .0) (postOf n (n + count - n) (l .list-layer .last .0)) xs (response b (a .args .t + 1))
-          (omega arith) (omega (arith, half y, a .pre .1 .1 .1 .0)) (omega (arith, within l)) (l .list-layer .ensures .1) (l .list-layer .ensures .0) (r .respond-each .ensures))
+          (omega arith) (omega (arith, half y, a .pre .1 .0)) (omega (arith, within l)) (l .list-layer .ensures .1) (l .list-layer .ensures .0) (r .respond-each .ensures))
           words,
       l .list-layer .ensures .1 ∙ sym (length-map xs (response b (a .args .t + 1))) ∙ ap length words ∙ layer-length b (a .args .nexts) (a .args .t),
     )
@@ -119,7 +119,7 @@ returns-2 c =
     let b = now (a .args .circuit) in
     let s = now (a .args .scratch) in
     let words =
-    nexts-listed b (a .args .t) (a .pre .1 .1 .1 .1 .1) (y .layer-of .result) (is-layer y) s (a .pre .1 .1 .1 .1 .0) (a .pre .0) (a .args .nexts) (not-false (a .args .nexts) (c .if1 .left)) in (
+    nexts-listed b (a .args .t) (a .pre .1 .1 .1) (y .layer-of .result) (is-layer y) s (a .pre .1 .1 .0) (a .pre .0 .headed) (a .args .nexts) (not-false (a .args .nexts) (c .if1 .left)) in (
       listed-behind _ (y .layer-of .result .responses) (l .list-layer .result) _ s _ _ (half y) (l .list-layer .ensures .0) words,
       l .list-layer .ensures .1 ∙ ap length words ∙ layer-length b (a .args .nexts) (a .args .t),
     )

@@ -9,21 +9,21 @@ use native.Mathlib.Omega.{arith}
 use denote.Ref.{now}
 use lib.ListN.{length, take}
 use Rattle.layered.specs.Search.{join}
-use Rattle.emit.specs.Listed.{newNumbers, listed}
+use Rattle.emit.specs.Listed.{newNumbers, listedLayer}
 use Rattle.emit.proofs.Listing.{placed-kept, new-most, row-room, turn-new, turn-old}
 use Rattle.emit.proofs.list_layer.Statement.{statement}
 use Rattle.emit.proofs.list_layer.Tie as tie
 
 abbrev Inv-loop : tie.InvT-loop
 Inv-loop scratch₀ layer nexts own size fan half count₀ fresh₀ h₀ scratch count fresh h =
-    (h ≤ size) × (fresh ≡ newNumbers scratch₀ (layer .at) h) × (count ≡ length (listed scratch₀ layer nexts h)) × (length scratch ≡ length scratch₀)
-    × (take (layer .responses + count) scratch ≡ take (layer .responses) scratch₀ ++ listed scratch₀ layer nexts h)
+    (h ≤ size) × (fresh ≡ newNumbers scratch₀ (layer .at) h) × (count ≡ length (listedLayer scratch₀ layer nexts h)) × (length scratch ≡ length scratch₀)
+    × (take (layer .responses + count) scratch ≡ take (layer .responses) scratch₀ ++ listedLayer scratch₀ layer nexts h)
 
 abbrev μ-loop : tie.MeasureT-loop
 μ-loop scratch₀ layer nexts own size fan half count₀ fresh₀ h₀ scratch count fresh h = size - h
 
 loop-holds : tie.Need-loop-holds Inv-loop μ-loop
-unfolding newNumbers listed join
+unfolding newNumbers listedLayer join
 loop-holds c =
     let a = c .before .args in
     let s = now (a .scratch) in
@@ -116,8 +116,8 @@ returns c =
     let a = start l .args in
     let s = now (a .scratch) in
     let e : l .loop .h ≡ a .layer .size = omega arith in (
-      l .loop .inv .4 ∙ ap (λ (h : ℕ). take (a .layer .responses) s ++ listed s (a .layer) (a .nexts) h) e,
-      l .loop .inv .2 ∙ ap (λ (h : ℕ). length (listed s (a .layer) (a .nexts) h)) e,
+      l .loop .inv .4 ∙ ap (λ (h : ℕ). take (a .layer .responses) s ++ listedLayer s (a .layer) (a .nexts) h) e,
+      l .loop .inv .2 ∙ ap (λ (h : ℕ). length (listedLayer s (a .layer) (a .nexts) h)) e,
     )
 
 pub list-layer-spec : {M : Type 1} → statement M

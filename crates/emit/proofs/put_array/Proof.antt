@@ -36,14 +36,14 @@ room : (l : tie.At-loop Inv-loop μ-loop) → start l .args .at + 2 * length (ar
 room l =
     let a = start l in
     let b = now (a .args .circuit) in
-    omega (arith, array-most b (a .args .nexts) (l .loop .t) (framesOf b) (omega (arith, l .loop .inv .0, a .pre .1 .0)), a .pre .1 .1 .1 .1 .1)
+    omega (arith, array-most b (a .args .nexts) (l .loop .t) (framesOf b) (omega (arith, l .loop .inv .0, a .pre .0 .head-is)), a .pre .1 .1 .1)
 
 len : (l : tie.At-loop Inv-loop μ-loop) → length (l .loop .result) ≡ length (now (start l .args .result))
 len l = ap length (l .loop .inv .2) ∙ stored-length 2 _ _ _ (room l)
 
 -- in a turn: the layer is below T, and there is room for it
 below : (i : tie.In-loop Inv-loop μ-loop) → i .before .loop .t < framesOf (now (start (i .before) .args .circuit))
-below i = omega (arith, i .loop-test .taken, start (i .before) .pre .1 .0)
+below i = omega (arith, i .loop-test .taken, start (i .before) .pre .0 .head-is)
 
 layer-room : (i : tie.In-loop Inv-loop μ-loop)
     → start (i .before) .args .at + 2 * length (arrayWords (now (start (i .before) .args .circuit)) (start (i .before) .args .nexts) (i .before .loop .t + 1))
@@ -52,7 +52,7 @@ layer-room i =
     let l = i .before in
     let a = start l in
     let b = now (a .args .circuit) in
-    omega (arith, array-most b (a .args .nexts) (l .loop .t + 1) (framesOf b) (omega (arith, below i)), a .pre .1 .1 .1 .1 .1)
+    omega (arith, array-most b (a .args .nexts) (l .loop .t + 1) (framesOf b) (omega (arith, below i)), a .pre .1 .1 .1)
 
 put-layer-requires : tie.Need-put-layer-requires Inv-loop μ-loop
 put-layer-requires c κs =
@@ -60,13 +60,13 @@ put-layer-requires c κs =
     let l = i .before in
     let a = start l in
     let b = now (a .args .circuit) in
-    let known = known-kept b (a .pre .0) _ (half-is b) (now (a .args .scratch)) (l .loop .scratch) (l .loop .inv .4) 0 (a .pre .1 .1 .1 .1 .0) in
-    (a .pre .0, (a .pre .1 .0, (a .pre .1 .1 .0, (l .loop .inv .3 ∙ a .pre .1 .1 .1 .0, (known, below i, omega (arith, layer-room i, len l, l .loop .inv .1, array-more (now (a .args .circuit)) (a .args .nexts) (l .loop .t)))))))
+    let known = known-kept b (a .pre .0 .headed) _ (half-is b) (now (a .args .scratch)) (l .loop .scratch) (l .loop .inv .4) 0 (a .pre .1 .1 .0) in
+    (a .pre .0, (l .loop .inv .3 ∙ a .pre .1 .0, (known, below i, omega (arith, layer-room i, len l, l .loop .inv .1, array-more (now (a .args .circuit)) (a .args .nexts) (l .loop .t)))))
 
 add-t : tie.Need-add-t Inv-loop μ-loop
 add-t c =
     let i = c .before .before .before .before .before .before .before in
-    omega (arith, below i, start (i .before) .pre .0 .sizes)
+    omega (arith, below i, start (i .before) .pre .0 .headed .sizes)
 
 loop-less : tie.Need-loop-less Inv-loop μ-loop
 loop-less c = omega arith
@@ -99,7 +99,7 @@ returns c =
     let l = c .before in
     let a = start l in
     let b = now (a .args .circuit) in
-    let e : l .loop .t ≡ framesOf b = omega (arith, a .pre .1 .0) in (
+    let e : l .loop .t ≡ framesOf b = omega (arith, a .pre .0 .head-is) in (
       l .loop .inv .4,
       (
         l .loop .inv .2 ∙ ap (λ (t : ℕ). stored 2 (now (a .args .result)) (a .args .at) (arrayWords b (a .args .nexts) t)) e,

@@ -17,12 +17,12 @@ use Rattle.emit.proofs.put_layer.Tie as tie
 histories-requires : tie.Need-histories-requires
 histories-requires c κs =
     let a = c .before .before .before in
-    bits-fit _ (a .pre .0) _ _ (a .pre .1 .0 .inputs-is) (omega (arith, a .pre .1 .0))
+    bits-fit _ (a .pre .0 .headed) _ _ (a .pre .0 .head-is .inputs-is) (omega (arith, a .pre .0 .head-is))
 
 list-entries-requires : tie.Need-list-entries-requires
 list-entries-requires c κs =
     let a = c .before .before .before .before .before in
-    (a .pre .0, (a .pre .1 .0, (a .pre .1 .1 .0, (a .pre .1 .1 .1 .0, (a .pre .1 .1 .1 .1 .0, a .pre .1 .1 .1 .1 .1)))))
+    (a .pre .0, (a .pre .1 .0, (a .pre .1 .1 .0, a .pre .1 .1 .1)))
 
 -- once the entries are listed: the entry of the function, the half, and that all are within the scratch
 abbrev start : tie.After-list-entries → tie.Start
@@ -31,13 +31,13 @@ start c = c .before .before .before .before .before .before
 half : (c : tie.After-list-entries) → c .before .before .histories .result ≡ 2 ^ allInputs (now (start c .args .circuit))
 half c =
     let a = start c in
-    c .before .before .histories .ensures ∙ ap₂ (λ (n t : ℕ). (2 ^ n) ^ t) (a .pre .1 .0 .inputs-is) (a .pre .1 .0 .frames-is) ∙ sym (half-is (now (a .args .circuit)))
+    c .before .before .histories .ensures ∙ ap₂ (λ (n t : ℕ). (2 ^ n) ^ t) (a .pre .0 .head-is .inputs-is) (a .pre .0 .head-is .frames-is) ∙ sym (half-is (now (a .args .circuit)))
 
 within : (c : tie.After-list-entries) → 2 ^ allInputs (now (start c .args .circuit)) + c .list-entries .result ≤ length (c .list-entries .last .1 .1 .0)
 within c =
     let a = start c in
     let b = now (a .args .circuit) in
-    reaches (2 ^ allInputs b) (c .list-entries .result) (c .list-entries .last .1 .1 .0) (now (a .args .scratch)) _ (omega (arith, a .pre .1 .1 .1 .0))
+    reaches (2 ^ allInputs b) (c .list-entries .result) (c .list-entries .last .1 .1 .0) (now (a .args .scratch)) _ (omega (arith, a .pre .1 .0))
     (c .list-entries .ensures .1 ∙ sym (layer-length b (a .args .nexts) (a .args .t))) (c .list-entries .ensures .0)
 
 mul-store-all : tie.Need-mul-store-all
@@ -55,7 +55,7 @@ part-store-all-end c = search needs
 store-all-requires : tie.Need-store-all-requires
 store-all-requires c κs =
     let l = c .before .before .before .before .before in
-    (rw (length-take, length-drop) (omega (arith, half l, within l)), omega (arith, l .list-entries .ensures .1, start l .pre .1 .1 .1 .1 .2))
+    (rw (length-take, length-drop) (omega (arith, half l, within l)), omega (arith, l .list-entries .ensures .1, start l .pre .1 .1 .2))
 
 mul-result : tie.Need-mul-result
 mul-result c = search needs
@@ -78,7 +78,7 @@ returns c =
     let s = now (a .args .scratch) in
     let s₁ = l .list-entries .last .1 .1 .0 in
     let h = l .before .before .histories .result in
-    let n : 2 ^ allInputs b ≤ length s = omega (arith, a .pre .1 .1 .1 .0) in
+    let n : 2 ^ allInputs b ≤ length s = omega (arith, a .pre .1 .0) in
     let n₁ : 2 ^ allInputs b ≤ length s₁ = omega (arith, within l) in (
       begins (2 ^ allInputs b) (l .list-entries .result) s₁ s _ n₁ n (l .list-entries .ensures .0) .0,
       (

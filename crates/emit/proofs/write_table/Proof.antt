@@ -31,7 +31,7 @@ slice-aggregate-store-all c = search needs
 store-all-requires : tie.Need-store-all-requires
 store-all-requires c κs =
     let a = c .before .before .before .before .before .before .before .before in
-    (omega arith, omega (arith, all-length (now (a .args .circuit)), a .pre .1 .1 .1 .1 .1))
+    (omega arith, omega (arith, all-length (now (a .args .circuit)), a .pre .1 .1 .1 .1))
 
 add-layers : tie.Need-add-layers
 add-layers c = search needs
@@ -39,7 +39,7 @@ add-layers c = search needs
 slice-aggregate-store-all-2 : tie.Need-slice-aggregate-store-all-2
 slice-aggregate-store-all-2 c =
     let a = c .before .before .before .before .before .before .before .before .before .before .before .before .before .before in
-    sym (a .pre .1 .1 .0 .1 .places)
+    sym (a .pre .1 .0 .places)
 
 -- the entry of the function, from each part
 abbrev start : tie.After-store-all → tie.Start
@@ -49,16 +49,16 @@ store-all-requires-2 : tie.Need-store-all-requires-2
 store-all-requires-2 c κs =
     let p = c .before .before .before .before .before .before in
     let a = start p in
-    (omega (arith, a .pre .1 .1 .0 .1 .places, a .pre .1 .0, a .pre .0 .sizes), omega (arith, all-length (now (a .args .circuit)), a .pre .1 .1 .1 .1 .1, p .store-all .kept .1 .1 .0, a .pre .1 .0))
-
-mul-outputs-at : tie.Need-mul-outputs-at
-mul-outputs-at c = search needs
-
-add-outputs-at : tie.Need-add-outputs-at
-add-outputs-at c = search needs
+    (omega (arith, a .pre .1 .0 .places, a .pre .0 .head-is, a .pre .0 .headed .sizes), omega (arith, all-length (now (a .args .circuit)), a .pre .1 .1 .1 .1, p .store-all .kept .1 .1 .0, a .pre .0 .head-is))
 
 abbrev start₂ : tie.After-store-all2 → tie.Start
 start₂ p = start (p .before .before .before .before .before .before .before)
+
+mul-outputs-at : tie.Need-mul-outputs-at
+mul-outputs-at c = let p = start₂ (c .before .before) .pre .0 in omega (arith, p .head-is, p .headed .sizes)
+
+add-outputs-at : tie.Need-add-outputs-at
+add-outputs-at c = let p = start₂ (c .before .before) .pre .0 in omega (arith, p .head-is, p .headed .sizes)
 
 -- the sizes are the circuit's
 first-words : (n m t : ℕ) (b : List ℕ) → n ≡ inputs b → m ≡ outputs b → t ≡ frames b → n ∷ m ∷ t ∷ [] ≡ inputs b ∷ outputs b ∷ frames b ∷ []
@@ -70,8 +70,8 @@ head₂ p =
     let w = p .before .before .before .before .before .before .before in
     let a = start₂ p in
     let b = now (a .args .circuit) in
-    let h = a .pre .1 .0 in
-    head-stored b (now (a .args .result)) (a .pre .1 .1 .1 .1 .1) (a .args .plan) (a .pre .1 .1 .0 .1) (a .pre .0 .sizes .frames-to)
+    let h = a .pre .0 .head-is in
+    head-stored b (now (a .args .result)) (a .pre .1 .1 .1 .1) (a .args .plan) (a .pre .1 .0) (a .pre .0 .headed .sizes .frames-to)
     (w .store-all .last .1 .1 .0) (p .store-all2 .last .1 .1 .0) (a .args .head .frames + 1) (ap (λ (t : ℕ). t + 1) (h .frames-is))
     (w .store-all .ensures ∙ ap (stored 2 (now (a .args .result)) 0) (first-words _ _ _ b (h .inputs-is) (h .outputs-is) (h .frames-is)))
     (p .store-all2 .ensures)
@@ -84,7 +84,7 @@ put-array-requires c κs =
     let p = c .before .before .before .before in
     let a = start₂ p in
     let b = now (a .args .circuit) in
-    (a .pre .0, (a .pre .1 .0, (a .pre .1 .1 .0 .0, (a .pre .1 .1 .1 .0, (a .pre .1 .1 .1 .1 .0, omega (arith, all-length b, a .pre .1 .1 .1 .1 .1, len₂ p, a .pre .1 .0))))))
+    (a .pre .0, (a .pre .1 .1 .0, (a .pre .1 .1 .1 .0, omega (arith, all-length b, a .pre .1 .1 .1 .1, len₂ p, a .pre .0 .head-is))))
 
 -- before the outputs
 abbrev before : tie.After-put-array → tie.After-store-all2
@@ -96,15 +96,15 @@ len₃ q = q .put-array .kept .1 .1 .1 .1 .0 ∙ len₂ (before q)
 -- where the next states begin
 end₃ : (q : tie.After-put-array)
     → q .put-array .result ≡ 8 + 2 * frames (now (start₂ (before q) .args .circuit)) + 2 * length (arrayWords (now (start₂ (before q) .args .circuit)) false (frames (now (start₂ (before q) .args .circuit))))
-end₃ q = let a = start₂ (before q) in omega (arith, q .put-array .ensures .1 .1, a .pre .1 .0)
+end₃ q = let a = start₂ (before q) in omega (arith, q .put-array .ensures .1 .1, a .pre .0 .head-is)
 
 put-array-requires-2 : tie.Need-put-array-requires-2
 put-array-requires-2 c κs =
     let q = c .before .before .before .before .before .before in
     let a = start₂ (before q) in
     let b = now (a .args .circuit) in
-    let known = known-kept b (a .pre .0) _ (half-is b) (now (a .args .scratch)) (q .put-array .last .1 .1 .0) (q .put-array .ensures .0) 0 (a .pre .1 .1 .1 .1 .0) in
-    (a .pre .0, (a .pre .1 .0, (a .pre .1 .1 .0 .0, (q .put-array .kept .1 .1 .0 ∙ a .pre .1 .1 .1 .0, (known, omega (arith, all-length b, a .pre .1 .1 .1 .1 .1, len₃ q, end₃ q))))))
+    let known = known-kept b (a .pre .0 .headed) _ (half-is b) (now (a .args .scratch)) (q .put-array .last .1 .1 .0) (q .put-array .ensures .0) 0 (a .pre .1 .1 .1 .0) in
+    (a .pre .0, (q .put-array .kept .1 .1 .0 ∙ a .pre .1 .1 .0, (known, omega (arith, all-length b, a .pre .1 .1 .1 .1, len₃ q, end₃ q))))
 
 same-length : tie.Need-same-length
 same-length c = search needs
@@ -119,8 +119,8 @@ returns c =
     let p = before q in
     let a = start₂ p in
     let b = now (a .args .circuit) in
-    nexts-stored b (now (a .args .result)) (a .pre .1 .1 .1 .1 .1) (q .put-array .last .1 .1 .1 .1 .0) (s .put-array2 .last .1 .1 .1 .1 .0) (q .put-array .result) (end₃ q)
-    (outputs-stored b (now (a .args .result)) (a .pre .1 .1 .1 .1 .1) (p .store-all2 .last .1 .1 .0) (q .put-array .last .1 .1 .1 .1 .0) _ (omega (arith, a .pre .1 .0)) (head₂ p) (q .put-array .ensures .1 .0))
+    nexts-stored b (now (a .args .result)) (a .pre .1 .1 .1 .1) (q .put-array .last .1 .1 .1 .1 .0) (s .put-array2 .last .1 .1 .1 .1 .0) (q .put-array .result) (end₃ q)
+    (outputs-stored b (now (a .args .result)) (a .pre .1 .1 .1 .1) (p .store-all2 .last .1 .1 .0) (q .put-array .last .1 .1 .1 .1 .0) _ (omega (arith, a .pre .0 .head-is)) (head₂ p) (q .put-array .ensures .1 .0))
     (s .put-array2 .ensures .1 .0)
 
 pub write-table-spec : {M : Type 1} → statement M

@@ -35,7 +35,7 @@ abbrev K : tie.Start Inv-loop μ-loop → ℕ
 K a = 2 ^ inputs (now (a .args .circuit))
 
 two : (a : tie.Start Inv-loop μ-loop) → 2 ≤ K a
-two a = two-words (inputs (now (a .args .circuit))) (a .pre .0 .sizes .inputs-from)
+two a = two-words (inputs (now (a .args .circuit))) (a .pre .0 .headed .sizes .inputs-from)
 
 positive : (a : tie.Start Inv-loop μ-loop) → 0 < K a
 positive a = omega (arith, two a)
@@ -44,16 +44,16 @@ positive a = omega (arith, two a)
 entries-small : (a : tie.Start Inv-loop μ-loop) (t : ℕ) → t ≤ framesOf (now (a .args .circuit)) → total t (stateCount (now (a .args .circuit))) * K a ≤ 131072
 entries-small a t h =
     let b = now (a .args .circuit) in
-    omega (arith, entries-most (K a) (framesOf b) (response b) (two a) t, power-fits (inputs b) t (bits-fit b (a .pre .0) (inputs b) t refl h))
+    omega (arith, entries-most (K a) (framesOf b) (response b) (two a) t, power-fits (inputs b) t (bits-fit b (a .pre .0 .headed) (inputs b) t refl h))
 
 within : (i : tie.In-loop Inv-loop μ-loop) → i .before .loop .t + 1 ≤ 16
-within i = omega (arith, i .loop-test .taken, start (i .before) .pre .0 .sizes, start (i .before) .pre .1 .0)
+within i = omega (arith, i .loop-test .taken, start (i .before) .pre .0 .headed .sizes, start (i .before) .pre .0 .head-is)
 
 sum-small : (a : tie.Start Inv-loop μ-loop) (t : ℕ) → t ≤ framesOf (now (a .args .circuit)) → total t (stateCount (now (a .args .circuit))) ≤ 131072
 sum-small a t h = omega (arith, entries-small a t h, le-mul-of-pos-right (total t (stateCount (now (a .args .circuit)))) (positive a))
 
 below : (i : tie.In-loop Inv-loop μ-loop) → i .before .loop .t + 1 ≤ framesOf (now (start (i .before) .args .circuit))
-below i = omega (arith, i .loop-test .taken, start (i .before) .pre .1 .0)
+below i = omega (arith, i .loop-test .taken, start (i .before) .pre .0 .head-is)
 
 sum-more : (i : tie.In-loop Inv-loop μ-loop)
     → total (i .before .loop .t + 1) (stateCount (now (start (i .before) .args .circuit))) ≡ total (i .before .loop .t) (stateCount (now (start (i .before) .args .circuit))) + stateCount (now (start (i .before) .args .circuit)) (i .before .loop .t)
@@ -61,7 +61,7 @@ unfolding total
 sum-more i = rw (add-one (i .before .loop .t))
 
 count-is : (i : tie.In-loop Inv-loop μ-loop) → getD (start (i .before) .args .plan .counts) (i .before .loop .t) 0 ≡ stateCount (now (start (i .before) .args .circuit)) (i .before .loop .t)
-count-is i = let a = start (i .before) in a .pre .1 .1 .counts-are (i .before .loop .t) (omega (arith, i .loop-test .taken, a .pre .1 .0))
+count-is i = let a = start (i .before) in a .pre .1 .counts-are (i .before .loop .t) (omega (arith, i .loop-test .taken, a .pre .0 .head-is))
 
 -- all states, times the fan
 product : (c : tie.After-histories Inv-loop μ-loop)
@@ -69,8 +69,8 @@ product : (c : tie.After-histories Inv-loop μ-loop)
 product c =
     let l = c .before .before in
     let a = start l in
-    let e : l .loop .t ≡ framesOf (now (a .args .circuit)) = omega (arith, a .pre .1 .0) in
-    ap₂ (λ (x y : ℕ). x * y) (l .loop .inv .1 ∙ ap (λ (t : ℕ). total t (stateCount (now (a .args .circuit)))) e) (c .histories .ensures ∙ one-word _ ∙ ap (λ (n : ℕ). 2 ^ n) (a .pre .1 .0 .inputs-is))
+    let e : l .loop .t ≡ framesOf (now (a .args .circuit)) = omega (arith, a .pre .0 .head-is) in
+    ap₂ (λ (x y : ℕ). x * y) (l .loop .inv .1 ∙ ap (λ (t : ℕ). total t (stateCount (now (a .args .circuit)))) e) (c .histories .ensures ∙ one-word _ ∙ ap (λ (n : ℕ). 2 ^ n) (a .pre .0 .head-is .inputs-is))
 
 product-small : (a : tie.Start Inv-loop μ-loop) → total (framesOf (now (a .args .circuit))) (stateCount (now (a .args .circuit))) * K a ≤ 131072
 product-small a = entries-small a (framesOf (now (a .args .circuit))) (omega arith)
@@ -98,15 +98,15 @@ unfolding total
 loop-again c = (omega arith, omega (arith, count-is c, c .before .loop .inv .1, sum-more c))
 
 mul-result : tie.Need-mul-result Inv-loop μ-loop
-mul-result c = omega (arith, start (c .before) .pre .0 .sizes, start (c .before) .pre .1 .0)
+mul-result c = omega (arith, start (c .before) .pre .0 .headed .sizes, start (c .before) .pre .0 .head-is)
 
 add-result : tie.Need-add-result Inv-loop μ-loop
-add-result c = omega (arith, start (c .before) .pre .0 .sizes, start (c .before) .pre .1 .0)
+add-result c = omega (arith, start (c .before) .pre .0 .headed .sizes, start (c .before) .pre .0 .head-is)
 
 histories-requires : tie.Need-histories-requires Inv-loop μ-loop
 histories-requires c κs =
     let a = start (c .before) in
-    bits-fit _ (a .pre .0) _ 1 (a .pre .1 .0 .inputs-is) (a .pre .0 .sizes .frames-from)
+    bits-fit _ (a .pre .0 .headed) _ 1 (a .pre .0 .head-is .inputs-is) (a .pre .0 .headed .sizes .frames-from)
 
 mul-result-2 : tie.Need-mul-result-2 Inv-loop μ-loop
 mul-result-2 c = omega (arith, product c, product-small (start (c .before .before)))
@@ -115,12 +115,12 @@ mul-result-3 : tie.Need-mul-result-3 Inv-loop μ-loop
 mul-result-3 c = omega (arith, product c, product-small (start (c .before .before)))
 
 add-result-2 : tie.Need-add-result-2 Inv-loop μ-loop
-add-result-2 c = omega (arith, product c, product-small (start (c .before .before)), start (c .before .before) .pre .0 .sizes, start (c .before .before) .pre .1 .0)
+add-result-2 c = omega (arith, product c, product-small (start (c .before .before)), start (c .before .before) .pre .0 .headed .sizes, start (c .before .before) .pre .0 .head-is)
 
 returns : tie.Need-returns Inv-loop μ-loop
 returns c =
     let a = start (c .before .before) in
-    omega (arith, product c, folded-length (now (a .args .circuit)), a .pre .1 .0)
+    omega (arith, product c, folded-length (now (a .args .circuit)), a .pre .0 .head-is)
 
 pub bytes-needed-spec : {M : Type 1} → statement M
 bytes-needed-spec =

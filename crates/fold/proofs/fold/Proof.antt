@@ -6,10 +6,10 @@ use Prim.Native.Nat.{ℕ, _*_, _^_}
 use native.Mathlib.Omega.{arith}
 use denote.Ref.{now}
 use lib.ListN.{length-take}
-use Rattle.verdict.specs.Figures.{answer, figures}
+use Rattle.verdict.specs.Judgements.{answer, figures}
 use Rattle.verdict.proofs.Laws.{accepts}
 use Rattle.circuit.specs.Circuit.{allInputs, checked}
-use Rattle.circuit.proofs.Accepted.{Accepted, accepted}
+use Rattle.circuit.proofs.Accepted.{Accepted, well-formed, accepted}
 use Rattle.classify.proofs.Layers.{power-fits}
 use Rattle.classify.proofs.Step.{half-is, bits-fit}
 use Rattle.folded.specs.Folded.{scratchNeeded}
@@ -91,7 +91,7 @@ fold-in-requires c κs =
     let h = k .before in
     let r = h .before in
     let e = r .before in
-    (known e .head, (r .read .ensures, (known e .literals, rw length-take (omega (arith, half h, k .if1 .left)))))
+    (well-formed (known e) (r .read .ensures), rw length-take (omega (arith, half h, k .if1 .left)))
 
 slice-relend-prefix-clear : tie.Need-slice-relend-prefix-clear
 slice-relend-prefix-clear c = search needs

@@ -29,7 +29,7 @@ write-table-requires c κs =
     let k = n .before .before .before in
     let a = k .before .before .before .before .before in
     let b = now (a .args .circuit) in
-    (a .pre .0, (a .pre .1 .0, ((a .pre .1 .1 .0, k .classify .ensures .1), (k .classify .kept .1 .1 .0 ∙ a .pre .1 .1 .1, (k .classify .ensures .0, omega (arith, words-room b (now (a .args .result)), n .bytes-needed .ensures, c .before .before .if1 .left))))))
+    (a .pre .0, (k .classify .ensures .1, (k .classify .kept .1 .1 .0 ∙ a .pre .1, (k .classify .ensures .0, omega (arith, words-room b (now (a .args .result)), n .bytes-needed .ensures, c .before .before .if1 .left)))))
 
 same-length-2 : tie.Need-same-length-2
 same-length-2 c = search needs

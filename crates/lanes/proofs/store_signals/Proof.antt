@@ -22,7 +22,7 @@ abbrev μ-loop : tie.MeasureT-loop
 
 -- the number of all inputs
 inputs-to : (c : tie.Start Inv-loop μ-loop) → c .args .head .inputs * c .args .head .frames ≡ allInputs (now (c .args .circuit))
-inputs-to c = inputs-are (now (c .args .circuit)) (c .args .head .inputs) (c .args .head .frames) (c .pre .1 .0 .inputs-is) (c .pre .1 .0 .frames-is)
+inputs-to c = inputs-are (now (c .args .circuit)) (c .args .head .inputs) (c .args .head .frames) (c .pre .0 .head-is .inputs-is) (c .pre .0 .head-is .frames-is)
 
 store-inputs-requires : tie.Need-store-inputs-requires Inv-loop μ-loop
 store-inputs-requires c κs =
@@ -38,7 +38,7 @@ loop-holds c =
       omega (arith, k .kept .1 .1 .1 .1 .0, s .pre),
       refl,
       gates-none (now (s .args .circuit)) (now (s .args .histories)) (s .args .t) (k .last .1 .1 .1 .1 .0) (h .inputs) (h .frames) (h .base)
-          (s .pre .1 .0 .inputs-is) (s .pre .1 .0 .frames-is) (s .pre .1 .0 .base-is) (k .ensures),
+          (s .pre .0 .head-is .inputs-is) (s .pre .0 .head-is .frames-is) (s .pre .0 .head-is .base-is) (k .ensures),
     )
 
 -- in a turn: the circuit, the sizes and the gate
@@ -80,7 +80,7 @@ left c = c .read .ensures .0 ∙ left-is (b₀ (c .before)) (g₀′ (c .before)
 left-in : (c : tie.After-read Inv-loop μ-loop) → c .read .result / 2 < n₀ (c .before)
 left-in c =
     let i = c .before in
-    left-below (b₀ i) (start i .pre .1 .1 .0) (g₀′ i) (n₀ i) (c .read .result) (gate i) (omega (arith, start i .pre)) (left c)
+    left-below (b₀ i) (start i .pre .0 .legal) (g₀′ i) (n₀ i) (c .read .result) (gate i) (omega (arith, start i .pre)) (left c)
 
 mul-read-2 : tie.Need-mul-read-2 Inv-loop μ-loop
 mul-read-2 c = omega (arith, within (c .before), start (c .before) .pre)
@@ -100,12 +100,12 @@ read-requires-2 c κs = within (c .before)
 right : (c : tie.After-read2 Inv-loop μ-loop) → c .read2 .result ≡ literalAt (b₀ (c .before .before)) (rightsAt (b₀ (c .before .before))) (g₀′ (c .before .before))
 right c =
     let i = c .before .before in
-    c .read2 .ensures .0 ∙ right-is (b₀ i) (start i .args .head .gates) (g₀′ i) (start i .pre .1 .0 .gates-is)
+    c .read2 .ensures .0 ∙ right-is (b₀ i) (start i .args .head .gates) (g₀′ i) (start i .pre .0 .head-is .gates-is)
 
 right-in : (c : tie.After-read2 Inv-loop μ-loop) → c .read2 .result / 2 < n₀ (c .before .before)
 right-in c =
     let i = c .before .before in
-    right-below (b₀ i) (start i .pre .1 .1 .0) (g₀′ i) (n₀ i) (c .read2 .result) (gate i) (omega (arith, start i .pre)) (right c)
+    right-below (b₀ i) (start i .pre .0 .legal) (g₀′ i) (n₀ i) (c .read2 .result) (gate i) (omega (arith, start i .pre)) (right c)
 
 mul-literal-lanes : tie.Need-mul-literal-lanes Inv-loop μ-loop
 mul-literal-lanes c = omega (arith, left-in (c .before), room (c .before .before))
@@ -173,7 +173,7 @@ returns : tie.Need-returns Inv-loop μ-loop
 returns c =
     let s = c .before .before .before .before .before .before .before .before .before in
     gates-all (now (s .args .circuit)) (now (s .args .histories)) (s .args .t) (c .before .loop .lanes) (s .args .head .base) (c .before .loop .g)
-    (s .pre .1 .0 .base-is) (omega (arith, s .pre, c .before .loop .inv)) (c .before .loop .inv .3)
+    (s .pre .0 .head-is .base-is) (omega (arith, s .pre, c .before .loop .inv)) (c .before .loop .inv .3)
 
 pub store-signals-spec : {M : Type 1} → statement M
 store-signals-spec =

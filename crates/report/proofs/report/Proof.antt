@@ -1,9 +1,10 @@
 -- `report::report` meets its contract: at each return the tests on the way pick the case of the definition.
 -- Assumes nothing.
 use mathlib.Core.Path.{_≡_, sym, ap, _∙_}
+use mathlib.Core.Bool.{cond}
 use native.Mathlib.Omega.{arith}
 use denote.Ref.{now}
-use Rattle.verdict.specs.Figures.{answer, figures}
+use Rattle.verdict.specs.Judgements.{answer, figures}
 use Rattle.verdict.proofs.Laws.{accepts}
 use Rattle.table.specs.Table.{headChecked}
 use Rattle.table.proofs.Accepted.{headed}

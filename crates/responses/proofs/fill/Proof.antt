@@ -26,7 +26,7 @@ bits : (c : tie.After-struct-known Inv-loop μ-loop) → c .before .before .befo
 bits c =
     let s = c .before .before .before in
     let p = s .pre in
-    bits-to (now (s .args .circuit)) (p .0) (s .args .head .inputs) (s .args .t) (p .1 .0 .inputs-is) (p .1 .1 .1 .0 .1)
+    bits-to (now (s .args .circuit)) (p .0 .headed) (s .args .head .inputs) (s .args .t) (p .0 .head-is .inputs-is) (p .1 .0 .1)
 
 mul-count : tie.Need-mul-count Inv-loop μ-loop
 mul-count c = omega (arith, bits c)
@@ -40,8 +40,8 @@ loop-holds c =
     let s = c .before .before .before in
     let p = s .pre in (
       omega arith,
-      count-to (now (s .args .circuit)) (p .0) (s .args .head .inputs) (s .args .t) (p .1 .0 .inputs-is) (p .1 .1 .1 .0 .1),
-      count-is (now (s .args .circuit)) (p .0) (s .args .head .inputs) (s .args .t) (p .1 .0 .inputs-is) (p .1 .1 .1 .0 .1),
+      count-to (now (s .args .circuit)) (p .0 .headed) (s .args .head .inputs) (s .args .t) (p .0 .head-is .inputs-is) (p .1 .0 .1),
+      count-is (now (s .args .circuit)) (p .0 .headed) (s .args .head .inputs) (s .args .t) (p .0 .head-is .inputs-is) (p .1 .0 .1),
       refl,
       refl,
       refl,
@@ -86,7 +86,7 @@ slice-aggregate-respond-each c = sym (length-take-le _ _ (slice-relend-prefix-re
 respond-each-requires : tie.Need-respond-each-requires Inv-loop μ-loop
 respond-each-requires c κs =
     let p = c .before .before .before .before .before .before .pre in
-    (p .0, (p .1 .0, (p .1 .1 .0, p .1 .1 .1 .0)))
+    (p .0, p .1 .0)
 
 same-length : tie.Need-same-length Inv-loop μ-loop
 same-length c =

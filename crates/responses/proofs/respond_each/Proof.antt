@@ -52,7 +52,7 @@ part-respond-part-end c = omega (arith, kept-length (c .before .before))
 respond-part-requires : tie.Need-respond-part-requires Inv-loop μ-loop
 respond-part-requires c κs =
     let p = c .before .before .before .before .before .before .before .before .pre in
-    (p .0, (p .1 .0, (p .1 .1 .0, (p .1 .1 .1, (omega arith, simp length-take (omega arith))))))
+    (p .0, (p .1, (omega arith, simp length-take (omega arith))))
 
 loop-less : tie.Need-loop-less Inv-loop μ-loop
 loop-less c = omega (arith, c .before .before .before .before .before .before)

@@ -10,7 +10,7 @@ use Rattle.responses.proofs.respond_part.Tie as tie
 
 -- there is room for the outputs of frame t
 fit : (c : tie.Start) → firstOutput (c .args .head) (c .args .t) + c .args .head .outputs ≤ 4113
-fit c = let p = c .pre in outputs-fit (now (c .args .circuit)) (c .args .head) (p .0) (p .1 .0) (c .args .t) (p .1 .1 .1 .0 .0) (p .1 .1 .1 .0 .1)
+fit c = let p = c .pre in outputs-fit (now (c .args .circuit)) (c .args .head) (p .0 .headed) (p .0 .head-is) (c .args .t) (p .1 .0 .0) (p .1 .0 .1)
 
 -- once the lanes are there: the entry
 abbrev start : tie.After-struct-known3 → tie.Start
@@ -51,7 +51,7 @@ returns c =
     let s = start (a .before .before) in
     let p = s .pre in
     let v = a .before .before .before .before .before .before .before .store-signals in
-    responses-are (now (s .args .circuit)) (s .args .head) (p .0) (p .1 .0) (s .args .t) (p .1 .1 .1 .0 .0) (p .1 .1 .1 .0 .1)
+    responses-are (now (s .args .circuit)) (s .args .head) (p .0 .headed) (p .0 .head-is) (s .args .t) (p .1 .0 .0) (p .1 .0 .1)
     (now (s .args .histories)) (v .last .1 .1 .1 .1 .0) (c .before .before .pack-lanes .last .1 .1 .1 .0) (v .ensures) (c .before .before .pack-lanes .ensures)
 
 pub respond-part-spec : {M : Type 1} → statement M

@@ -1,5 +1,5 @@
 -- `rows::number_layer` meets its contract. The invariant: the numbers of the histories so far are stored, `fresh` is how many there are, and the
--- chains are theirs.
+-- buckets are theirs.
 -- Assumes nothing.
 use mathlib.Core.Path.{_≡_, refl, sym, ap, _∙_, subst}
 use mathlib.Core.Logic.{⊎-elim}
@@ -10,10 +10,10 @@ use denote.Ref.{now}
 use lib.ListN.{length, getD}
 use Rattle.layered.specs.Search.{tally}
 use Rattle.rows.specs.Rows.{outIn, nextIn, firstWith, rowCount, numbered}
-use Rattle.rows.specs.Chains.{rowHash, chain, Linked}
+use Rattle.rows.specs.Buckets.{rowHash, bucket, Linked}
 use Rattle.rows.specs.declared.Layer.{Layer}
 use Rattle.rows.proofs.Laws.{numberedTo, numbered-length, numbered-none, placed-same, count-most, first-le, kept, turn-later, turn-new}
-use Rattle.rows.proofs.Chains.{hash-below, Chained, chained-none, chained-later, chained-new}
+use Rattle.rows.proofs.Buckets.{hash-below, Bucketed, bucketed-none, bucketed-later, bucketed-new}
 use Rattle.rows.proofs.number_layer.Statement.{statement}
 use Rattle.rows.proofs.number_layer.Tie as tie
 
@@ -22,11 +22,11 @@ abbrev countTo : List ℕ → Layer → ℕ → ℕ
 countTo s layer h = rowCount (layer .fan) (outIn s layer) (nextIn s layer) h
 
 abbrev Inv-loop : tie.InvT-loop
-Inv-loop scratch₀ layer at size chains₀ links₀ fresh₀ h₀ scratch chains links fresh h =
-    (h ≤ size) × (scratch ≡ numberedTo scratch₀ layer h) × (fresh ≡ countTo scratch₀ layer h) × Chained (layer .fan) (outIn scratch₀ layer) (nextIn scratch₀ layer) chains links h
+Inv-loop scratch₀ layer at size buckets₀ links₀ fresh₀ h₀ scratch buckets links fresh h =
+    (h ≤ size) × (scratch ≡ numberedTo scratch₀ layer h) × (fresh ≡ countTo scratch₀ layer h) × Bucketed (layer .fan) (outIn scratch₀ layer) (nextIn scratch₀ layer) buckets links h
 
 abbrev μ-loop : tie.MeasureT-loop
-μ-loop scratch₀ layer at size chains₀ links₀ fresh₀ h₀ scratch chains links fresh h = size - h
+μ-loop scratch₀ layer at size buckets₀ links₀ fresh₀ h₀ scratch buckets links fresh h = size - h
 
 -- the entry of the function, from the loop's head, and the scratch's length there
 abbrev entry : tie.At-loop Inv-loop μ-loop → tie.Start Inv-loop μ-loop
@@ -54,7 +54,7 @@ same c f = kept _ _ _ (entry (c .before) .pre) (c .before .loop .h) (omega arith
 few : (c : tie.At-loop Inv-loop μ-loop) → c .loop .fresh ≤ c .loop .h
 few c = omega (arith, c .loop .inv .2, count-most (fan c) (out c) (next c) (c .loop .h))
 
--- the hash, and where its chain starts
+-- the hash, and where its bucket starts
 hashed : (c : tie.After-row-hash Inv-loop μ-loop) → let l = c .before .before .before in
     c .row-hash .result ≡ rowHash (fan l) (out l) (next l) (l .loop .h)
 hashed c = let l = c .before .before .before in c .row-hash .ensures ∙ same (c .before .before) (λ o n. rowHash (fan l) o n (l .loop .h))
@@ -65,10 +65,10 @@ hash-small c =
     omega (arith, hashed c, hash-below (fan l) (out l) (next l) (l .loop .h) (fan l))
 
 started : (c : tie.After-row-hash Inv-loop μ-loop) → let l = c .before .before .before in
-    getD (l .loop .chains) (c .row-hash .result) 0 ≡ chain (fan l) (out l) (next l) (rowHash (fan l) (out l) (next l) (l .loop .h)) (l .loop .h)
+    getD (l .loop .buckets) (c .row-hash .result) 0 ≡ bucket (fan l) (out l) (next l) (rowHash (fan l) (out l) (next l) (l .loop .h)) (l .loop .h)
 started c =
     let l = c .before .before .before in
-    l .loop .inv .3 .start (c .row-hash .result) (hash-small c) ∙ ap (λ k. chain (fan l) (out l) (next l) k (l .loop .h)) (hashed c)
+    l .loop .inv .3 .start (c .row-hash .result) (hash-small c) ∙ ap (λ k. bucket (fan l) (out l) (next l) k (l .loop .h)) (hashed c)
 
 -- the history that is found
 sought : (c : tie.After-seek Inv-loop μ-loop) → let l = c .before .before .before .before .before .before in
@@ -77,8 +77,8 @@ sought c =
     let l = c .before .before .before .before .before .before in
     c .seek .ensures ∙ same (c .before .before .before .before .before) (λ o n. firstWith (fan l) o n (l .loop .h))
 
-no-chains-requires : tie.Need-no-chains-requires Inv-loop μ-loop
-no-chains-requires c κs = tt
+no-buckets-requires : tie.Need-no-buckets-requires Inv-loop μ-loop
+no-buckets-requires c κs = tt
 
 no-links-requires : tie.Need-no-links-requires Inv-loop μ-loop
 no-links-requires c κs = tt
@@ -87,7 +87,7 @@ loop-holds : tie.Need-loop-holds Inv-loop μ-loop
 unfolding rowCount tally
 loop-holds c =
     let a = c .before .before .before in
-    (omega arith, sym (numbered-none _ _ (a .pre)), refl, chained-none _ _ _ (c .before .no-chains .result) (c .no-links .result) (c .before .no-chains .ensures) (c .no-links .ensures))
+    (omega arith, sym (numbered-none _ _ (a .pre)), refl, bucketed-none _ _ _ (c .before .no-buckets .result) (c .no-links .result) (c .before .no-buckets .ensures) (c .no-links .ensures))
 
 row-hash-requires : tie.Need-row-hash-requires Inv-loop μ-loop
 row-hash-requires c κs =
@@ -112,7 +112,7 @@ seek-requires c κs =
         omega arith,
         (
           subst (λ X. X) (sym (same i (λ o n. Linked (fan l) o n (l .loop .links) (l .loop .h)))) (l .loop .inv .3 .linked),
-          started (c .before .before) ∙ sym (same i (λ o n. chain (fan l) o n (rowHash (fan l) o n (l .loop .h)) (l .loop .h))),
+          started (c .before .before) ∙ sym (same i (λ o n. bucket (fan l) o n (rowHash (fan l) o n (l .loop .h)) (l .loop .h))),
         ),
       ),
     )
@@ -143,17 +143,17 @@ mul-links c = omega (arith, entry (c .before .before .before .before .before .be
 array-write-links : tie.Need-array-write-links Inv-loop μ-loop
 array-write-links c = omega (arith, entry (c .before .before .before .before .before .before .before) .pre)
 
-add-chains : tie.Need-add-chains Inv-loop μ-loop
-add-chains c = omega (arith, entry (c .before .before .before .before .before .before .before) .pre)
+add-buckets : tie.Need-add-buckets Inv-loop μ-loop
+add-buckets c = omega (arith, entry (c .before .before .before .before .before .before .before) .pre)
 
-cast-chains : tie.Need-cast-chains Inv-loop μ-loop
-cast-chains c = omega (arith, entry (c .before .before .before .before .before .before .before) .pre)
+cast-buckets : tie.Need-cast-buckets Inv-loop μ-loop
+cast-buckets c = omega (arith, entry (c .before .before .before .before .before .before .before) .pre)
 
-mul-chains : tie.Need-mul-chains Inv-loop μ-loop
-mul-chains c = omega (arith, hash-small (c .before .before .before .before))
+mul-buckets : tie.Need-mul-buckets Inv-loop μ-loop
+mul-buckets c = omega (arith, hash-small (c .before .before .before .before))
 
-array-write-chains : tie.Need-array-write-chains Inv-loop μ-loop
-array-write-chains c = hash-small (c .before .before .before .before)
+array-write-buckets : tie.Need-array-write-buckets Inv-loop μ-loop
+array-write-buckets c = hash-small (c .before .before .before .before)
 
 add-scratch : tie.Need-add-scratch Inv-loop μ-loop
 add-scratch c =
@@ -185,11 +185,11 @@ loop-again c =
     ⊎-elim
     (λ w.
     let t = turn-later (now (a .args .scratch)) (l .loop .scratch) (a .args .layer) (a .pre) (l .loop .h) (k .seek .result) (l .loop .fresh) (omega arith) (l .loop .inv .1) (l .loop .inv .2) (sought k) (c .if1 .number) (w .5) (w .0 .taken) in
-    let C = chained-later (fan l) (out l) (next l) (l .loop .chains) (l .loop .links) (l .loop .h) (l .loop .inv .3) (omega (arith, a .pre)) (omega (arith, sought k)) in
+    let C = bucketed-later (fan l) (out l) (next l) (l .loop .buckets) (l .loop .links) (l .loop .h) (l .loop .inv .3) (omega (arith, a .pre)) (omega (arith, sought k)) in
     (omega arith, t .0, w .4 ∙ t .1, rw (w .2, w .3) C))
     (λ w.
     let t = turn-new (now (a .args .scratch)) (l .loop .scratch) (a .args .layer) (a .pre) (l .loop .h) (k .seek .result) (l .loop .fresh) (omega arith) (l .loop .inv .1) (l .loop .inv .2) (sought k) (c .if1 .number) (w .4) (w .0 .left) in
-    let C = chained-new (fan l) (out l) (next l) (l .loop .chains) (l .loop .links) (l .loop .h) (l .loop .inv .3) (omega (arith, a .pre)) (r .row-hash .result) (hashed r) (omega (arith, sought k, first-le (fan l) (out l) (next l) (l .loop .h))) in
+    let C = bucketed-new (fan l) (out l) (next l) (l .loop .buckets) (l .loop .links) (l .loop .h) (l .loop .inv .3) (omega (arith, a .pre)) (r .row-hash .result) (hashed r) (omega (arith, sought k, first-le (fan l) (out l) (next l) (l .loop .h))) in
     (omega arith, t .0, w .3 ∙ t .1, rw (w .1, w .2) C))
     (c .if1 .came)
 
@@ -214,7 +214,7 @@ number-layer-spec =
     (tie.spec
     Inv-loop
     μ-loop
-    no-chains-requires
+    no-buckets-requires
     no-links-requires
     loop-holds
     row-hash-requires
@@ -228,10 +228,10 @@ number-layer-spec =
     add-fresh
     mul-links
     array-write-links
-    add-chains
-    cast-chains
-    mul-chains
-    array-write-chains
+    add-buckets
+    cast-buckets
+    mul-buckets
+    array-write-buckets
     add-scratch
     mul-scratch
     slice-write-scratch

@@ -5,9 +5,9 @@ use Prim.Native.Nat.{_+_, _*_, _-_, _≤_, _<_}
 use native.Mathlib.Omega.{arith}
 use denote.Ref.{now}
 use Rattle.rows.specs.Rows.{outIn, nextIn}
-use Rattle.rows.specs.Chains.{hashTo}
+use Rattle.rows.specs.Buckets.{hashTo}
 use Rattle.rows.proofs.Laws.{entry-in}
-use Rattle.rows.proofs.Chains.{hash-below, hash-more}
+use Rattle.rows.proofs.Buckets.{hash-below, hash-more}
 use Rattle.rows.proofs.row_hash.Statement.{statement}
 use Rattle.rows.proofs.row_hash.Tie as tie
 

@@ -1,4 +1,4 @@
--- `rows::seek` meets its contract. The invariants: what is passed of the chain has not the row of h; the entries of g and h for the words so far
+-- `rows::seek` meets its contract. The invariants: what is passed of the bucket has not the row of h; the entries of g and h for the words so far
 -- are the same.
 -- Assumes nothing.
 use Prim.Native.Nat.{ℕ, _+_, _*_, _-_, _≤_, _<_}
@@ -8,7 +8,7 @@ use native.Mathlib.Omega.{arith}
 use Rattle.layered.proofs.Search.{below-suc}
 use Rattle.rows.specs.Rows.{outIn, nextIn}
 use Rattle.rows.proofs.Laws.{Alike, entry-in, entries-row}
-use Rattle.rows.proofs.Chains.{entry-same, entry-differs, Walk, walk-from, walk-ended, walk-falls, walk-on, walk-found}
+use Rattle.rows.proofs.Buckets.{entry-same, entry-differs, Walk, walk-from, walk-ended, walk-falls, walk-on, walk-found}
 use Rattle.rows.proofs.seek.Statement.{statement}
 use Rattle.rows.proofs.seek.Tie as tie
 

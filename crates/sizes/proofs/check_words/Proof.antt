@@ -9,7 +9,7 @@ use borrow.Author.Tests.{le-leb, lt-leb}
 use denote.Ref.{now}
 use lib.ListN.{length, getD}
 use lib.Dec.{leb}
-use Rattle.verdict.specs.Figures.{answer, refuseFirst}
+use Rattle.verdict.specs.Judgements.{answer, refuseFirst}
 use Rattle.verdict.proofs.Laws.{first-here, first-later, first-none}
 use Rattle.sizes.specs.Sizes.{wordsChecked}
 use Rattle.sizes.proofs.Laws.{power-is}

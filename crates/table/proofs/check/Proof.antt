@@ -3,14 +3,14 @@
 use denote.Ref.{now}
 use Rattle.verdict.proofs.Laws.{stop, go-on, accepts}
 use Rattle.table.specs.Table.{checked}
-use Rattle.table.specs.Headed.{Headed}
+use Rattle.table.specs.Sound.{TableHeaded}
 use Rattle.table.proofs.Accepted.{headed, legal-table}
 use borrow.Author.Needs.{needs}
 use Rattle.table.proofs.check.Statement.{statement}
 use Rattle.table.proofs.check.Tie as tie
 
 -- the head is accepted
-headed₁ : (c : tie.After-enum-told) → Headed (now (c .before .before .before .before .args .table))
+headed₁ : (c : tie.After-enum-told) → TableHeaded (now (c .before .before .before .before .args .table))
 headed₁ c =
     let k = c .before .before in
     let p = c .enum-told .given .0 .0 in

@@ -2,7 +2,7 @@
 -- Assumes nothing.
 use mathlib.Core.Path.{ap, _∙_}
 use denote.Ref.{now}
-use Rattle.table.specs.declared.StepFigures.{StepFigures}
+use Rattle.steps.specs.declared.StepFigures.{StepFigures}
 use Rattle.tff.specs.Answer.{stepAnswered}
 use Rattle.tff.proofs.Laws.{no-room, has-room}
 use borrow.Author.Needs.{needs}

@@ -7,10 +7,10 @@ use native.Mathlib.Omega.{arith}
 use borrow.Author.Needs.{needs}
 use denote.Ref.{now}
 use lib.ListN.{length}
-use Rattle.verdict.specs.Figures.{answer}
+use Rattle.verdict.specs.Judgements.{answer}
 use Rattle.verdict.proofs.Laws.{accepts}
 use Rattle.table.specs.Table.{checked}
-use Rattle.table.specs.Headed.{Sound}
+use Rattle.table.specs.Sound.{Sound}
 use Rattle.table.proofs.Accepted.{sound}
 use Rattle.table.proofs.Offsets.{arrays-stand}
 use Rattle.unfolded.specs.Unfolded.{gatesNeeded, unfoldedBytes}

@@ -8,7 +8,7 @@ use denote.Ref.{now}
 use lib.ListN.{length}
 use lib.Seq.{sets, length-sets}
 use Rattle.circuit.specs.Lists.{grown, listed}
-use Rattle.unfolded.specs.Unfolded.{inverted, chains, ending}
+use Rattle.unfolded.specs.Unfolded.{inverted, chainsFrom, ending}
 use Rattle.chains.specs.Chains.{gatesStored, gathering}
 use Rattle.chains.proofs.Stored.{gates-none, gates-length, fits-still, chains-next, chains-longer, chains-room, chains-most, ending-is, kept-more}
 use Rattle.chains.proofs.gathers.put_gathers.Statement.{statement}
@@ -16,15 +16,15 @@ use Rattle.chains.proofs.gathers.put_gathers.Tie as tie
 
 abbrev Inv-loop : tie.InvT-loop
 Inv-loop target entries edges nexts count k literals₀ at result₀ end₀ i₀ literals result end i =
-    (i ≤ count) × (end ≡ k + length (chains (target .base + k) (gathering (target .base + edges) entries nexts) i))
-    × (result ≡ gatesStored (target .gates) k result₀ (chains (target .base + k) (gathering (target .base + edges) entries nexts) i))
+    (i ≤ count) × (end ≡ k + length (chainsFrom (target .base + k) (gathering (target .base + edges) entries nexts) i))
+    × (result ≡ gatesStored (target .gates) k result₀ (chainsFrom (target .base + k) (gathering (target .base + edges) entries nexts) i))
     × (literals ≡ sets literals₀ at (listed [] (λ i. inverted (ending (target .base + k) (gathering (target .base + edges) entries nexts) i)) i))
 
 abbrev μ-loop : tie.MeasureT-loop
 μ-loop target entries edges nexts count k literals₀ at result₀ end₀ i₀ literals result end i = count - i
 
 loop-holds : tie.Need-loop-holds Inv-loop μ-loop
-unfolding chains grown
+unfolding chainsFrom grown
 loop-holds c = (omega arith, omega arith, sym (gates-none _ _ _), refl)
 
 -- at the loop's head: the entry of the function, its chains, and what they end with
@@ -37,7 +37,7 @@ f₀ l = let a = start l .args in gathering (a .target .base + a .edges) (now (a
 abbrev first : tie.At-loop Inv-loop μ-loop → ℕ
 first l = start l .args .target .base + start l .args .k
 
-within : (l : tie.At-loop Inv-loop μ-loop) → start l .args .k + length (chains (first l) (f₀ l) (l .loop .i)) ≤ start l .args .target .gates
+within : (l : tie.At-loop Inv-loop μ-loop) → start l .args .k + length (chainsFrom (first l) (f₀ l) (l .loop .i)) ≤ start l .args .target .gates
 within l = omega (arith, chains-most (first l) (f₀ l) (l .loop .i) (start l .args .count) (l .loop .inv .0), start l .pre .1 .1 .1)
 
 kept-length : (l : tie.At-loop Inv-loop μ-loop) → length (l .loop .literals) ≡ length (now (start l .args .literals))
@@ -119,10 +119,10 @@ returns c =
     let l = c .before in
     let a = start l in
     let e : l .loop .i ≡ a .args .count = omega (arith, c .loop-test .left) in (
-      l .loop .inv .2 ∙ ap (λ (i : ℕ). gatesStored (a .args .target .gates) (a .args .k) (now (a .args .result)) (chains (first l) (f₀ l) i)) e,
+      l .loop .inv .2 ∙ ap (λ (i : ℕ). gatesStored (a .args .target .gates) (a .args .k) (now (a .args .result)) (chainsFrom (first l) (f₀ l) i)) e,
       (
         l .loop .inv .3 ∙ ap (λ (i : ℕ). sets (now (a .args .literals)) (a .args .at) (listed [] (λ i. inverted (ending (first l) (f₀ l) i)) i)) e,
-        l .loop .inv .1 ∙ ap (λ (i : ℕ). a .args .k + length (chains (first l) (f₀ l) i)) e,
+        l .loop .inv .1 ∙ ap (λ (i : ℕ). a .args .k + length (chainsFrom (first l) (f₀ l) i)) e,
       ),
     )
 

@@ -9,7 +9,7 @@ use native.Mathlib.Omega.{arith}
 use borrow.Author.Needs.{needs}
 use denote.Ref.{now}
 use lib.ListN.{length, take, drop, length-take, length-drop}
-use Rattle.verdict.specs.Figures.{figures, firstRefusal}
+use Rattle.verdict.specs.Judgements.{figures, firstRefusal}
 use Rattle.verdict.specs.declared.Figures.{Figures}
 use Rattle.verdict.proofs.Laws.{row-stop, row-on, row-end}
 use Rattle.sizes.specs.Sizes.{inputs, frames}

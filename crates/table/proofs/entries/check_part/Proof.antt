@@ -10,7 +10,7 @@ use denote.Ref.{now}
 use lib.Dec.{leb}
 use lib.ListN.{length}
 use Rattle.words.specs.Words.{wordAt}
-use Rattle.verdict.specs.Figures.{answer, refuseFirst}
+use Rattle.verdict.specs.Judgements.{answer, refuseFirst}
 use Rattle.verdict.proofs.Laws.{first-here, first-later, first-none}
 use Rattle.table.specs.Table.{partChecked}
 use Rattle.table.proofs.entries.check_part.Statement.{statement}

@@ -1,13 +1,13 @@
 -- `table::head::check_counts` meets its contract. The invariant: what the definition says of all counts is what it says of those from t on.
 -- Assumes nothing.
 use mathlib.Core.Path.{_≡_, sym, ap, ap₂, _∙_}
-use mathlib.Core.Bool.{Bool, _||_}
+use mathlib.Core.Bool.{Bool, _||_, cond}
 use mathlib.Core.List.{List}
 use Prim.Native.Nat.{ℕ, suc, _+_, _-_, _≤_}
 use native.Mathlib.Omega.{arith}
 use denote.Ref.{now}
 use lib.Dec.{eqb}
-use Rattle.verdict.specs.Figures.{answer, pick, refuseFirst}
+use Rattle.verdict.specs.Judgements.{answer, refuseFirst}
 use Rattle.verdict.proofs.Laws.{first-here, first-later, first-none}
 use Rattle.sizes.specs.Sizes.{frames, outside}
 use Rattle.table.specs.Table.{countAt, states, countsChecked}
@@ -16,7 +16,7 @@ use Rattle.table.proofs.head.check_counts.Tie as tie
 
 -- the count of layer t is out of its limits
 abbrev wrong : List ℕ → ℕ → Bool
-wrong b t = outside 1 (pick (eqb t 0 || eqb t (frames b)) 1 32768) (states b t)
+wrong b t = outside 1 (cond (eqb t 0 || eqb t (frames b)) 1 32768) (states b t)
 
 abbrev Inv-loop : tie.InvT-loop
 Inv-loop table last count t₀ t = (t ≤ count) × (countsChecked table ≡ refuseFirst (wrong table) 2 countAt (answer 0 0) t (count - t))
@@ -54,7 +54,7 @@ judged : (c : tie.After-is-outside Inv-loop μ-loop) → wrong (now (c .before .
 judged c =
     let a = c .before .before .before .before .before .before in
     let t = c .before .before .before .before .loop .t in
-    let most = c .before .before .most-states .ensures ∙ ap (λ (l : ℕ). pick (eqb t 0 || eqb t l) 1 32768) (a .pre .0) in
+    let most = c .before .before .most-states .ensures ∙ ap (λ (l : ℕ). cond (eqb t 0 || eqb t l) 1 32768) (a .pre .0) in
     sym (c .is-outside .ensures ∙ ap₂ (outside 1) most (c .before .states-of .ensures .0))
 
 returns : tie.Need-returns Inv-loop μ-loop

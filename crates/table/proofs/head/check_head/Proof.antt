@@ -9,7 +9,7 @@ use borrow.Author.Tests.{lt-ltb, le-ltb, eq-eqb, ne-eqb}
 use denote.Ref.{now}
 use lib.Dec.{ltb, eqb}
 use lib.ListN.{length}
-use Rattle.verdict.specs.Figures.{answer, figures, refuse, andThen}
+use Rattle.verdict.specs.Judgements.{answer, figures, refuse, andThen}
 use Rattle.verdict.specs.declared.Figures.{Figures}
 use Rattle.verdict.proofs.Laws.{stop, go-on, accepts}
 use Rattle.sizes.specs.Sizes.{inputs, outputs, frames, sizesChecked}

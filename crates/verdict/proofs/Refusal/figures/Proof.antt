@@ -2,7 +2,7 @@
 -- Assumes nothing.
 use mathlib.Core.Path.{sym, ap}
 use borrow.Author.Needs.{needs}
-use Rattle.verdict.specs.Figures.{refusalFigures}
+use Rattle.verdict.specs.Judgements.{refusalFigures}
 use Rattle.verdict.proofs.Refusal.figures.Statement.{statement}
 use Rattle.verdict.proofs.Refusal.figures.Tie as tie
 

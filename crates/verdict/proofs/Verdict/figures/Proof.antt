@@ -2,7 +2,7 @@
 -- Assumes nothing.
 use mathlib.Core.Path.{sym, ap}
 use borrow.Author.Needs.{needs}
-use Rattle.verdict.specs.Figures.{figures}
+use Rattle.verdict.specs.Judgements.{figures}
 use Rattle.verdict.proofs.Verdict.figures.Statement.{statement}
 use Rattle.verdict.proofs.Verdict.figures.Tie as tie
 

@@ -1,0 +1,62 @@
+-- Lists that are made one element at a time.
+use mathlib.Core.Path.{_≡_, refl, ap, ap₂, _∙_}
+use mathlib.Core.Logic.{⊎-elim}
+use mathlib.Core.List.{List, [], _∷_, _++_}
+use Prim.Native.Nat.{ℕ, zero, suc, _+_, _≤_, _<_}
+use native.Mathlib.Nat.{le-of-suc-le-suc, eq-or-lt-of-le, le-suc, le-trans, le-refl, zero-add}
+use native.Mathlib.Numerals.{add-one}
+use native.Mathlib.Omega.{arith}
+use lib.ListN.{length, getD, List·getD-append}
+use lib.Seq.{getD-at}
+use Rattle.circuit.specs.Lists.{grown, listed}
+use Rattle.circuit.proofs.Laws.{length-grown}
+
+-- ---- grown
+
+module _ {A : Type 0} (start : List A) (next : List A → ℕ → A) (d : A) where
+  pub grown-old : (k i : ℕ) → i < length start + k → getD (grown start next (suc k)) i d ≡ getD (grown start next k) i d
+  unfolding grown
+  grown-old k i h = List·getD-append (grown start next k) _ d i (omega (arith, length-grown start next k))
+
+  pub grown-new : (k : ℕ) → getD (grown start next (suc k)) (length start + k) d ≡ next (grown start next k) k
+  unfolding grown
+  grown-new k = getD-at (grown start next k) _ [] d (length start + k) (length-grown start next k)
+
+module _ {A : Type 0} (start : List A) (f : ℕ → A) (d : A) where
+  pub listed-start : (k i : ℕ) → i < length start → getD (listed start f k) i d ≡ getD start i d
+  unfolding grown
+  listed-start zero i h = refl
+  listed-start (suc k) i h = grown-old start (λ _ i. f i) d k i (omega arith) ∙ listed-start k i h
+
+  pub listed-after : (k i : ℕ) → i < k → getD (listed start f k) (length start + i) d ≡ f i
+  listed-after zero i h = absurd (omega arith)
+  listed-after (suc k) i h =
+      ⊎-elim
+      (λ (e : i ≡ k). rw e (grown-new start (λ _ i. f i) d k))
+      (λ (l : i < k). grown-old start (λ _ i. f i) d k (length start + i) (omega arith) ∙ listed-after k i l)
+      (eq-or-lt-of-le (le-of-suc-le-suc h))
+
+-- ---- listed
+
+module _ {A : Type 0} (f : ℕ → A) where
+  pub listed-length : (k : ℕ) → length (listed [] f k) ≡ k
+  listed-length k = length-grown [] (λ _ i. f i) k ∙ omega arith
+
+  pub listed-at : (d : A) (k i : ℕ) → i < k → getD (listed [] f k) i d ≡ f i
+  listed-at d k i h = rw zero-add at (listed-after [] f d k i h)
+
+  -- one element more
+  pub listed-more : (k : ℕ) (x : A) → x ≡ f k → listed [] f k ++ (x ∷ []) ≡ listed [] f (k + 1)
+  unfolding grown
+  listed-more k x e = rw (add-one k, e)
+
+pub listed-cong : {A : Type 0} (f g : ℕ → A) (k : ℕ) → ((i : ℕ) → i < k → f i ≡ g i) → listed [] f k ≡ listed [] g k
+unfolding grown
+listed-cong f g zero h = refl
+listed-cong {A} f g (suc k) h = ap₂ (λ (l : List A) (x : A). l ++ (x ∷ [])) (listed-cong f g k (λ i l. h i (le-trans l (le-suc k)))) (h k (le-refl (suc k)))
+
+-- a list that begins with x
+pub listed-cons : {A : Type 0} (x : A) (f : ℕ → A) (k : ℕ) → listed (x ∷ []) f k ≡ x ∷ listed [] f k
+unfolding grown
+listed-cons x f zero = refl
+listed-cons x f (suc k) = ap (λ l. l ++ (f k ∷ [])) (listed-cons x f k)

@@ -1,0 +1,38 @@
+-- What the functions behind the check may assume of a circuit.
+use Prim.Native.Nat.{ℕ, _+_, _*_, _≤_, _<_}
+use mathlib.Core.Path.{_≡_}
+use mathlib.Core.List.{List}
+use mathlib.Core.Bool.{true}
+use lib.ListN.{length}
+use Rattle.sizes.specs.Sizes.{inputs, outputs, frames}
+use Rattle.sizes.specs.Sized.{Sized}
+use Rattle.circuit.specs.Circuit.{gates, leftsAt, rightsAt, literalAt, allInputs, allOutputs, admissible}
+use Rattle.circuit.specs.declared.Head.{Head}
+
+-- the sizes are within the limits, n up to 16, and the circuit is as long as they say
+pub record CircuitHeaded (b : List ℕ) : Type 0 where
+  pub sizes : Sized 16 (inputs b) (outputs b) (frames b)
+  pub inputs-to : allInputs b ≤ 16
+  pub outputs-to : allOutputs b ≤ gates b
+  pub gates-to : gates b ≤ 4096
+  pub whole : length b ≡ 8 + 4 * gates b
+
+-- h holds the sizes of b
+pub record HeadOf (b : List ℕ) (h : Head) : Type 0 where
+  pub inputs-is : h .inputs ≡ inputs b
+  pub outputs-is : h .outputs ≡ outputs b
+  pub frames-is : h .frames ≡ frames b
+  pub gates-is : h .gates ≡ gates b
+  pub base-is : h .base ≡ 1 + allInputs b
+  pub total-is : h .total ≡ allOutputs b
+
+-- each gate's two literals are admissible
+pub record LegalGates (b : List ℕ) : Type 0 where
+  pub left : (g : ℕ) → g < gates b → admissible b g (literalAt b (leftsAt b) g) ≡ true
+  pub right : (g : ℕ) → g < gates b → admissible b g (literalAt b (rightsAt b) g) ≡ true
+
+-- the circuit passed every check but 4, and h holds its sizes: what all code behind the check asks for
+pub record WellFormed (b : List ℕ) (h : Head) : Type 0 where
+  pub headed : CircuitHeaded b
+  pub head-is : HeadOf b h
+  pub legal : LegalGates b

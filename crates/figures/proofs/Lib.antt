@@ -1,2 +1,0 @@
--- The figures hold.
-pub mod Figures

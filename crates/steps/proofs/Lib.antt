@@ -1,0 +1,3 @@
+-- The proofs of `steps`: laws by subject, lowest first.
+pub mod Steps
+pub mod Runs

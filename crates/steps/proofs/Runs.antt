@@ -1,0 +1,61 @@
+-- Runs: the sequences that are fed, and the outputs stored word by word. Assumes nothing.
+use mathlib.Core.Path.{_≡_, sym, ap, ap₂, _∙_}
+use mathlib.Core.List.{List, [], _++_, append-nil}
+use Prim.Native.Nat.{ℕ, _+_, _^_, _<_}
+use native.Mathlib.Numerals.{add-one}
+use native.Mathlib.Omega.{arith}
+use lib.ListN.{length, getD, set, take, drop, take-append-drop}
+use lib.Seq.{drop-cons, take-suc-set, append-snoc, drop-set-lt, drop-drop, drop-length}
+use Rattle.verdict.specs.Judgements.{answer, figures}
+use Rattle.verdict.specs.declared.Refusal.{Refusal}
+use Rattle.verdict.specs.declared.Verdict.{Verdict}
+use Rattle.verdict.specs.declared.Verdict.the-variants.{Refused}
+use Rattle.verdict.proofs.Laws.{both-accept, kept, left}
+use Rattle.sizes.specs.Sizes.{inputs, frames, sequenceChecked}
+use Rattle.sizes.proofs.Laws.{fed}
+use Rattle.layered.specs.Machines.{Machine, feed}
+use Rattle.layered.proofs.Feeding.{sequence, words-length, feed-length}
+use Rattle.table.specs.Table.{machine, checked}
+use Rattle.steps.specs.Steps.{ran, runResult}
+use Rattle.steps.specs.Theorems.{RunFeeds}
+
+-- ---- the theorem
+
+pub run-feeds : (b words : List ℕ) (room : ℕ) → RunFeeds b words room
+unfolding RunFeeds ran
+run-feeds b words room p e =
+    let s = both-accept (checked b) (sequenceChecked (inputs b) (frames b) words room) p e in
+    let f = fed (inputs b) (frames b) words room p (s .2) in
+    let r = sequence (2 ^ inputs b) (frames b) words (f .0 .as-many) (f .0 .below) in
+    (r, f .2, feed-length (machine b) 0 0 words ∙ words-length r ∙ sym (f .2))
+
+-- ---- a run, word by word
+
+-- one output more is stored, and the machine goes on from where it moved to
+pub feed-more : (M : Machine) (words r : List ℕ) (t s o s′ : ℕ) → t < length words → t < length r → o ≡ M .out t s (getD words t 0) → s′ ≡ M .next t s (getD words t 0)
+    → feed M 0 0 words ≡ take t r ++ feed M t s (drop t words) → feed M 0 0 words ≡ take (t + 1) (set r t o) ++ feed M (t + 1) s′ (drop (t + 1) words)
+unfolding feed
+feed-more M words r t s o s′ hw hr eo es e = e ∙ rw (add-one, drop-cons words t 0 hw, take-suc-set r t o hr, eo, es, append-snoc)
+
+-- and the rest is as before
+pub drop-more : (r before : List ℕ) (t o : ℕ) → drop t r ≡ drop t before → drop (t + 1) (set r t o) ≡ drop (t + 1) before
+drop-more r before t o e = drop-set-lt (t + 1) r t o (omega arith) ∙ sym (drop-drop 1 t r) ∙ ap (drop 1) e ∙ drop-drop 1 t before
+
+-- after the last word
+pub feed-all : (M : Machine) (words r before : List ℕ) (t s : ℕ) → length words ≡ t → feed M 0 0 words ≡ take t r ++ feed M t s (drop t words) → drop t r ≡ drop t before
+    → r ≡ feed M 0 0 words ++ drop t before
+unfolding feed
+feed-all M words r before t s l e d =
+    let z : drop t words ≡ [] = ap (λ n. drop n words) (sym l) ∙ drop-length words in
+    let f : feed M 0 0 words ≡ take t r = e ∙ rw (z, append-nil) in
+    sym (take-append-drop t r) ∙ ap₂ _++_ (sym f) d
+
+-- what the result holds: untouched after a refusal, the outputs and then the rest as before after an acceptance
+module _ (b words before : List ℕ) where
+  pub run-kept : (x : Verdict) (r : Refusal) → figures x ≡ ran b words (length before) → x ≡ Refused r → before ≡ runResult b words before
+  unfolding runResult
+  run-kept x r e q = kept _ r (feed (machine b) 0 0 words) before (sym (ap figures q) ∙ e)
+
+  pub run-left : (T : ℕ) (after : List ℕ) → answer 0 T ≡ ran b words (length before) → after ≡ feed (machine b) 0 0 words ++ drop T before → after ≡ runResult b words before
+  unfolding runResult
+  run-left T after e h = left _ T (feed (machine b) 0 0 words) before after e h

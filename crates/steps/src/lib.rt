@@ -1,0 +1,181 @@
+// Tables stepped and run: positions, single steps, and the run of a table on a sequence.
+use sizes::Sizes;
+use sizes::check_sequence;
+use table::Layout;
+use table::check;
+use table::head::check_head;
+use table::head::entries_below;
+use table::head::states_of;
+use verdict::Refusal;
+use verdict::Verdict;
+use words::read;
+ghost use mathlib.Core.Path.{_≡_};
+ghost use Prim.Native.Nat.{_^_, _<_};
+ghost use lib.ListN.{length};
+ghost use Rattle.verdict.specs.Judgements.{figures, answer};
+ghost use Rattle.sizes.specs.Sizes.{inputs, frames};
+ghost use Rattle.table.specs.Table.{states};
+ghost use Rattle.table.specs.Sound.{TableHeaded, layoutOf};
+ghost use Rattle.steps.specs.Steps.{positionChecked, entryChecked, stepAfter, stepped, stepFigures, ran, runResult};
+ghost use Rattle.steps.specs.Theorems.{RunFeeds, StepReaches, StepsFeed};
+
+// A position: a layer, and a state of it.
+pub struct Position {
+    pub layer: usize,
+    pub state: usize,
+}
+
+// What a step answers: the output and the position moved to, or the refusal and the position given.
+pub enum Stepped {
+    Moved(u16, Position),
+    Refused(Refusal, Position),
+}
+
+// Document 01's number and place, and the further values that a step returns.
+pub struct StepFigures {
+    pub number: usize,
+    pub place: usize,
+    pub output: usize,
+    pub layer: usize,
+    pub state: usize,
+}
+
+impl Position {
+    pub fn start() -> Position
+        ensures { λ r. ⌜ (r .layer ≡ 0) × (r .state ≡ 0) ⌝ }
+    {
+        Position { layer: 0, state: 0 }
+    }
+}
+
+impl Stepped {
+    pub fn figures(self) -> StepFigures
+        ensures { λ r. ⌜ r ≡ stepFigures self ⌝ }
+    {
+        match self {
+            Stepped::Moved(output, position) => StepFigures {
+                number: 0,
+                place: 0,
+                output: output as usize,
+                layer: position.layer,
+                state: position.state,
+            },
+            Stepped::Refused(refusal, position) => {
+                let figures = refusal.figures();
+                StepFigures {
+                    number: figures.number,
+                    place: figures.place,
+                    output: 0,
+                    layer: position.layer,
+                    state: position.state,
+                }
+            }
+        }
+    }
+
+    // Its number and place alone.
+    pub fn verdict(self) -> Verdict
+        ensures { λ r. ⌜ figures r ≡ answer (stepFigures self .number) (stepFigures self .place) ⌝ }
+    {
+        match self {
+            Stepped::Moved(_, _) => Verdict::Accepted(0),
+            Stepped::Refused(refusal, _) => Verdict::Refused(refusal),
+        }
+    }
+}
+
+// Numbers 11, 10 and 9, of a step.
+fn check_position(table: &[u8], layout: Layout, position: Position, word: usize) -> Verdict
+    requires { ⌜ TableHeaded (now table) ⌝ }
+    requires { ⌜ layout ≡ layoutOf (now table) ⌝ }
+    ensures { λ r. ⌜ figures r ≡ positionChecked (now (table .entry)) (position .layer) (position .state) word ⌝ }
+{
+    let layer = position.layer;
+    let last = layout.frames;
+    if last < layer {
+        return Verdict::Refused(Refusal::Position(layer));
+    }
+    if states_of(table, layer) <= position.state {
+        return Verdict::Refused(Refusal::Position(layer));
+    }
+    if layer == last {
+        return Verdict::Refused(Refusal::End(last));
+    }
+    if layout.words <= word {
+        return Verdict::Refused(Refusal::Word(0));
+    }
+    Verdict::Accepted(0)
+}
+
+// A step by the one entry of a position and a word, and number 5 of that entry, output before next state.
+fn read_entry(table: &[u8], layout: Layout, position: Position, word: usize) -> Stepped
+    requires { ⌜ TableHeaded (now table) ⌝ }
+    requires { ⌜ layout ≡ layoutOf (now table) ⌝ }
+    requires { ⌜ (position .layer < frames (now table)) × (position .state < states (now table) (position .layer)) × (word < 2 ^ inputs (now table)) ⌝ }
+    ensures { λ r. ⌜ stepFigures r ≡ stepAfter (entryChecked (now (table .entry)) (position .layer) (position .state) word) (now (table .entry)) (position .layer) (position .state) word ⌝ }
+{
+    let layer = position.layer;
+    let below = entries_below(table, layout.words, layer);
+    let offset = 2 * (below + (position.state * layout.words + word));
+    let output_at = layout.outputs + offset;
+    let output = read(table, output_at);
+    if layout.limit <= output {
+        return Stepped::Refused(Refusal::Entry(output_at), position);
+    }
+    let next_at = layout.nexts + offset;
+    let next = read(table, next_at);
+    let moved = Position {
+        layer: layer + 1,
+        state: next,
+    };
+    if states_of(table, moved.layer) <= next {
+        return Stepped::Refused(Refusal::Entry(next_at), position);
+    }
+    Stepped::Moved(output as u16, moved)
+}
+
+// One step: the head, then the position and the word, then the entry are judged.
+pub fn step(table: &[u8], position: Position, word: u16) -> Stepped
+    ensures answer { λ r. ⌜ stepFigures r ≡ stepped (now (table .entry)) (position .layer) (position .state) word ⌝ }
+    ensures reaches { λ r. ⌜ StepReaches (now (table .entry)) ⌝ }
+    ensures feeds { λ r. ⌜ StepsFeed (now (table .entry)) ⌝ }
+{
+    let head = check_head(table);
+    if let Verdict::Refused(refusal) = head {
+        return Stepped::Refused(refusal, position);
+    }
+    let layout = Layout::read(table);
+    let placed = check_position(table, layout, position, word as usize);
+    if let Verdict::Refused(refusal) = placed {
+        return Stepped::Refused(refusal, position);
+    }
+    read_entry(table, layout, position, word as usize)
+}
+
+// The outputs of a table on a sequence of input words ("playing" in document 01): one word for each frame.
+pub fn run(table: &[u8], words: &[u16], result: &mut [u16]) -> Verdict
+    ensures verdict { λ r. ⌜ figures r ≡ ran (now (table .entry)) (now (words .entry)) (length (now (result .entry))) ⌝ }
+    ensures outputs { λ r. ⌜ now (result .exit) ≡ runResult (now (table .entry)) (now (words .entry)) (now (result .entry)) ⌝ }
+    ensures feeds { λ r. ⌜ RunFeeds (now (table .entry)) (now (words .entry)) (length (now (result .entry))) ⌝ }
+{
+    let judged = check(table);
+    let Verdict::Accepted(_) = judged else {
+        return judged;
+    };
+    let sizes = Sizes::read(table);
+    let fed = check_sequence(words, sizes.inputs, sizes.frames, result.len());
+    let Verdict::Accepted(_) = fed else {
+        return fed;
+    };
+    let frames = sizes.frames;
+    let mut position = Position::start();
+    for t in 0..frames {
+        let answer = step(table, position, words[t]);
+        let Stepped::Moved(output, next) = answer else {
+            return answer.verdict();
+        };
+        result[t] = output;
+        position = next;
+    }
+    Verdict::Accepted(frames)
+}

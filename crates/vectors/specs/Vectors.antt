@@ -1,0 +1,175 @@
+-- The figures that document 01 wants proved ("Figures to hold", those with a star): one table, in its order, of calls with what they are to
+-- answer and leave, and its test.
+use Prim.Native.Nat.{ℕ, _*_}
+use mathlib.Core.Path.{_≡_}
+use mathlib.Core.Bool.{Bool, true, false, _&&_}
+use mathlib.Core.List.{List, [], _∷_, _++_}
+use lib.Dec.{eqb}
+use lib.ListN.{length, take, set, replicate}
+use Rattle.words.specs.Words.{wordBytes}
+use Rattle.verdict.specs.Judgements.{answer}
+use Rattle.verdict.specs.declared.Figures.{Figures}
+use Rattle.circuit.specs.Circuit.{checked}
+use Rattle.steps.specs.Steps.{stepped}
+use Rattle.folded.specs.Folded.{foldChecked, foldResult, foldScratch}
+use Rattle.unfolded.specs.Unfolded.{unfoldChecked, unfoldResult}
+
+-- ---- calls
+
+-- a call, with what it is given and lent
+pub data Call : Type 0 where
+  Check : (circuit : List ℕ) → Call
+  Fold : (circuit scratch result : List ℕ) → Call
+  Unfold : (table result : List ℕ) → Call
+  Step : (table : List ℕ) (layer state word : ℕ) → Call
+
+-- number and place, and all else that a call leaves: what its result holds (of a step: output, layer and state), and its scratch
+pub record Outcome : Type 0 where
+  pub figures : Figures
+  pub result : List ℕ
+  pub scratch : List ℕ
+
+-- what a call answers and leaves, by the definitions that its promise cites
+unfoldable pub outcomeOf : Call → Outcome
+outcomeOf (Check b) = record { figures = checked b; result = []; scratch = [] }
+outcomeOf (Fold b scratch result) = record {
+  figures = foldChecked b (length scratch) (length result);
+  result = foldResult b (length scratch) result;
+  scratch = foldScratch b scratch (length result);
+}
+outcomeOf (Unfold b result) = record { figures = unfoldChecked b (length result); result = unfoldResult b result; scratch = [] }
+outcomeOf (Step b layer state word) =
+    let s = stepped b layer state word in
+    record { figures = answer (s .number) (s .place); result = s .output ∷ s .layer ∷ s .state ∷ []; scratch = [] }
+
+-- ---- circuits and tables, as words
+
+-- A circuit is n, m, T, G, the left literals, the right literals; a table is n, m, T, the counts, the outputs, the next states.
+
+-- Parity: n = m = 1, T = 2, y1 = x1, y2 = x1 xor x2
+unfoldable pub parity : List ℕ
+parity = 1 ∷ 1 ∷ 2 ∷ 5 ∷ 2 ∷ 3 ∷ 7 ∷ 2 ∷ 11 ∷ 5 ∷ 4 ∷ 9 ∷ 1 ∷ 1 ∷ []
+
+-- its table
+unfoldable pub parityFolded : List ℕ
+parityFolded = (1 ∷ 1 ∷ 2 ∷ []) ++ ((1 ∷ 2 ∷ 1 ∷ []) ++ ((0 ∷ 1 ∷ 0 ∷ 1 ∷ 1 ∷ 0 ∷ []) ++ (0 ∷ 1 ∷ 0 ∷ 0 ∷ 0 ∷ 0 ∷ [])))
+
+-- the table's circuit
+unfoldable pub parityDrawn : List ℕ
+parityDrawn =
+    (1 ∷ 1 ∷ 2 ∷ 17 ∷ [])
+    ++ ((1 ∷ 1 ∷ 1 ∷ 1 ∷ 1 ∷ 1 ∷ 1 ∷ 1 ∷ 1 ∷ 15 ∷ 15 ∷ 17 ∷ 17 ∷ 1 ∷ 32 ∷ 19 ∷ 35 ∷ [])
+    ++ (3 ∷ 2 ∷ 6 ∷ 8 ∷ 11 ∷ 13 ∷ 13 ∷ 5 ∷ 4 ∷ 20 ∷ 22 ∷ 20 ∷ 22 ∷ 27 ∷ 29 ∷ 1 ∷ 1 ∷ []))
+
+-- n = m = T = 1, y = x
+unfoldable pub identity : List ℕ
+identity = 1 ∷ 1 ∷ 1 ∷ 1 ∷ 2 ∷ 1 ∷ []
+
+-- its table
+unfoldable pub identityFolded : List ℕ
+identityFolded = (1 ∷ 1 ∷ 1 ∷ []) ++ ((1 ∷ 1 ∷ []) ++ ((0 ∷ 1 ∷ []) ++ (0 ∷ 0 ∷ [])))
+
+-- n = m = 1, T = 2, all outputs false
+unfoldable pub silent : List ℕ
+silent = 1 ∷ 1 ∷ 2 ∷ 2 ∷ 0 ∷ 0 ∷ 0 ∷ 0 ∷ []
+
+-- its table
+unfoldable pub silentFolded : List ℕ
+silentFolded = (1 ∷ 1 ∷ 2 ∷ []) ++ ((1 ∷ 1 ∷ 1 ∷ []) ++ ((0 ∷ 0 ∷ 0 ∷ 0 ∷ []) ++ (0 ∷ 0 ∷ 0 ∷ 0 ∷ [])))
+
+-- n = m = 1, T = 3, y1 = y2 = 0, y3 = x1
+unfoldable pub delayed : List ℕ
+delayed = 1 ∷ 1 ∷ 3 ∷ 3 ∷ 0 ∷ 0 ∷ 2 ∷ 0 ∷ 0 ∷ 1 ∷ []
+
+-- its table
+unfoldable pub delayedFolded : List ℕ
+delayedFolded =
+    (1 ∷ 1 ∷ 3 ∷ [])
+    ++ ((1 ∷ 2 ∷ 2 ∷ 1 ∷ [])
+    ++ ((0 ∷ 0 ∷ 0 ∷ 0 ∷ 0 ∷ 0 ∷ 0 ∷ 0 ∷ 1 ∷ 1 ∷ []) ++ (0 ∷ 1 ∷ 0 ∷ 0 ∷ 1 ∷ 1 ∷ 0 ∷ 0 ∷ 0 ∷ 0 ∷ [])))
+
+-- n = 8, m = 1, T frames, all outputs false
+unfoldable pub wide : (T : ℕ) → List ℕ
+wide T = 8 ∷ 1 ∷ T ∷ T ∷ replicate (2 * T) 0
+
+-- ---- the table
+
+-- a call, and what it is to answer and leave
+pub record Row : Type 0 where
+  pub call : Call
+  pub expected : Outcome
+
+-- a row of the table: call, number, place, result, scratch
+abbrev pub row : Call → (number place : ℕ) (result scratch : List ℕ) → Row
+row c number place result scratch = record { call = c; expected = record { figures = answer number place; result = result; scratch = scratch } }
+
+-- what is lent: k numbers that are not 0
+abbrev pub lent : ℕ → List ℕ
+lent k = replicate k 9
+
+-- what needed scratch holds once it is cleared
+abbrev pub zeros : ℕ → List ℕ
+zeros k = replicate k 0
+
+unfoldable pub rows : List Row
+unfolding parity parityFolded parityDrawn identity identityFolded silent silentFolded delayed delayedFolded wide wordBytes
+rows =
+    -- Parity folds to 1 1 2, 1 2 1, ..: 36 bytes
+    row (Fold (wordBytes parity) (lent 8) (lent 36)) 0 36 (wordBytes parityFolded) (zeros 8)
+    -- drawn back, 17 gates
+    ∷ row (Unfold (wordBytes parityFolded) (lent 76)) 0 76 (wordBytes parityDrawn) []
+    -- y = x: counts 1 1
+    ∷ row (Fold (wordBytes identity) (lent 4) (lent 18)) 0 18 (wordBytes identityFolded) (zeros 4)
+    -- all outputs false: 1 1 1
+    ∷ row (Fold (wordBytes silent) (lent 8) (lent 28)) 0 28 (wordBytes silentFolded) (zeros 8)
+    -- y1 = y2 = 0, y3 = x1: 1 2 2 1
+    ∷ row (Fold (wordBytes delayed) (lent 16) (lent 54)) 0 54 (wordBytes delayedFolded) (zeros 16)
+    -- Parity less one byte
+    ∷ row (Check (take 27 (wordBytes parity))) 1 27 [] []
+    -- n = 0
+    ∷ row (Check (wordBytes (set parity 0 0))) 2 0 [] []
+    -- n = 8, T = 3; T = 2 is within limits
+    ∷ row (Check (wordBytes (wide 3))) 2 4 [] []
+    ∷ row (Check (wordBytes (wide 2))) 0 0 [] []
+    -- Parity's first left literal 6; 5 is legal
+    ∷ row (Check (wordBytes (set parity 4 6))) 3 8 [] []
+    ∷ row (Check (wordBytes (set parity 4 5))) 0 0 [] []
+    -- its fourth left literal 4
+    ∷ row (Check (wordBytes (set parity 7 4))) 4 0 [] []
+    -- Parity with 7 scratch numbers
+    ∷ row (Fold (wordBytes parity) (lent 7) (lent 36)) 6 8 (lent 36) (lent 7)
+    -- with 35 bytes
+    ∷ row (Fold (wordBytes parity) (lent 8) (lent 35)) 7 36 (lent 35) (zeros 8)
+    -- step at layer 2, state 0
+    ∷ row (Step (wordBytes parityFolded) 2 0 0) 10 2 (0 ∷ 2 ∷ 0 ∷ []) []
+    ∷ []
+
+-- ---- the test
+
+-- the lists are as long, with equal elements
+unfoldable pub equal : (xs ys : List ℕ) → Bool
+equal [] [] = true
+equal (x ∷ xs) (y ∷ ys) = eqb x y && equal xs ys
+equal [] (y ∷ ys) = false
+equal (x ∷ xs) [] = false
+
+-- number, place, result and scratch are equal
+unfoldable pub agree : Outcome → Outcome → Bool
+unfolding equal
+agree o p =
+    eqb (o .figures .number) (p .figures .number)
+    && (eqb (o .figures .place) (p .figures .place)
+    && (equal (o .result) (p .result)
+    && equal (o .scratch) (p .scratch)))
+
+-- every row's call answers and leaves what is expected
+unfoldable pub hold : List Row → Bool
+unfolding outcomeOf agree
+hold [] = true
+hold (r ∷ rs) = agree (outcomeOf (r .call)) (r .expected) && hold rs
+
+-- what the test shows, as equations
+unfoldable pub Each : List Row → Type 0
+unfolding outcomeOf
+Each [] = Unit
+Each (r ∷ rs) = (outcomeOf (r .call) ≡ r .expected) × Each rs
