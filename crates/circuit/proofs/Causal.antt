@@ -17,7 +17,7 @@ use Rattle.circuit.specs.Lists.{grown, listed, bit, packed}
 use Rattle.circuit.specs.Circuit.{gates, leftsAt, rightsAt, literalAt, allInputs, allOutputs, gateSignal, outputSignal, frameOf, inputFrames, laterFrame, latestFrames, looksAhead, inputValues, literalValue, gateValue, signalValues, outputWord, outputWords}
 use Rattle.circuit.specs.WellFormed.{LegalGates}
 use Rattle.circuit.specs.Theorems.{historyWords, response, AcceptedCausal}
-use Rattle.circuit.proofs.Laws.{length-grown, packed-below, left-below, right-below}
+use Rattle.circuit.proofs.Laws.{length-grown, packed-below, signal-before}
 use Rattle.circuit.proofs.Lists.{grown-old, grown-new, listed-start, listed-after}
 use Rattle.circuit.proofs.Accepted.{Accepted, accepted}
 
@@ -67,9 +67,9 @@ module _ (b c d : List ℕ) (k : ℕ) (same : (i : ℕ) → i < k → getD c i 0
       value c
       ∙ ap₂ _&&_
       (literal-agrees (signalValues b c g) (signalValues b d g) left
-      (ih (left / 2) (left-below b L g (1 + count + g) left h refl refl) (omega (arith, fr))))
+      (ih (left / 2) (signal-before b g left (1 + count + g) (L .left g h) refl) (omega (arith, fr))))
       (literal-agrees (signalValues b c g) (signalValues b d g) right
-      (ih (right / 2) (right-below b L g (1 + count + g) right h refl refl) (omega (arith, fr))))
+      (ih (right / 2) (signal-before b g right (1 + count + g) (L .right g h) refl) (omega (arith, fr))))
       ∙ sym (value d)
 
   -- a signal before gate g keeps its latest frame and its value

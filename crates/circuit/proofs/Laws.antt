@@ -15,7 +15,8 @@ use Rattle.words.specs.Words.{wordAt}
 use Rattle.sizes.specs.Sizes.{inputs, outputs, frames}
 use Rattle.circuit.specs.Lists.{grown, listed, packed}
 use Rattle.circuit.specs.Circuit.{gates, leftsAt, rightsAt, literalAt, allInputs, allOutputs, gateSignal, outputSignal, frameOf, admissible, inputFrames, laterFrame, latestFrames, looksAhead, inputValues, literalValue, gateValue, signalValues, outputWord, outputWords}
-use Rattle.circuit.specs.WellFormed.{CircuitHeaded, LegalGates}
+use Rattle.circuit.specs.Limits.{circuitHead}
+use Rattle.circuit.specs.WellFormed.{CircuitHeaded, LegalGates, GateOf}
 
 -- ---- literals
 
@@ -34,20 +35,19 @@ pub signal-before : (b : List ℕ) (g literal n : ℕ) → admissible b g litera
 unfolding admissible gateSignal
 signal-before b g literal n e q = omega (arith, ltb-true literal _ e)
 
--- where the two literals of a gate are read
-pub left-is : (b : List ℕ) (g : ℕ) → wordAt b (8 + 2 * g) ≡ literalAt b (leftsAt b) g
-unfolding literalAt leftsAt
-left-is b g = refl
-
-pub right-is : (b : List ℕ) (count g : ℕ) → count ≡ gates b → wordAt b (8 + 2 * count + 2 * g) ≡ literalAt b (rightsAt b) g
-unfolding literalAt rightsAt
-right-is b count g e = rw e
-
-pub left-below : (b : List ℕ) → LegalGates b → (g n l : ℕ) → g < gates b → n ≡ 1 + allInputs b + g → l ≡ literalAt b (leftsAt b) g → l / 2 < n
-left-below b ok g n l h e q = rw q (signal-before b g _ n (ok .left g h) e)
-
-pub right-below : (b : List ℕ) → LegalGates b → (g n l : ℕ) → g < gates b → n ≡ 1 + allInputs b + g → l ≡ literalAt b (rightsAt b) g → l / 2 < n
-right-below b ok g n l h e q = rw q (signal-before b g _ n (ok .right g h) e)
+-- the two literals of a gate, as they are read
+pub gate-read : (b : List ℕ) (count g l r : ℕ) → LegalGates b → g < gates b → count ≡ gates b → l ≡ wordAt b (circuitHead + 2 * g) → r ≡ wordAt b (circuitHead + 2 * (count + g))
+    → GateOf b g (record { left = l; right = r })
+unfolding literalAt leftsAt rightsAt
+gate-read b count g l r L h e el er =
+    let p : circuitHead + 2 * (count + g) ≡ circuitHead + 2 * gates b + 2 * g = omega arith in
+    let q = er ∙ ap (wordAt b) p in
+    record {
+      left-is = el;
+      right-is = q;
+      left-before = rw el (signal-before b g _ _ (L .left g h) refl);
+      right-before = rw q (signal-before b g _ _ (L .right g h) refl);
+    }
 
 -- ---- `grown`: an array that is filled from the front
 

@@ -9,6 +9,8 @@ use Rattle.words.specs.Words.{wordAt}
 use Rattle.verdict.specs.Judgements.{answer, refuse, andThen, refuseFirst, resultAfter}
 use Rattle.verdict.specs.declared.Figures.{Figures}
 use Rattle.sizes.specs.Sizes.{inputs, outputs, frames, outside, sizesChecked, sequenceChecked}
+use Rattle.sizes.specs.Limits.{mostInputs}
+use Rattle.circuit.specs.Limits.{circuitHead, mostGates}
 use Rattle.circuit.specs.Lists.{grown, listed, bit, packed}
 
 -- ---- where things stand
@@ -19,13 +21,13 @@ gates b = wordAt b 6
 
 -- byte offsets of the left and of the right literals, and the length of the whole
 unfoldable pub leftsAt : List ℕ → ℕ
-leftsAt b = 8
+leftsAt b = circuitHead
 
 unfoldable pub rightsAt : List ℕ → ℕ
-rightsAt b = 8 + 2 * gates b
+rightsAt b = circuitHead + 2 * gates b
 
 unfoldable pub circuitLength : List ℕ → ℕ
-circuitLength b = 8 + 4 * gates b
+circuitLength b = circuitHead + 4 * gates b
 
 -- gate g's literal of the array at byte offset `start`
 unfoldable pub literalAt : List ℕ → (start g : ℕ) → ℕ
@@ -55,9 +57,9 @@ frameOf per i = suc (i / per)
 -- 1 (head), 2, 1; `most` is the largest n
 unfoldable pub headChecked : (most : ℕ) → List ℕ → Figures
 headChecked most b =
-    refuse (ltb (length b) 8) 1 (length b)
+    refuse (ltb (length b) circuitHead) 1 (length b)
     (andThen (sizesChecked most (inputs b) (outputs b) (frames b))
-    (refuse (outside (allOutputs b) 4096 (gates b)) 2 6
+    (refuse (outside (allOutputs b) mostGates (gates b)) 2 6
     (refuse (not (eqb (length b) (circuitLength b))) 1 (length b)
     (answer 0 0))))
 
@@ -92,7 +94,7 @@ lookAheadChecked b = refuseFirst (looksAhead b) 4 (λ q. q) (answer 0 0) 0 (allO
 -- 1 (head), 2, 1, 3, 4
 unfoldable pub checked : List ℕ → Figures
 checked b =
-    andThen (headChecked 8 b)
+    andThen (headChecked mostInputs b)
     (andThen (literalsChecked b (leftsAt b))
     (andThen (literalsChecked b (rightsAt b))
     (lookAheadChecked b)))

@@ -1,21 +1,24 @@
 -- What the functions behind the check may assume of a circuit.
-use Prim.Native.Nat.{ℕ, _+_, _*_, _≤_, _<_}
+use Prim.Native.Nat.{ℕ, _+_, _*_, _/_, _≤_, _<_}
 use mathlib.Core.Path.{_≡_}
 use mathlib.Core.List.{List}
 use mathlib.Core.Bool.{true}
 use lib.ListN.{length}
 use Rattle.sizes.specs.Sizes.{inputs, outputs, frames}
 use Rattle.sizes.specs.Sized.{Sized}
+use Rattle.sizes.specs.Limits.{mostBits}
+use Rattle.circuit.specs.Limits.{circuitHead, mostGates}
 use Rattle.circuit.specs.Circuit.{gates, leftsAt, rightsAt, literalAt, allInputs, allOutputs, admissible}
 use Rattle.circuit.specs.declared.Head.{Head}
+use Rattle.circuit.specs.declared.Gate.{Gate}
 
 -- the sizes are within the limits, n up to 16, and the circuit is as long as they say
 pub record CircuitHeaded (b : List ℕ) : Type 0 where
-  pub sizes : Sized 16 (inputs b) (outputs b) (frames b)
-  pub inputs-to : allInputs b ≤ 16
+  pub sizes : Sized mostBits (inputs b) (outputs b) (frames b)
+  pub inputs-to : allInputs b ≤ mostBits
   pub outputs-to : allOutputs b ≤ gates b
-  pub gates-to : gates b ≤ 4096
-  pub whole : length b ≡ 8 + 4 * gates b
+  pub gates-to : gates b ≤ mostGates
+  pub whole : length b ≡ circuitHead + 4 * gates b
 
 -- h holds the sizes of b
 pub record HeadOf (b : List ℕ) (h : Head) : Type 0 where
@@ -36,3 +39,10 @@ pub record WellFormed (b : List ℕ) (h : Head) : Type 0 where
   pub headed : CircuitHeaded b
   pub head-is : HeadOf b h
   pub legal : LegalGates b
+
+-- r holds the literals of gate g, which are of signals before it
+pub record GateOf (b : List ℕ) (g : ℕ) (r : Gate) : Type 0 where
+  pub left-is : r .left ≡ literalAt b (leftsAt b) g
+  pub right-is : r .right ≡ literalAt b (rightsAt b) g
+  pub left-before : r .left / 2 < 1 + allInputs b + g
+  pub right-before : r .right / 2 < 1 + allInputs b + g

@@ -12,9 +12,11 @@ ghost use Prim.Native.Nat.{_+_, _*_, _-_, _/_, _≤_, _<_, max};
 ghost use lib.ListN.{length, take, drop};
 ghost use Rattle.verdict.specs.Judgements.{figures};
 ghost use Rattle.sizes.specs.Sizes.{frames};
+ghost use Rattle.sizes.specs.Limits.{mostOutputs, mostBits};
+ghost use Rattle.circuit.specs.Limits.{mostGates};
 ghost use Rattle.circuit.specs.Lists.{bit, packed};
 ghost use Rattle.circuit.specs.Circuit.{gates, gateSignal, frameOf, headChecked, literalsChecked, inputFrames, latestFrames, lookAheadChecked, checked, inputValues, literalValue, signalValues, outputWords, simulated, simulationResult};
-ghost use Rattle.circuit.specs.WellFormed.{CircuitHeaded, HeadOf, WellFormed};
+ghost use Rattle.circuit.specs.WellFormed.{CircuitHeaded, HeadOf, WellFormed, GateOf};
 ghost use Rattle.circuit.specs.Theorems.{AcceptedCausal};
 
 // The limits on the length of a circuit's head and on its gates, and the most signals there can be.
@@ -25,7 +27,7 @@ impl Limits {
 
     pub const GATES: usize = 4096;
 
-    pub const SIGNALS: usize = 4113;
+    pub const SIGNALS: usize = 1 + sizes::Limits::BITS + Limits::GATES;
 }
 
 // The sizes of a circuit, with the signal of its first gate and its number of outputs over all frames.
@@ -58,7 +60,7 @@ impl Head {
 
 // Numbers 1 (head), 2 and 1 of document 01. `most` is the largest n.
 pub fn check_head(circuit: &[u8], most: usize) -> Verdict
-    requires { ⌜ most ≤ 16 ⌝ }
+    requires { ⌜ most ≤ mostBits ⌝ }
     ensures { λ r. ⌜ figures r ≡ headChecked most (now (circuit .entry)) ⌝ }
 {
     let length = circuit.len();
@@ -98,9 +100,26 @@ fn check_literals(circuit: &[u8], head: Head, start: usize) -> Verdict
     Verdict::Accepted(0)
 }
 
+// The two literals of a gate.
+pub struct Gate {
+    pub left: usize,
+    pub right: usize,
+}
+
+// The literals of gate g.
+pub fn read_gate(circuit: &[u8], head: Head, g: usize) -> Gate
+    requires { ⌜ WellFormed (now circuit) head ⌝ }
+    requires { ⌜ g < gates (now circuit) ⌝ }
+    ensures { λ r. ⌜ GateOf (now (circuit .entry)) g r ⌝ }
+{
+    let left = read(circuit, Limits::HEAD + 2 * g);
+    let right = read(circuit, Limits::HEAD + 2 * (head.gates + g));
+    Gate { left, right }
+}
+
 // The frame, from 1, of item i of a row with `per` items to a frame.
 fn frame_of(per: usize, i: usize) -> usize
-    requires { ⌜ (1 ≤ per) × (i ≤ 4096) ⌝ }
+    requires { ⌜ (1 ≤ per) × (i ≤ mostGates) ⌝ }
     ensures { λ r. ⌜ r ≡ frameOf per i ⌝ }
 {
     i / per + 1
@@ -115,7 +134,7 @@ fn later(a: usize, b: usize) -> usize
 
 // The latest frames of the constant and of `count` inputs.
 fn input_frames(inputs: usize, count: usize) -> [usize; Limits::SIGNALS]
-    requires { ⌜ (1 ≤ inputs) × (count ≤ 16) ⌝ }
+    requires { ⌜ (1 ≤ inputs) × (count ≤ mostBits) ⌝ }
     ensures { λ r. ⌜ take (1 + count) r ≡ inputFrames inputs count ⌝ }
 {
     let mut latest = [0; Limits::SIGNALS];
@@ -134,8 +153,9 @@ fn latest_frames(circuit: &[u8], head: Head) -> [usize; Limits::SIGNALS]
     let base = head.base;
     let mut latest = input_frames(head.inputs, base - 1);
     for g in 0..count {
-        let left = read(circuit, 8 + 2 * g) / 2;
-        let right = read(circuit, 8 + 2 * count + 2 * g) / 2;
+        let gate = read_gate(circuit, head, g);
+        let left = gate.left / 2;
+        let right = gate.right / 2;
         latest[base + g] = later(latest[left], latest[right]);
     }
     latest
@@ -181,7 +201,7 @@ pub fn check(circuit: &[u8]) -> Verdict
 
 // Bit j of a word.
 pub fn is_set(word: usize, j: usize) -> bool
-    requires { ⌜ j < 16 ⌝ }
+    requires { ⌜ j < mostOutputs ⌝ }
     ensures { λ r. ⌜ r ≡ bit word j ⌝ }
 {
     (word >> j) % 2 == 1
@@ -189,7 +209,7 @@ pub fn is_set(word: usize, j: usize) -> bool
 
 // The values of the constant and of `count` inputs, of which `inputs` are in a word.
 fn input_values(words: &[u16], inputs: usize, count: usize) -> [bool; Limits::SIGNALS]
-    requires { ⌜ (1 ≤ inputs) × (inputs ≤ 16) × (count ≤ 16) × (count ≤ length (now words) * inputs) ⌝ }
+    requires { ⌜ (1 ≤ inputs) × (inputs ≤ mostBits) × (count ≤ mostBits) × (count ≤ length (now words) * inputs) ⌝ }
     ensures { λ r. ⌜ take (1 + count) r ≡ inputValues (now (words .entry)) inputs count ⌝ }
 {
     let mut values = [false; Limits::SIGNALS];
@@ -225,8 +245,9 @@ fn signal_values(circuit: &[u8], head: Head, words: &[u16]) -> [bool; Limits::SI
     let base = head.base;
     let mut values = input_values(words, head.inputs, base - 1);
     for g in 0..count {
-        let left = literal_value(&values, read(circuit, 8 + 2 * g));
-        let right = literal_value(&values, read(circuit, 8 + 2 * count + 2 * g));
+        let gate = read_gate(circuit, head, g);
+        let left = literal_value(&values, gate.left);
+        let right = literal_value(&values, gate.right);
         values[base + g] = gate_value(left, right);
     }
     values
@@ -241,7 +262,7 @@ fn digit(value: bool) -> u16
 
 // The word whose bits are the `count` values at `at`, lowest first.
 fn pack(values: &[bool], at: usize, count: usize) -> u16
-    requires { ⌜ (count ≤ 16) × (at + count ≤ length (now values)) ⌝ }
+    requires { ⌜ (count ≤ mostOutputs) × (at + count ≤ length (now values)) ⌝ }
     ensures { λ r. ⌜ r ≡ packed (take count (drop at (now (values .entry)))) ⌝ }
 {
     let mut word: u16 = 0;

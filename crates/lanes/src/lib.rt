@@ -1,7 +1,7 @@
 // A circuit on up to 64 histories side by side: of each signal there is a number whose bit j, its lane j, is the signal's value on history j.
 use circuit::Head;
 use circuit::Limits;
-use words::read;
+use circuit::read_gate;
 ghost use mathlib.Core.Path.{_≡_};
 ghost use mathlib.Core.List.{[], map};
 ghost use Prim.Native.Nat.{_+_, _*_, _-_, _^_, _≤_, _<_};
@@ -63,8 +63,9 @@ pub fn store_signals(circuit: &[u8], head: Head, t: usize, histories: &[u16], la
     let base = head.base;
     store_inputs(head.inputs, head.frames, t, histories, lanes);
     for g in 0..count {
-        let left = read(circuit, 8 + 2 * g);
-        let right = read(circuit, 8 + 2 * count + 2 * g);
+        let gate = read_gate(circuit, head, g);
+        let left = gate.left;
+        let right = gate.right;
         lanes[base + g] = literal_lanes(lanes[left / 2], left)
             & literal_lanes(lanes[right / 2], right);
     }

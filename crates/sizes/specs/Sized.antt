@@ -3,6 +3,7 @@ use Prim.Native.Nat.{ℕ, _*_, _^_, _≤_, _<_}
 use mathlib.Core.Path.{_≡_}
 use mathlib.Core.List.{List}
 use lib.ListN.{length, getD}
+use Rattle.sizes.specs.Limits.{mostOutputs, mostFrames, mostBits}
 use Rattle.sizes.specs.Sizes.{inputs, outputs, frames}
 use Rattle.sizes.specs.declared.Sizes.{Sizes}
 
@@ -11,10 +12,10 @@ pub record Sized (most n m T : ℕ) : Type 0 where
   pub inputs-from : 1 ≤ n
   pub inputs-to : n ≤ most
   pub outputs-from : 1 ≤ m
-  pub outputs-to : m ≤ 16
+  pub outputs-to : m ≤ mostOutputs
   pub frames-from : 1 ≤ T
-  pub frames-to : T ≤ 16
-  pub bits-to : n * T ≤ 16
+  pub frames-to : T ≤ mostFrames
+  pub bits-to : n * T ≤ mostBits
 
 -- T words, each below 2^n
 pub record Fed (n T : ℕ) (words : List ℕ) : Type 0 where

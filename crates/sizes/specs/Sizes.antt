@@ -5,6 +5,7 @@ use mathlib.Core.List.{List}
 use lib.Dec.{ltb, leb, eqb}
 use lib.ListN.{length, getD}
 use Rattle.words.specs.Words.{wordAt}
+use Rattle.sizes.specs.Limits.{mostOutputs, mostFrames, mostBits}
 use Rattle.verdict.specs.Judgements.{answer, refuse, refuseFirst, andThen}
 use Rattle.verdict.specs.declared.Figures.{Figures}
 
@@ -30,9 +31,9 @@ unfoldable pub sizesChecked : (most n m T : ℕ) → Figures
 unfolding outside
 sizesChecked most n m T =
     refuse (outside 1 most n) 2 0
-    (refuse (outside 1 16 m) 2 2
-    (refuse (outside 1 16 T) 2 4
-    (refuse (ltb 16 (n * T)) 2 4
+    (refuse (outside 1 mostOutputs m) 2 2
+    (refuse (outside 1 mostFrames T) 2 4
+    (refuse (ltb mostBits (n * T)) 2 4
     (answer 0 0))))
 
 -- 9: the first word of 2^n or more

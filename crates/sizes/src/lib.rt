@@ -3,9 +3,10 @@ use verdict::Refusal;
 use verdict::Verdict;
 use words::read;
 ghost use mathlib.Core.Path.{_≡_};
-ghost use Prim.Native.Nat.{_≤_};
+ghost use Prim.Native.Nat.{_^_, _≤_};
 ghost use lib.ListN.{length};
 ghost use Rattle.verdict.specs.Judgements.{figures};
+ghost use Rattle.sizes.specs.Limits.{mostBits};
 ghost use Rattle.sizes.specs.Sizes.{outside, sizesChecked, wordsChecked, sequenceChecked};
 ghost use Rattle.sizes.specs.Sized.{sizesOf};
 
@@ -46,7 +47,7 @@ impl Sizes {
 
     // Number 2. `most` is the largest n.
     pub fn check(self, most: usize) -> Verdict
-        requires { ⌜ most ≤ 16 ⌝ }
+        requires { ⌜ most ≤ mostBits ⌝ }
         ensures { λ r. ⌜ figures r ≡ sizesChecked most (self .inputs) (self .outputs) (self .frames) ⌝ }
     {
         if is_outside(1, most, self.inputs) {
@@ -65,6 +66,14 @@ impl Sizes {
     }
 }
 
+// 2 to the power of `bits`.
+pub fn power(bits: usize) -> usize
+    requires { ⌜ bits ≤ mostBits ⌝ }
+    ensures { λ r. ⌜ r ≡ 2 ^ bits ⌝ }
+{
+    1 << bits
+}
+
 // Whether x is out of the limits low and high.
 pub fn is_outside(low: usize, high: usize, x: usize) -> bool
     ensures { λ r. ⌜ r ≡ outside low high x ⌝ }
@@ -74,10 +83,10 @@ pub fn is_outside(low: usize, high: usize, x: usize) -> bool
 
 // Number 9: the first word that is too large.
 fn check_words(words: &[u16], inputs: usize) -> Verdict
-    requires { ⌜ inputs ≤ 16 ⌝ }
+    requires { ⌜ inputs ≤ mostBits ⌝ }
     ensures { λ r. ⌜ figures r ≡ wordsChecked inputs (now (words .entry)) ⌝ }
 {
-    let limit: usize = 1 << inputs;
+    let limit = power(inputs);
     let mut t = 0;
     while t < words.len() {
         if limit <= words[t] as usize {
@@ -90,7 +99,7 @@ fn check_words(words: &[u16], inputs: usize) -> Verdict
 
 // Numbers 12, 9 and 7, of the words of a sequence and a result with room for so many words.
 pub fn check_sequence(words: &[u16], inputs: usize, frames: usize, room: usize) -> Verdict
-    requires { ⌜ inputs ≤ 16 ⌝ }
+    requires { ⌜ inputs ≤ mostBits ⌝ }
     ensures { λ r. ⌜ figures r ≡ sequenceChecked inputs frames (now (words .entry)) room ⌝ }
 {
     if words.len() != frames {

@@ -5,17 +5,19 @@ use mathlib.Core.List.{List}
 use lib.ListN.{length}
 use Rattle.sizes.specs.Sizes.{inputs, outputs, frames}
 use Rattle.sizes.specs.Sized.{Sized}
+use Rattle.sizes.specs.Limits.{mostInputs}
+use Rattle.table.specs.Limits.{endStates, mostStates}
 use Rattle.layered.specs.Machines.{Legal}
 use Rattle.table.specs.Table.{states, outputsAt, nextsAt, tableLength, machine}
 use Rattle.table.specs.declared.Layout.{Layout}
 
 -- the head is accepted: sizes and counts are within the limits, and the length is exact
 pub record TableHeaded (b : List ℕ) : Type 0 where
-  pub sized : Sized 8 (inputs b) (outputs b) (frames b)
-  pub one-first : states b 0 ≡ 1
-  pub one-last : states b (frames b) ≡ 1
+  pub sized : Sized mostInputs (inputs b) (outputs b) (frames b)
+  pub one-first : states b 0 ≡ endStates
+  pub one-last : states b (frames b) ≡ endStates
   pub states-from : (t : ℕ) → t ≤ frames b → 1 ≤ states b t
-  pub states-to : (t : ℕ) → t ≤ frames b → states b t ≤ 32768
+  pub states-to : (t : ℕ) → t ≤ frames b → states b t ≤ mostStates
   pub whole : length b ≡ tableLength b
 
 -- all is accepted: the head is, and each entry is an output and a next state of a layered machine

@@ -8,13 +8,15 @@ use Rattle.words.specs.Words.{wordAt}
 use Rattle.verdict.specs.Judgements.{answer, refuse, andThen, refuseFirst, firstRefusal}
 use Rattle.verdict.specs.declared.Figures.{Figures}
 use Rattle.sizes.specs.Sizes.{inputs, outputs, frames, outside, sizesChecked}
+use Rattle.sizes.specs.Limits.{mostInputs}
 use Rattle.layered.specs.Machines.{Machine}
+use Rattle.table.specs.Limits.{sizesLength, endStates, mostStates}
 
 -- ---- where things stand
 
 -- byte offset of the count of layer t
 unfoldable pub countAt : (t : ℕ) → ℕ
-countAt t = 6 + 2 * t
+countAt t = sizesLength + 2 * t
 
 -- S t of document 01: how many states layer t has
 unfoldable pub states : List ℕ → (t : ℕ) → ℕ
@@ -65,13 +67,13 @@ machine b = record {
 -- 2, of the counts: first and last are 1, others 1 to 32,768
 unfoldable pub countsChecked : List ℕ → Figures
 countsChecked b =
-    refuseFirst (λ t. outside 1 (cond (eqb t 0 || eqb t (frames b)) 1 32768) (states b t)) 2 countAt (answer 0 0) 0 (suc (frames b))
+    refuseFirst (λ t. outside 1 (cond (eqb t 0 || eqb t (frames b)) endStates mostStates) (states b t)) 2 countAt (answer 0 0) 0 (suc (frames b))
 
 -- 1 (six bytes), 2 (n, m, T), 1 (head), 2 (counts), 1 (length): all of the order before 5
 unfoldable pub headChecked : List ℕ → Figures
 headChecked b =
-    refuse (ltb (length b) 6) 1 (length b)
-    (andThen (sizesChecked 8 (inputs b) (outputs b) (frames b))
+    refuse (ltb (length b) sizesLength) 1 (length b)
+    (andThen (sizesChecked mostInputs (inputs b) (outputs b) (frames b))
     (refuse (ltb (length b) (headLength (frames b))) 1 (length b)
     (andThen (countsChecked b)
     (refuse (not (eqb (length b) (tableLength b))) 1 (length b)

@@ -3,6 +3,7 @@ use super::Layout;
 use super::Limits;
 use sizes::Sizes;
 use sizes::is_outside;
+use sizes::power;
 use verdict::Refusal;
 use verdict::Verdict;
 use words::read;
@@ -13,23 +14,17 @@ ghost use lib.Dec.{eqb};
 ghost use lib.ListN.{length};
 ghost use Rattle.verdict.specs.Judgements.{figures};
 ghost use Rattle.sizes.specs.Sizes.{inputs, frames};
+ghost use Rattle.sizes.specs.Limits.{mostFrames};
+ghost use Rattle.table.specs.Limits.{endStates, mostStates};
 ghost use Rattle.table.specs.Table.{states, headLength, entriesBelow, countsChecked, headChecked};
 ghost use Rattle.table.specs.Sound.{TableHeaded, layoutOf};
 
-// 2 to the power of `bits`.
-fn power(bits: usize) -> usize
-    requires { ⌜ bits ≤ 16 ⌝ }
-    ensures { λ r. ⌜ r ≡ 2 ^ bits ⌝ }
-{
-    1 << bits
-}
-
 // The length of the head of a table of so many frames.
 pub fn head_length(frames: usize) -> usize
-    requires { ⌜ frames ≤ 16 ⌝ }
+    requires { ⌜ frames ≤ mostFrames ⌝ }
     ensures { λ r. ⌜ r ≡ headLength frames ⌝ }
 {
-    8 + 2 * frames
+    Limits::SIZES + 2 * (frames + 1)
 }
 
 // How many states layer t has.
@@ -37,12 +32,12 @@ pub fn states_of(table: &[u8], t: usize) -> usize
     requires { ⌜ 7 + 2 * t < length (now table) ⌝ }
     ensures { λ r. ⌜ (r ≡ states (now (table .entry)) t) × (r < 65536) ⌝ }
 {
-    read(table, 6 + 2 * t)
+    read(table, Limits::SIZES + 2 * t)
 }
 
 // How many states layer t can have.
 fn most_states(t: usize, frames: usize) -> usize
-    ensures { λ r. ⌜ r ≡ cond (eqb t 0 || eqb t frames) 1 32768 ⌝ }
+    ensures { λ r. ⌜ r ≡ cond (eqb t 0 || eqb t frames) endStates mostStates ⌝ }
 {
     if t == 0 || t == frames {
         Limits::ENDS
@@ -60,7 +55,7 @@ fn check_counts(table: &[u8], last: usize) -> Verdict
     let count = last + 1;
     for t in 0..count {
         if is_outside(1, most_states(t, last), states_of(table, t)) {
-            return Verdict::Refused(Refusal::Size(6 + 2 * t));
+            return Verdict::Refused(Refusal::Size(Limits::SIZES + 2 * t));
         }
     }
     Verdict::Accepted(0)
@@ -69,7 +64,7 @@ fn check_counts(table: &[u8], last: usize) -> Verdict
 // How many entries the layers below `layer` have, where each state has one for each of `words`.
 pub fn entries_below(table: &[u8], words: usize, layer: usize) -> usize
     requires { ⌜ (words ≡ 2 ^ inputs (now table)) × (words ≤ 256) ⌝ }
-    requires { ⌜ (layer ≤ 16) × (6 + 2 * layer ≤ length (now table)) ⌝ }
+    requires { ⌜ (layer ≤ mostFrames) × (6 + 2 * layer ≤ length (now table)) ⌝ }
     ensures { λ r. ⌜ (r ≡ entriesBelow (now (table .entry)) layer) × (r ≤ 268435456) ⌝ }
 {
     let mut entries = 0;

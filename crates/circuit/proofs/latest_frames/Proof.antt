@@ -7,17 +7,18 @@ use native.Mathlib.Omega.{arith}
 use borrow.Author.Needs.{needs}
 use denote.Ref.{now}
 use lib.ListN.{length, take, set, length-set}
-use Rattle.circuit.specs.Circuit.{gates, leftsAt, rightsAt, literalAt, inputFrames, laterFrame, latestFrames}
-use Rattle.circuit.proofs.Laws.{left-is, right-is, left-below, right-below, signals-none, signals-all, latest-more}
+use Rattle.circuit.specs.Limits.{mostSignals}
+use Rattle.circuit.specs.Circuit.{gates, inputFrames, laterFrame, latestFrames}
+use Rattle.circuit.proofs.Laws.{signals-none, signals-all, latest-more}
 use Rattle.circuit.proofs.latest_frames.Statement.{statement}
 use Rattle.circuit.proofs.latest_frames.Tie as tie
 
 abbrev Inv-loop : tie.InvT-loop
-Inv-loop circuit count base latest₀ g₀ latest g =
-    (g ≤ count) × (length latest ≡ 4113) × (take (base + g) latest ≡ latestFrames circuit g)
+Inv-loop circuit head count base latest₀ g₀ latest g =
+    (g ≤ count) × (length latest ≡ mostSignals) × (take (base + g) latest ≡ latestFrames circuit g)
 
 abbrev μ-loop : tie.MeasureT-loop
-μ-loop circuit count base latest₀ g₀ latest g = count - g
+μ-loop circuit head count base latest₀ g₀ latest g = count - g
 
 sub-input-frames : tie.Need-sub-input-frames Inv-loop μ-loop
 sub-input-frames c = omega arith
@@ -32,100 +33,79 @@ loop-holds c =
     let h = c .before .before .pre in
     (omega arith, search needs, signals-none inputFrames (laterFrame (now (c .before .before .args .circuit))) (now (c .before .before .args .circuit)) (c .input-frames .result) (s .inputs) (s .base) (h .head-is .inputs-is) (h .head-is .base-is) (c .input-frames .ensures))
 
-mul-read : tie.Need-mul-read Inv-loop μ-loop
-mul-read c = omega arith
+-- the entry of the function, the circuit and the gate, in a turn
+abbrev start : tie.In-loop Inv-loop μ-loop → tie.Start Inv-loop μ-loop
+start c = c .before .before .before .before
 
-add-read : tie.Need-add-read Inv-loop μ-loop
-add-read c = omega arith
+abbrev b₀ : tie.In-loop Inv-loop μ-loop → List ℕ
+b₀ c = now (start c .args .circuit)
 
-read-requires : tie.Need-read-requires Inv-loop μ-loop
-read-requires c κs = omega arith
+abbrev g₁ : tie.In-loop Inv-loop μ-loop → ℕ
+g₁ c = c .before .loop .g
 
-mul-read-2 : tie.Need-mul-read-2 Inv-loop μ-loop
-mul-read-2 c = omega arith
-
-add-read-2 : tie.Need-add-read-2 Inv-loop μ-loop
-add-read-2 c = omega arith
-
-mul-read-3 : tie.Need-mul-read-3 Inv-loop μ-loop
-mul-read-3 c = omega arith
-
-add-read-3 : tie.Need-add-read-3 Inv-loop μ-loop
-add-read-3 c = omega arith
-
-read-requires-2 : tie.Need-read-requires-2 Inv-loop μ-loop
-read-requires-2 c κs = omega arith
-
--- the circuit, the sizes and the gate, where both literals have been read
-abbrev start : tie.After-read2 Inv-loop μ-loop → tie.Start Inv-loop μ-loop
-start c = c .before .before .before .before .before .before
-
-abbrev b₂ : tie.After-read2 Inv-loop μ-loop → List ℕ
-b₂ c = now (start c .args .circuit)
-
-abbrev g₂ : tie.After-read2 Inv-loop μ-loop → ℕ
-g₂ c = c .before .before .before .loop .g
-
-gate : (c : tie.After-read2 Inv-loop μ-loop) → g₂ c < gates (b₂ c)
-gate c = omega (arith, c .before .before, start c .pre)
-
-left : (c : tie.After-read2 Inv-loop μ-loop) → c .before .read .result ≡ literalAt (b₂ c) (leftsAt (b₂ c)) (g₂ c)
-left c = c .before .read .ensures .0 ∙ left-is (b₂ c) (g₂ c)
-
-right : (c : tie.After-read2 Inv-loop μ-loop) → c .read2 .result ≡ literalAt (b₂ c) (rightsAt (b₂ c)) (g₂ c)
-right c = c .read2 .ensures .0 ∙ right-is (b₂ c) (start c .args .head .gates) (g₂ c) (omega (arith, start c .pre))
-
-left-in : (c : tie.After-read2 Inv-loop μ-loop) → c .before .read .result / 2 < start c .args .head .base + g₂ c
-left-in c = left-below (b₂ c) (start c .pre .legal) (g₂ c) (start c .args .head .base + g₂ c) (c .before .read .result) (gate c) (omega (arith, start c .pre)) (left c)
-
-right-in : (c : tie.After-read2 Inv-loop μ-loop) → c .read2 .result / 2 < start c .args .head .base + g₂ c
-right-in c = right-below (b₂ c) (start c .pre .legal) (g₂ c) (start c .args .head .base + g₂ c) (c .read2 .result) (gate c) (omega (arith, start c .pre)) (right c)
+gate : (c : tie.In-loop Inv-loop μ-loop) → g₁ c < gates (b₀ c)
+gate c = omega (arith, c, start c .pre)
 
 -- there is room for every gate
-room : (c : tie.After-read2 Inv-loop μ-loop) → start c .args .head .base + g₂ c < 4113
+room : (c : tie.In-loop Inv-loop μ-loop) → start c .args .head .base + g₁ c < mostSignals
 room c = omega (arith, gate c, start c .pre)
 
+read-gate-requires : tie.Need-read-gate-requires Inv-loop μ-loop
+read-gate-requires c κs = (start c .pre, gate c)
+
+-- once the gate's literals are read: its operands are before it
+abbrev in-turn : tie.After-struct-known2 Inv-loop μ-loop → tie.In-loop Inv-loop μ-loop
+in-turn c = c .before .before .before
+
+left-in : (c : tie.After-struct-known2 Inv-loop μ-loop) → c .before .before .read-gate .result .left / 2 < start (in-turn c) .args .head .base + g₁ (in-turn c)
+left-in c = omega (arith, c .before .before .read-gate .ensures .left-before, start (in-turn c) .pre)
+
+right-in : (c : tie.After-struct-known2 Inv-loop μ-loop) → c .before .before .read-gate .result .right / 2 < start (in-turn c) .args .head .base + g₁ (in-turn c)
+right-in c = omega (arith, c .before .before .read-gate .ensures .right-before, start (in-turn c) .pre)
+
 mul-later : tie.Need-mul-later Inv-loop μ-loop
-mul-later c = omega (arith, left-in c, room c)
+mul-later c = omega (arith, left-in c, room (in-turn c))
 
 array-read-later : tie.Need-array-read-later Inv-loop μ-loop
-array-read-later c = omega (arith, left-in c, room c)
+array-read-later c = omega (arith, left-in c, room (in-turn c))
 
 mul-later-2 : tie.Need-mul-later-2 Inv-loop μ-loop
-mul-later-2 c = omega (arith, right-in c, room c)
+mul-later-2 c = omega (arith, right-in c, room (in-turn c))
 
 array-read-later-2 : tie.Need-array-read-later-2 Inv-loop μ-loop
-array-read-later-2 c = omega (arith, right-in c, room c)
+array-read-later-2 c = omega (arith, right-in c, room (in-turn c))
 
 later-requires : tie.Need-later-requires Inv-loop μ-loop
 later-requires c κs = tt
 
 add-latest : tie.Need-add-latest Inv-loop μ-loop
-add-latest c = omega (arith, room (c .before))
+add-latest c = omega (arith, room (in-turn (c .before)))
 
 mul-latest : tie.Need-mul-latest Inv-loop μ-loop
-mul-latest c = omega (arith, room (c .before))
+mul-latest c = omega (arith, room (in-turn (c .before)))
 
 array-write-latest : tie.Need-array-write-latest Inv-loop μ-loop
-array-write-latest c = omega (arith, room (c .before))
+array-write-latest c = omega (arith, room (in-turn (c .before)))
 
 add-g : tie.Need-add-g Inv-loop μ-loop
-add-g c = omega (arith, room (c .before))
+add-g c = omega (arith, room (in-turn (c .before)))
 
 loop-less : tie.Need-loop-less Inv-loop μ-loop
-loop-less c = omega (arith, c .before .before .before)
+loop-less c = omega (arith, in-turn (c .before))
 
 loop-again : tie.Need-loop-again Inv-loop μ-loop
 loop-again c =
     let d = c .before in
-    let v = c .before .before .before .before .loop .latest in
-    let h = c .before .before .before .before .loop .inv in
-    let n = start d .args .head .base + g₂ d in (
-      omega (arith, gate d, start d .pre),
+    let i = in-turn d in
+    let v = i .before .loop .latest in
+    let h = i .before .loop .inv in
+    let k = d .before .before .read-gate in
+    let n = start i .args .head .base + g₁ i in (
+      omega (arith, gate i, start i .pre),
       simp length-set (h .1),
-      ap (λ (x : ℕ). take (start d .args .head .base + (g₂ d + 1)) (set v n x)) (c .later .ensures)
-          ∙ latest-more (b₂ d) v (g₂ d) n (d .before .read .result) (d .read2 .result) (omega (arith, room d, h .1)) (h .2)
-          (left d) (right d) (left-in d) (right-in d) (start d .args .head .base + (g₂ d + 1)) (omega arith),
+      ap (λ (x : ℕ). take (start i .args .head .base + (g₁ i + 1)) (set v n x)) (c .later .ensures)
+          ∙ latest-more (b₀ i) v (g₁ i) n (k .result .left) (k .result .right) (omega (arith, room i, h .1)) (h .2)
+          (k .ensures .left-is) (k .ensures .right-is) (left-in d) (right-in d) (start i .args .head .base + (g₁ i + 1)) (omega arith),
     )
 
 returns : tie.Need-returns Inv-loop μ-loop
@@ -143,14 +123,7 @@ latest-frames-spec =
     sub-input-frames
     input-frames-requires
     loop-holds
-    mul-read
-    add-read
-    read-requires
-    mul-read-2
-    add-read-2
-    mul-read-3
-    add-read-3
-    read-requires-2
+    read-gate-requires
     mul-later
     array-read-later
     mul-later-2

@@ -6,19 +6,19 @@ use Prim.Native.Nat.{ℕ, _+_, _*_, _-_, _/_, _^_, _≤_, _<_}
 use native.Mathlib.Omega.{arith}
 use denote.Ref.{now}
 use lib.ListN.{length, getD, length-set}
-use Rattle.circuit.specs.Circuit.{gates, leftsAt, rightsAt, literalAt, allInputs}
-use Rattle.circuit.proofs.Laws.{left-is, right-is, left-below, right-below}
+use Rattle.circuit.specs.Limits.{mostSignals}
+use Rattle.circuit.specs.Circuit.{gates, allInputs}
 use Rattle.lanes.specs.Lanes.{Lanes}
 use Rattle.lanes.proofs.Laws.{inputs-are, valuesOn, gates-none, gates-more, gates-all}
 use Rattle.lanes.proofs.store_signals.Statement.{statement}
 use Rattle.lanes.proofs.store_signals.Tie as tie
 
 abbrev Inv-loop : tie.InvT-loop
-Inv-loop circuit t histories lanes₀ count base g₀ lanes g =
-    (g ≤ count) × (4113 ≤ length lanes) × (length lanes ≡ length lanes₀) × Lanes histories lanes (base + g) (valuesOn circuit t g)
+Inv-loop circuit head t histories lanes₀ count base g₀ lanes g =
+    (g ≤ count) × (mostSignals ≤ length lanes) × (length lanes ≡ length lanes₀) × Lanes histories lanes (base + g) (valuesOn circuit t g)
 
 abbrev μ-loop : tie.MeasureT-loop
-μ-loop circuit t histories lanes₀ count base g₀ lanes g = count - g
+μ-loop circuit head t histories lanes₀ count base g₀ lanes g = count - g
 
 -- the number of all inputs
 inputs-to : (c : tie.Start Inv-loop μ-loop) → c .args .head .inputs * c .args .head .frames ≡ allInputs (now (c .args .circuit))
@@ -58,111 +58,74 @@ n₀ c = start c .args .head .base + g₀′ c
 gate : (c : tie.In-loop Inv-loop μ-loop) → g₀′ c < gates (b₀ c)
 gate c = omega (arith, c, start c .pre)
 
-room : (c : tie.In-loop Inv-loop μ-loop) → n₀ c < 4113
+room : (c : tie.In-loop Inv-loop μ-loop) → n₀ c < mostSignals
 room c = omega (arith, gate c, start c .pre)
 
--- both literals of the gate are within the circuit
-within : (c : tie.In-loop Inv-loop μ-loop) → 8 + 2 * start c .args .head .gates + 2 * g₀′ c + 1 < length (b₀ c)
-within c = omega (arith, gate c, start c .pre)
+read-gate-requires : tie.Need-read-gate-requires Inv-loop μ-loop
+read-gate-requires c κs = (start c .pre .0, gate c)
 
-mul-read : tie.Need-mul-read Inv-loop μ-loop
-mul-read c = omega (arith, room c)
+-- once the gate's literals are read: the turn, and its operands are before it
+abbrev turn : tie.After-read-gate Inv-loop μ-loop → tie.In-loop Inv-loop μ-loop
+turn c = c .before
 
-add-read : tie.Need-add-read Inv-loop μ-loop
-add-read c = omega (arith, room c)
+left-in : (c : tie.After-read-gate Inv-loop μ-loop) → c .read-gate .result .left / 2 < n₀ (turn c)
+left-in c = omega (arith, c .read-gate .ensures .left-before, start (turn c) .pre)
 
-read-requires : tie.Need-read-requires Inv-loop μ-loop
-read-requires c κs = omega (arith, within c)
-
-left : (c : tie.After-read Inv-loop μ-loop) → c .read .result ≡ literalAt (b₀ (c .before)) (leftsAt (b₀ (c .before))) (g₀′ (c .before))
-left c = c .read .ensures .0 ∙ left-is (b₀ (c .before)) (g₀′ (c .before))
-
-left-in : (c : tie.After-read Inv-loop μ-loop) → c .read .result / 2 < n₀ (c .before)
-left-in c =
-    let i = c .before in
-    left-below (b₀ i) (start i .pre .0 .legal) (g₀′ i) (n₀ i) (c .read .result) (gate i) (omega (arith, start i .pre)) (left c)
-
-mul-read-2 : tie.Need-mul-read-2 Inv-loop μ-loop
-mul-read-2 c = omega (arith, within (c .before), start (c .before) .pre)
-
-add-read-2 : tie.Need-add-read-2 Inv-loop μ-loop
-add-read-2 c = omega (arith, within (c .before), start (c .before) .pre)
-
-mul-read-3 : tie.Need-mul-read-3 Inv-loop μ-loop
-mul-read-3 c = omega (arith, room (c .before))
-
-add-read-3 : tie.Need-add-read-3 Inv-loop μ-loop
-add-read-3 c = omega (arith, within (c .before), start (c .before) .pre)
-
-read-requires-2 : tie.Need-read-requires-2 Inv-loop μ-loop
-read-requires-2 c κs = within (c .before)
-
-right : (c : tie.After-read2 Inv-loop μ-loop) → c .read2 .result ≡ literalAt (b₀ (c .before .before)) (rightsAt (b₀ (c .before .before))) (g₀′ (c .before .before))
-right c =
-    let i = c .before .before in
-    c .read2 .ensures .0 ∙ right-is (b₀ i) (start i .args .head .gates) (g₀′ i) (start i .pre .0 .head-is .gates-is)
-
-right-in : (c : tie.After-read2 Inv-loop μ-loop) → c .read2 .result / 2 < n₀ (c .before .before)
-right-in c =
-    let i = c .before .before in
-    right-below (b₀ i) (start i .pre .0 .legal) (g₀′ i) (n₀ i) (c .read2 .result) (gate i) (omega (arith, start i .pre)) (right c)
+right-in : (c : tie.After-read-gate Inv-loop μ-loop) → c .read-gate .result .right / 2 < n₀ (turn c)
+right-in c = omega (arith, c .read-gate .ensures .right-before, start (turn c) .pre)
 
 mul-literal-lanes : tie.Need-mul-literal-lanes Inv-loop μ-loop
-mul-literal-lanes c = omega (arith, left-in (c .before), room (c .before .before))
+mul-literal-lanes c = omega (arith, left-in c, room (turn c))
 
 slice-read-literal-lanes : tie.Need-slice-read-literal-lanes Inv-loop μ-loop
-slice-read-literal-lanes c =
-    let i = c .before .before .before in
-    omega (arith, left-in (c .before .before), room i, i .before .loop .inv .1)
+slice-read-literal-lanes c = let r = c .before in omega (arith, left-in r, room (turn r), turn r .before .loop .inv .1)
 
 literal-lanes-requires : tie.Need-literal-lanes-requires Inv-loop μ-loop
 literal-lanes-requires c κs = tt
 
 mul-literal-lanes-2 : tie.Need-mul-literal-lanes-2 Inv-loop μ-loop
-mul-literal-lanes-2 c = omega (arith, right-in (c .before .before), room (c .before .before .before .before))
+mul-literal-lanes-2 c = let r = c .before .before in omega (arith, right-in r, room (turn r))
 
 slice-read-literal-lanes-2 : tie.Need-slice-read-literal-lanes-2 Inv-loop μ-loop
-slice-read-literal-lanes-2 c =
-    let i = c .before .before .before .before .before in
-    omega (arith, right-in (c .before .before .before), room i, i .before .loop .inv .1)
+slice-read-literal-lanes-2 c = let r = c .before .before .before in omega (arith, right-in r, room (turn r), turn r .before .loop .inv .1)
 
 literal-lanes-requires-2 : tie.Need-literal-lanes-requires-2 Inv-loop μ-loop
 literal-lanes-requires-2 c κs = tt
 
--- at the end of a turn: its beginning
-abbrev turn : tie.After-literal-lanes2 Inv-loop μ-loop → tie.In-loop Inv-loop μ-loop
-turn c = c .before .before .before .before .before .before
+-- at the end of a turn: where the literals were read
+abbrev told : tie.After-literal-lanes2 Inv-loop μ-loop → tie.After-read-gate Inv-loop μ-loop
+told c = c .before .before .before .before
 
 add-lanes : tie.Need-add-lanes Inv-loop μ-loop
-add-lanes c = omega (arith, room (turn c))
+add-lanes c = omega (arith, room (turn (told c)))
 
 mul-lanes : tie.Need-mul-lanes Inv-loop μ-loop
-mul-lanes c = omega (arith, room (turn c))
+mul-lanes c = omega (arith, room (turn (told c)))
 
 slice-write-lanes : tie.Need-slice-write-lanes Inv-loop μ-loop
-slice-write-lanes c = omega (arith, room (turn c), turn c .before .loop .inv .1)
+slice-write-lanes c = omega (arith, room (turn (told c)), turn (told c) .before .loop .inv .1)
 
 add-g : tie.Need-add-g Inv-loop μ-loop
-add-g c = omega (arith, room (turn c))
+add-g c = omega (arith, room (turn (told c)))
 
 loop-less : tie.Need-loop-less Inv-loop μ-loop
-loop-less c = omega (arith, turn c)
+loop-less c = omega (arith, turn (told c))
 
 loop-again : tie.Need-loop-again Inv-loop μ-loop
 loop-again c =
-    let i = turn c in
+    let r = told c in
+    let i = turn r in
     let l = i .before .loop in
     let s = start i in
-    let r₁ = c .before .before .before .before .before in
-    let r₂ = c .before .before .before .before in
-    let left-fits : getD (l .lanes) (r₁ .read .result / 2) 0 < 2 ^ 64 = omega (arith, c .before .before .before .slice-known3 .given (r₁ .read .result / 2)) in
-    let right-fits : getD (l .lanes) (r₂ .read2 .result / 2) 0 < 2 ^ 64 = omega (arith, c .before .slice-known4 .given (r₂ .read2 .result / 2)) in (
+    let k = r .read-gate in
+    let left-fits : getD (l .lanes) (k .result .left / 2) 0 < 2 ^ 64 = omega (arith, c .before .before .before .slice-known3 .given (k .result .left / 2)) in
+    let right-fits : getD (l .lanes) (k .result .right / 2) 0 < 2 ^ 64 = omega (arith, c .before .slice-known4 .given (k .result .right / 2)) in (
       omega (arith, gate i, s .pre),
       simp length-set (l .inv .1),
       length-set (l .lanes) (n₀ i) _ ∙ l .inv .2,
-      gates-more (b₀ i) (now (s .args .histories)) (s .args .t) (l .lanes) (g₀′ i) (n₀ i) (r₁ .read .result) (r₂ .read2 .result)
+      gates-more (b₀ i) (now (s .args .histories)) (s .args .t) (l .lanes) (g₀′ i) (n₀ i) (k .result .left) (k .result .right)
           (c .before .before .literal-lanes .result) (c .literal-lanes2 .result) (omega (arith, s .pre)) (slice-write-lanes c) (l .inv .3)
-          (left r₁) (right r₂) (left-in r₁) (right-in r₂) left-fits right-fits (c .before .before .literal-lanes .ensures) (c .literal-lanes2 .ensures)
+          (k .ensures .left-is) (k .ensures .right-is) (left-in r) (right-in r) left-fits right-fits (c .before .before .literal-lanes .ensures) (c .literal-lanes2 .ensures)
           (s .args .head .base + (g₀′ i + 1)) (omega arith),
     )
 
@@ -183,14 +146,7 @@ store-signals-spec =
     μ-loop
     store-inputs-requires
     loop-holds
-    mul-read
-    add-read
-    read-requires
-    mul-read-2
-    add-read-2
-    mul-read-3
-    add-read-3
-    read-requires-2
+    read-gate-requires
     mul-literal-lanes
     slice-read-literal-lanes
     literal-lanes-requires

@@ -12,7 +12,7 @@ use lib.Dec.{leb}
 use Rattle.verdict.specs.Judgements.{answer, refuseFirst}
 use Rattle.verdict.proofs.Laws.{first-here, first-later, first-none}
 use Rattle.sizes.specs.Sizes.{wordsChecked}
-use Rattle.sizes.proofs.Laws.{power-is}
+use borrow.Author.Needs.{needs}
 use Rattle.sizes.proofs.check_words.Statement.{statement}
 use Rattle.sizes.proofs.check_words.Tie as tie
 
@@ -26,15 +26,16 @@ Inv-loop words inputs limit t₀ t = (t ≤ length words) × (wordsChecked input
 abbrev μ-loop : tie.MeasureT-loop
 μ-loop words inputs limit t₀ t = length words - t
 
-shl-limit : tie.Need-shl-limit Inv-loop μ-loop
-shl-limit c = omega arith
+power-requires : tie.Need-power-requires Inv-loop μ-loop
+power-requires c κs = search needs
 
 loop-holds : tie.Need-loop-holds Inv-loop μ-loop
 unfolding wordsChecked
 loop-holds c =
-    let w = now (c .args .words) in
+    let a = c .before .before .args in
+    let w = now (a .words) in
     let z : length w ≡ length w - 0 = omega arith in
-    (omega arith, ap (refuseFirst (large (c .args .inputs) w) 9 (λ i. i) (answer 0 0) 0) z)
+    (omega arith, ap (refuseFirst (large (a .inputs) w) 9 (λ i. i) (answer 0 0) 0) z)
 
 mul-if1 : tie.Need-mul-if1 Inv-loop μ-loop
 mul-if1 c = omega arith
@@ -43,13 +44,14 @@ shared-slice-read-if1 : tie.Need-shared-slice-read-if1 Inv-loop μ-loop
 shared-slice-read-if1 c = omega arith
 
 cast-if1 : tie.Need-cast-if1 Inv-loop μ-loop
-cast-if1 c = omega (arith, c .shared-slice-known .given (c .before .before .loop .t))
+cast-if1 c = omega (arith, c .shared-slice-known2 .given (c .before .before .loop .t))
 
 returns : tie.Need-returns Inv-loop μ-loop
 returns c =
-    let a = c .before .before .before .before in
+    let p = c .before .before .before .before in
+    let a = p .before .before in
     sym (c .before .before .before .loop .inv .1 ∙ first-here _ _ _ _ _ _ (omega arith)
-    (le-leb (2 ^ a .args .inputs) (getD (now (a .args .words)) (c .before .before .before .loop .t) 0) (omega (arith, power-is (a .args .inputs) (a .pre)))))
+    (le-leb (2 ^ a .args .inputs) (getD (now (a .args .words)) (c .before .before .before .loop .t) 0) (omega (arith, p .power .ensures))))
 
 add-t : tie.Need-add-t Inv-loop μ-loop
 add-t c = omega arith
@@ -59,10 +61,11 @@ loop-less c = omega arith
 
 loop-again : tie.Need-loop-again Inv-loop μ-loop
 loop-again c =
-    let a = c .before .before .before .before in (
+    let p = c .before .before .before .before in
+    let a = p .before .before in (
       omega arith,
       c .before .before .before .loop .inv .1 ∙ first-later _ _ _ _ _ _ (omega arith)
-          (lt-leb (2 ^ a .args .inputs) (getD (now (a .args .words)) (c .before .before .before .loop .t) 0) (omega (arith, power-is (a .args .inputs) (a .pre)))),
+          (lt-leb (2 ^ a .args .inputs) (getD (now (a .args .words)) (c .before .before .before .loop .t) 0) (omega (arith, p .power .ensures))),
     )
 
 returns-2 : tie.Need-returns-2 Inv-loop μ-loop
@@ -74,7 +77,7 @@ check-words-spec =
     (tie.spec
     Inv-loop
     μ-loop
-    shl-limit
+    power-requires
     loop-holds
     mul-if1
     shared-slice-read-if1

@@ -1,9 +1,9 @@
--- `table::head::power` meets its contract: the shift does not wrap.
+-- `sizes::power` meets its contract: the shift does not wrap.
 -- Assumes nothing.
 use Rattle.sizes.proofs.Laws.{power-is}
 use borrow.Author.Needs.{needs}
-use Rattle.table.proofs.head.power.Statement.{statement}
-use Rattle.table.proofs.head.power.Tie as tie
+use Rattle.sizes.proofs.power.Statement.{statement}
+use Rattle.sizes.proofs.power.Tie as tie
 
 shl-result : tie.Need-shl-result
 shl-result c = search needs
