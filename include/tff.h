@@ -4,9 +4,14 @@
  *
  *   circuit: n inputs per frame (1 to 8), m outputs per frame (1 to 16), T frames (1 to 16, n*T at
  *            most 16), G gates (m*T to 4,096); G left literals; G right literals.
- *            Signal 0 is false, input i of frame t is signal (t-1)*n + i, gate g is signal n*T + g.
- *            A literal is twice a signal, plus 1 if inverted. The last m*T gates are the outputs.
- *   table:   n, m, T; T+1 state counts; all output words; all next states, by layer, state, word.
+ *            Signal 0 is false, input i of frame t is signal (t-1)*n + i, gate g is signal n*T + g,
+ *            with i, t and g from 1. A literal is twice a signal, plus 1 if inverted. Gate g is the
+ *            AND of its two literals, each below 2*(n*T + g). The last m*T gates are the outputs,
+ *            frame by frame; none reaches an input of a later frame.
+ *   table:   n, m, T; T+1 state counts, first and last 1, others 1 to 32,768; all output words
+ *            (below 2^m); all next states (below the next layer's count), by layer, state, word.
+ *
+ * Input i is bit i-1 of a frame's input word, output j bit j-1 of its output word.
  *
  * A slice is passed as a pointer and a number of elements. The pointer is aligned and not null, also
  * where there are no elements. A slice that a call may write to shares no element with another.
@@ -15,21 +20,24 @@
  * rest of answer stays as it was. Where answer is too short for them, nothing at all is changed.
  *
  *   number  place                       when
- *   0       values written, or 0        accepted; what follows the result stays as it was
+ *   0       bytes or words written,     accepted; what follows the result stays as it was
+ *           or 0 without a result
  *   1       length given                not the length that the format asks for
- *   2       byte offset                 first size or count out of limits
- *   3       byte offset                 first literal that is too high
- *   4       output index from 0         first output that depends on a later frame
+ *   2       byte offset                 first size or count out of limits; n*T above 16 counts at T
+ *   3       byte offset                 first literal that is too high, in the order of the file
+ *   4       output index from 0         first output whose gates reach an input of a later frame,
+ *                                       even without effect
  *   5       byte offset                 first output word, else first next state, out of range
  *   6       numbers needed              scratch too short
- *   7       bytes or numbers needed     result too short
+ *   7       bytes or words needed       result too short
  *   8       gates needed                unfolding takes above 4,096 gates
- *   9       index of the word           first input word of 2^n or more
+ *   9       index of the word from 0    first input word of 2^n or more
  *   10      T                           step from the last layer
  *   11      layer given                 position that the table does not have
  *   12      length of the list          list of input words not T long
  *
- * A refused call changes nothing but answer, save that a fold refused with 7 clears its scratch.
+ * A refused call changes nothing but answer, save that a fold refused with 7 clears the scratch
+ * that it needs.
  */
 
 #ifndef TFF_H
@@ -74,9 +82,9 @@ void tff_run(const uint8_t *table, size_t table_len,
              uint64_t *answer, size_t answer_len);
 
 /* One step from a position, a layer and a state, on an input word; the start is layer 0, state 0.
- * Answers five values: number, place, output word, layer, state. Refuses as the check without 5,
- * then 11, 10, 9, then 5 for the one entry read; a refused step gives the position back and
- * output 0. Accepted: place 0. */
+ * Answers five values: number, place, output word, and the layer and state reached. Refuses as the
+ * check without 5, then 11, 10, 9 (place 0), then 5 for the one entry read, output before next; a
+ * refused step gives the position back and output 0. Accepted: place 0. */
 void tff_step(const uint8_t *table, size_t table_len,
               uint16_t layer, uint16_t state, uint16_t word,
               uint64_t *answer, size_t answer_len);

@@ -12,7 +12,6 @@
 pub mod answer;
 pub mod circuit;
 pub mod examples;
-pub mod figures;
 pub mod fold;
 pub mod gates;
 pub mod gen;
@@ -21,6 +20,7 @@ pub mod program;
 pub mod sizes;
 pub mod table;
 pub mod unfold;
+pub mod vectors;
 pub mod words;
 
 pub use answer::Answer;

@@ -32,6 +32,14 @@ pub struct Stepped {
     pub state: u16,
 }
 
+impl From<Stepped> for [u64; 5] {
+    /// In the order of the C interface.
+    fn from(stepped: Stepped) -> [u64; 5] {
+        let [output, layer, state] = [stepped.output, stepped.layer, stepped.state].map(u64::from);
+        [stepped.number, stepped.place, output, layer, state]
+    }
+}
+
 /// Judges a table; place 0 where it is accepted.
 pub fn check_table(table: &[u8]) -> Answer {
     match Head::read(table).and_then(|head| head.judge_entries(table)) {

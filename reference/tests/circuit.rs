@@ -8,7 +8,7 @@ use common::{seeds, Seen};
 use evaluator::{sizes_around_the_limits, Evaluator};
 use reference::gen::{all_sizes, any_sizes, circuits, damaged, sizes_with, Rng};
 use reference::words::{set_word, to_bytes, word_at};
-use reference::{examples, figures, Circuit, Gates, Sizes};
+use reference::{examples, vectors, Circuit, Gates, Sizes};
 
 const CIRCUIT: Evaluator = Evaluator {
     plain_check: reference::check_circuit,
@@ -18,8 +18,8 @@ const CIRCUIT: Evaluator = Evaluator {
 };
 
 #[test]
-fn the_given_figures_hold() {
-    for (circuit, expected) in figures::checked() {
+fn the_given_vectors_hold() {
+    for (circuit, expected) in vectors::checked() {
         let answer = tff::check_circuit(&circuit);
         assert_eq!((answer.number, answer.place), expected);
         assert_eq!(CIRCUIT.check(0, &circuit), [expected.0, expected.1]);

@@ -6,8 +6,8 @@ mod outputs;
 
 use common::{compare, seeds, short_answers_change_nothing, Case, Room, Seen};
 use outputs::{assert_same_outputs, folded};
-use reference::figures::{self, PARITY_FOLDED, PARITY_TABLE};
 use reference::gen::{any_sizes, circuits, damaged, sizes_with, Rng};
+use reference::vectors::{self, PARITY_FOLDED, PARITY_TABLE};
 use reference::words::to_bytes;
 use reference::{examples, Circuit, Sizes, Table};
 
@@ -90,7 +90,7 @@ fn parity_is_folded_only_with_the_given_room() {
 
 #[test]
 fn circuits_of_the_sources_fold_to_the_given_counts() {
-    for (circuit, expected) in figures::counts() {
+    for (circuit, expected) in vectors::counts() {
         let table = Table::read(&folded(&circuit.to_bytes())).unwrap();
         assert_eq!(table.head.counts, expected);
         accepts(0, &circuit);

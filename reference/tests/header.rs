@@ -1,15 +1,45 @@
-//! The C header: the example program in C, compiled with it, says what the plain implementation computes.
+//! The C header: programs in C, compiled with it, print what the plain implementation computes.
+
+#[path = "common/child.rs"]
+mod child;
+#[path = "common/root.rs"]
+mod root;
 
 use std::env;
-use std::fmt::Write;
-use std::path::{Path, PathBuf};
+use std::fmt::{Display, Write};
+use std::path::Path;
 use std::process::Command;
 
-use reference::words::words_at;
-use reference::{examples, fold, step, unfold};
+use child::written;
+use reference::vectors::PARITY_TABLE;
+use reference::words::{to_bytes, words_at};
+use reference::{check_circuit, check_table, examples, fold, run, simulate, step, unfold, Answer};
+use root::root;
+
+/// What the C program in the file `source` of the repository prints.
+fn printed(source: &str) -> String {
+    let library = env::var_os("TFF_LIB_DIR").map_or_else(
+        || root().join("target/staticlib"),
+        |given| root().join("bindings/rust").join(given),
+    );
+    let source = root().join(source);
+    let name = source.file_stem().expect("a file");
+    let program = Path::new(env!("CARGO_TARGET_TMPDIR")).join(name);
+    let mut compiler = Command::new("cc");
+    compiler
+        .args(["-std=c99", "-Wall", "-Wextra", "-Werror", "-I"])
+        .arg(root().join("include"))
+        .arg(&source)
+        .arg("-L")
+        .arg(library)
+        .args(["-ltff", "-o"])
+        .arg(&program);
+    written(&mut compiler, &[]);
+    written(&mut Command::new(&program), &[])
+}
 
 /// What `examples/parity.c` is to print.
-fn expected() -> String {
+fn example_lines() -> String {
     let circuit = examples::parity().to_bytes();
     let (mut table, mut drawn) = ([0; 36], [0; 76]);
     let mut text = String::new();
@@ -53,25 +83,98 @@ fn expected() -> String {
     text
 }
 
+/// What `calls.c` is to print: each function on parity, accepted and refused, in the same order.
+fn calls_lines() -> String {
+    let circuit = examples::parity().to_bytes();
+    let table = to_bytes(&PARITY_TABLE);
+    let steps = [
+        (36, 0, 0, 1),
+        (36, 1, 0, 1),
+        (35, 1, 0, 1),
+        (36, 1, 2, 1),
+        (36, 2, 0, 1),
+        (36, 1, 0, 2),
+    ];
+    let mut text = String::new();
+    for length in [28, 27] {
+        text += &line("check_circuit", |_, _| {
+            check_circuit(&circuit[..length]).into()
+        });
+    }
+    text += &evaluate_lines("simulate", simulate, &circuit);
+    for (length, scratch, result) in [(27, 8, 36), (28, 7, 36), (28, 8, 35), (28, 8, 36)] {
+        text += &line("fold", |numbers, bytes| {
+            fold(
+                &circuit[..length],
+                &mut numbers[..scratch],
+                &mut bytes[..result],
+            )
+            .into()
+        });
+    }
+    for length in [36, 35] {
+        text += &line("check_table", |_, _| check_table(&table[..length]).into());
+    }
+    text += &evaluate_lines("run", run, &table);
+    for (length, layer, state, word) in steps {
+        text += &line("step", |_, _| {
+            step(&table[..length], layer, state, word).into()
+        });
+    }
+    for (length, result) in [(36, 76), (35, 76), (36, 75)] {
+        text += &line("unfold", |_, bytes| {
+            unfold(&table[..length], &mut bytes[..result]).into()
+        });
+    }
+    text
+}
+
+/// The lines of simulating a circuit or running a table: accepted, and refused with 1, 12, 9, 7.
+fn evaluate_lines(
+    name: &str,
+    evaluate: fn(&[u8], &[u16], &mut [u16]) -> Answer,
+    file: &[u8],
+) -> String {
+    let words = [1, 1, 2];
+    let cut = &file[..file.len() - 1];
+    let cases = [
+        (file, &words[..2], 2),
+        (cut, &words[..2], 2),
+        (file, &words[..3], 2),
+        (file, &words[1..], 2),
+        (file, &words[..2], 1),
+    ];
+    cases
+        .map(|(file, words, result)| {
+            line(name, |numbers, _| {
+                evaluate(file, words, &mut numbers[..result]).into()
+            })
+        })
+        .concat()
+}
+
+/// A line of `calls.c`: what a call answers and leaves in memory that is all 99 before.
+fn line<const N: usize>(
+    name: &str,
+    call: impl FnOnce(&mut [u16], &mut [u8]) -> [u64; N],
+) -> String {
+    let (mut answer, mut numbers, mut bytes) = ([99; 6], [99; 9], [99; 77]);
+    let values = call(&mut numbers, &mut bytes);
+    answer[..N].copy_from_slice(&values);
+    let [answer, numbers, bytes] = [listed(&answer), listed(&numbers), listed(&bytes)];
+    format!("{name}: answer{answer}, numbers{numbers}, bytes{bytes}\n")
+}
+
+fn listed(values: &[impl Display]) -> String {
+    values.iter().map(|value| format!(" {value}")).collect()
+}
+
 #[test]
 fn the_c_example_prints_what_the_plain_implementation_computes() {
-    let root = Path::new(env!("CARGO_MANIFEST_DIR")).join("..");
-    let library = env::var_os("TFF_LIB_DIR").map_or_else(
-        || root.join("target/staticlib"),
-        |given| root.join("bindings/rust").join(given),
-    );
-    let program = PathBuf::from(env!("CARGO_TARGET_TMPDIR")).join("parity");
-    let compiled = Command::new("cc")
-        .args(["-std=c99", "-Wall", "-Wextra", "-Werror", "-I"])
-        .arg(root.join("include"))
-        .arg(root.join("examples/parity.c"))
-        .arg("-L")
-        .arg(library)
-        .args(["-ltff", "-o"])
-        .arg(&program)
-        .status()
-        .expect("cc, which cargo links with, is there");
-    assert!(compiled.success());
-    let output = Command::new(&program).output().expect("the program ran");
-    assert_eq!(String::from_utf8(output.stdout).expect("ASCII"), expected());
+    assert_eq!(printed("examples/parity.c"), example_lines());
+}
+
+#[test]
+fn every_c_function_answers_and_leaves_what_the_plain_implementation_does() {
+    assert_eq!(printed("reference/tests/c/calls.c"), calls_lines());
 }

@@ -1,30 +1,23 @@
 //! The folding program's output, and the example files it is shown on.
 
-use reference::program::{printed, MOST_READ};
-use reference::{examples, Circuit};
-use std::fs;
-use std::io::Write;
-use std::path::{Path, PathBuf};
-use std::process::{Command, Stdio};
+#[path = "common/child.rs"]
+mod child;
+#[path = "common/root.rs"]
+mod root;
 
-fn root() -> PathBuf {
-    Path::new(env!("CARGO_MANIFEST_DIR")).join("..")
-}
+use std::fs;
+use std::process::Command;
+
+use child::written;
+use reference::gates::FALSE;
+use reference::gen::{circuits, Rng};
+use reference::program::{printed, MOST_READ};
+use reference::{examples, Circuit, Gates, Sizes};
+use root::root;
 
 /// What the built program writes for `input`.
 fn run_program(input: &[u8]) -> String {
-    let program = root().join("target/bin/folding");
-    let mut child = Command::new(&program)
-        .stdin(Stdio::piped())
-        .stdout(Stdio::piped())
-        .spawn()
-        .unwrap_or_else(|error| panic!("{}: {error}", program.display()));
-    let mut stdin = child.stdin.take().expect("piped");
-    // The program stops reading at its limit, so the rest may find nobody who reads it.
-    let _ = stdin.write_all(input);
-    drop(stdin);
-    let output = child.wait_with_output().expect("the program ran");
-    String::from_utf8(output.stdout).expect("ASCII")
+    written(&mut Command::new(root().join("target/bin/folding")), input)
 }
 
 fn compare(input: &[u8]) {
@@ -88,10 +81,23 @@ fn input_beyond_the_limit_is_cut() {
 }
 
 #[test]
+fn a_table_longer_than_the_result_is_refused() {
+    // The last frame shows the inputs of all frames before it, so every history has a state of its own.
+    let sizes = Sizes::new(1, 16, 12);
+    let gates = Gates::new(sizes);
+    let mut shown: Vec<u16> = (0..11).map(|frame| gates.input(frame, 0)).collect();
+    shown.resize(sizes.outputs, FALSE);
+    let outputs = [vec![FALSE; 11 * sizes.outputs], shown].concat();
+    let input = gates.finish(&outputs).to_bytes();
+    assert_eq!(printed(&input), "refused 7 32792\n");
+    compare(&input);
+}
+
+#[test]
 fn generated_circuits_print_their_counts() {
-    let mut rng = reference::gen::Rng::new(5);
+    let mut rng = Rng::new(5);
     for _ in 0..60 {
-        let circuit = reference::gen::circuits::any_legal(&mut rng, 16, 60);
+        let circuit = circuits::any_legal(&mut rng, 16, 60);
         compare(&circuit.to_bytes());
     }
 }

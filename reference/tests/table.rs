@@ -6,9 +6,9 @@ mod evaluator;
 
 use common::{compare, seeds, short_answers_change_nothing, Case, Room, Seen};
 use evaluator::{sizes_around_the_limits, Evaluator};
-use reference::figures::PARITY_TABLE;
 use reference::gen::{all_sizes, damaged, sizes_with, tables, Rng};
 use reference::table::Head;
+use reference::vectors::PARITY_TABLE;
 use reference::words::{set_word, to_bytes};
 use reference::{Sizes, Table};
 
@@ -37,12 +37,6 @@ fn call_step(file: &[u8], [layer, state, word]: Place, answer: &mut [u64]) {
     }
 }
 
-fn plain_step(file: &[u8], [layer, state, word]: Place) -> [u64; 5] {
-    let stepped = reference::step(file, layer, state, word);
-    let [output, layer, state] = [stepped.output, stepped.layer, stepped.state].map(u64::from);
-    [stepped.number, stepped.place, output, layer, state]
-}
-
 fn step_case<'a>(seed: u64, file: &'a [u8], place: &'a Place) -> Case<'a> {
     Case {
         call: "step",
@@ -54,10 +48,11 @@ fn step_case<'a>(seed: u64, file: &'a [u8], place: &'a Place) -> Case<'a> {
 
 /// Steps with both implementations.
 fn step(seed: u64, file: &[u8], place: Place) -> [u64; 5] {
+    let [layer, state, word] = place;
     compare(
         &step_case(seed, file, &place),
         Room::default(),
-        |_, _| plain_step(file, place),
+        |_, _| reference::step(file, layer, state, word).into(),
         |_, _, answer| call_step(file, place, answer),
     )
 }
@@ -114,7 +109,7 @@ fn largest(seed: u64) -> Table {
 }
 
 #[test]
-fn the_given_figures_hold() {
+fn the_given_vectors_hold() {
     let file = to_bytes(&PARITY_TABLE);
     let answer = tff::check_table(&file);
     assert_eq!((answer.number, answer.place), (0, 0));

@@ -6,9 +6,9 @@ mod outputs;
 
 use common::{compare, seeds, short_answers_change_nothing, Case, Room, Seen};
 use outputs::{assert_same_outputs, folded};
-use reference::figures::{self, PARITY_TABLE, PARITY_UNFOLDED};
 use reference::gen::{all_sizes, circuits, damaged, tables, Rng};
 use reference::unfold::gates_needed;
+use reference::vectors::{self, PARITY_TABLE, PARITY_UNFOLDED};
 use reference::words::{set_word, to_bytes, words_at};
 use reference::{Circuit, Sizes, Table};
 
@@ -250,7 +250,7 @@ fn unrolled_machines_come_back_from_their_unfolded_tables() {
 
 #[test]
 fn named_circuits_come_back_from_their_unfolded_tables() {
-    for (circuit, _) in figures::counts() {
+    for (circuit, _) in vectors::counts() {
         comes_back(&circuit);
     }
 }

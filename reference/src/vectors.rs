@@ -1,4 +1,4 @@
-//! The figures that the description gives.
+//! Test vectors: the calls that the description works out, and what they answer and leave.
 
 use crate::answer::Answer;
 use crate::circuit::Circuit;

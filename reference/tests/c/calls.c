@@ -1,0 +1,76 @@
+/* Calls every function of tff.h on parity, accepted and refused, and prints all that each answers and leaves. */
+#include <inttypes.h>
+#include <stdio.h>
+
+#include "tff.h"
+
+/* What the calls may write to, with an element more than any is lent. */
+static uint64_t answer[6];
+static uint16_t numbers[9];
+static uint8_t bytes[77];
+
+#define LENGTH(of) (sizeof of / sizeof of[0])
+#define FILL(of) for (size_t i = 0; i < LENGTH(of); i++) of[i] = 99
+#define SHOW(of) for (size_t i = 0; i < LENGTH(of); i++) printf(" %" PRIu64, (uint64_t)of[i])
+
+static void fill(void) {
+    FILL(answer);
+    FILL(numbers);
+    FILL(bytes);
+}
+
+static void show(const char *call) {
+    printf("%s: answer", call);
+    SHOW(answer);
+    printf(", numbers");
+    SHOW(numbers);
+    printf(", bytes");
+    SHOW(bytes);
+    printf("\n");
+}
+
+#define CALL(call, ...) (fill(), tff_##call(__VA_ARGS__, answer, 5), show(#call))
+
+int main(void) {
+    const uint8_t circuit[] = {1, 0, 1, 0, 2, 0, 5, 0,          /* n, m, T, gates */
+                               2, 0, 3, 0, 7, 0, 2, 0, 11, 0,   /* left literals */
+                               5, 0, 4, 0, 9, 0, 1, 0, 1, 0};   /* right literals */
+    const uint16_t words[] = {1, 1, 2};
+    uint8_t table[36];
+
+    CALL(check_circuit, circuit, 28);
+    CALL(check_circuit, circuit, 27);
+
+    CALL(simulate, circuit, 28, words, 2, numbers, 2);
+    CALL(simulate, circuit, 27, words, 2, numbers, 2);
+    CALL(simulate, circuit, 28, words, 3, numbers, 2);
+    CALL(simulate, circuit, 28, words + 1, 2, numbers, 2);
+    CALL(simulate, circuit, 28, words, 2, numbers, 1);
+
+    CALL(fold, circuit, 27, numbers, 8, bytes, 36);
+    CALL(fold, circuit, 28, numbers, 7, bytes, 36);
+    CALL(fold, circuit, 28, numbers, 8, bytes, 35);
+    CALL(fold, circuit, 28, numbers, 8, bytes, 36);
+    for (size_t i = 0; i < sizeof table; i++) table[i] = bytes[i];
+
+    CALL(check_table, table, 36);
+    CALL(check_table, table, 35);
+
+    CALL(run, table, 36, words, 2, numbers, 2);
+    CALL(run, table, 35, words, 2, numbers, 2);
+    CALL(run, table, 36, words, 3, numbers, 2);
+    CALL(run, table, 36, words + 1, 2, numbers, 2);
+    CALL(run, table, 36, words, 2, numbers, 1);
+
+    CALL(step, table, 36, 0, 0, 1);
+    CALL(step, table, 36, 1, 0, 1);
+    CALL(step, table, 35, 1, 0, 1);
+    CALL(step, table, 36, 1, 2, 1);
+    CALL(step, table, 36, 2, 0, 1);
+    CALL(step, table, 36, 1, 0, 2);
+
+    CALL(unfold, table, 36, bytes, 76);
+    CALL(unfold, table, 35, bytes, 76);
+    CALL(unfold, table, 36, bytes, 75);
+    return 0;
+}
