@@ -5,4 +5,3 @@ pub mod Lists
 pub mod Accepted
 pub mod Stages
 pub mod Causal
-pub mod Simulation

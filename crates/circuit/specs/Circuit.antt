@@ -1,4 +1,4 @@
--- The circuit format (document 01's chart), its judgement and its simulation. Gates, inputs and outputs are counted from 0 here, and from 1
+-- The circuit format (document 01's chart), its judgement, and its outputs on a sequence. Gates, inputs and outputs are counted from 0 here, and from 1
 -- in document 01; frames are counted from 1 where a latest frame is meant, and from 0 where an output word is.
 use Prim.Native.Nat.{ℕ, suc, _+_, _*_, _-_, _/_, _%_, max}
 use mathlib.Core.List.{List, [], _∷_}
@@ -6,9 +6,9 @@ use mathlib.Core.Bool.{Bool, false, not, _&&_, cond}
 use lib.ListN.{length, getD, take, drop}
 use lib.Dec.{ltb, eqb}
 use Rattle.words.specs.Words.{wordAt}
-use Rattle.verdict.specs.Judgements.{answer, refuse, andThen, refuseFirst, resultAfter}
+use Rattle.verdict.specs.Judgements.{answer, refuse, andThen, refuseFirst}
 use Rattle.verdict.specs.declared.Figures.{Figures}
-use Rattle.sizes.specs.Sizes.{inputs, outputs, frames, outside, sizesChecked, sequenceChecked}
+use Rattle.sizes.specs.Sizes.{inputs, outputs, frames, outside, sizesChecked}
 use Rattle.sizes.specs.Limits.{mostInputs}
 use Rattle.circuit.specs.Limits.{circuitHead, mostGates}
 use Rattle.circuit.specs.Lists.{grown, listed, bit, packed}
@@ -99,7 +99,7 @@ checked b =
     (andThen (literalsChecked b (rightsAt b))
     (lookAheadChecked b)))
 
--- ---- simulation ("playing")
+-- ---- the outputs on a sequence
 
 -- the values of the constant and of `count` inputs, n to a word
 unfoldable pub inputValues : (words : List ℕ) (n count : ℕ) → List Bool
@@ -124,11 +124,3 @@ outputWord b words t = packed (take (outputs b) (drop (outputSignal b (outputs b
 -- the circuit's outputs on a sequence
 unfoldable pub outputWords : List ℕ → (words : List ℕ) → List ℕ
 outputWords b words = listed [] (outputWord b words) (frames b)
-
--- the check, then 12, 9, 7
-unfoldable pub simulated : List ℕ → (words : List ℕ) (room : ℕ) → Figures
-simulated b words room = andThen (checked b) (sequenceChecked (inputs b) (frames b) words room)
-
--- what the result holds after a simulation
-unfoldable pub simulationResult : List ℕ → (words before : List ℕ) → List ℕ
-simulationResult b words before = resultAfter (simulated b words (length before)) (outputWords b words) before

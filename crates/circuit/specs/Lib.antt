@@ -4,3 +4,4 @@ pub mod Limits
 pub mod Circuit
 pub mod WellFormed
 pub mod Theorems
+pub mod Examples

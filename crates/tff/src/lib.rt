@@ -7,16 +7,26 @@ ghost use mathlib.Core.Path.{_≡_};
 ghost use Prim.Native.Nat.{_≤_};
 ghost use lib.ListN.{length};
 ghost use Rattle.verdict.specs.Judgements.{figures};
-ghost use Rattle.circuit.specs.Circuit.{checked, simulated, simulationResult};
+ghost use Rattle.circuit.specs.Circuit.{checked};
+ghost use Rattle.simulate.specs.Simulate.{simulated, simulationResult};
 ghost use Rattle.table.specs.Table.{checked as tableChecked};
 ghost use Rattle.steps.specs.Steps.{ran, runResult, stepped};
 ghost use Rattle.folded.specs.Folded.{foldChecked, foldResult, foldScratch};
 ghost use Rattle.unfolded.specs.Unfolded.{unfoldChecked, unfoldResult};
-ghost use Rattle.tff.specs.Answer.{answered, stepAnswered, ifRoom};
+ghost use Rattle.tff.specs.Answer.{verdictLength, stepLength, answered, stepAnswered, answerAfter, stepAnswerAfter, bufferAfter};
+
+// How many numbers a call answers: number and place; a step also output, layer and state.
+struct Limits;
+
+impl Limits {
+    const VERDICT: usize = 2;
+
+    const STEP: usize = 5;
+}
 
 // Puts the figures of a verdict into `answer`, which has room for them.
 fn put(verdict: Verdict, answer: &mut [u64])
-    requires { ⌜ 2 ≤ length (now answer) ⌝ }
+    requires { ⌜ verdictLength ≤ length (now answer) ⌝ }
     ensures { λ _. ⌜ now (answer .exit) ≡ answered (figures verdict) (now (answer .entry)) ⌝ }
 {
     let figures = verdict.figures();
@@ -26,9 +36,9 @@ fn put(verdict: Verdict, answer: &mut [u64])
 
 #[no_mangle]
 pub extern "C" fn tff_check_circuit(circuit: &[u8], answer: &mut [u64])
-    ensures { λ _. ⌜ now (answer .exit) ≡ ifRoom (now (answer .entry)) 2 (answered (checked (now (circuit .entry))) (now (answer .entry))) (now (answer .entry)) ⌝ }
+    ensures { λ _. ⌜ now (answer .exit) ≡ answerAfter (checked (now (circuit .entry))) (now (answer .entry)) ⌝ }
 {
-    if answer.len() < 2 {
+    if answer.len() < Limits::VERDICT {
         return;
     }
     put(circuit::check(circuit), answer);
@@ -41,20 +51,20 @@ pub extern "C" fn tff_simulate(
     result: &mut [u16],
     answer: &mut [u64],
 )
-    ensures answer { λ _. ⌜ now (answer .exit) ≡ ifRoom (now (answer .entry)) 2 (answered (simulated (now (circuit .entry)) (now (words .entry)) (length (now (result .entry)))) (now (answer .entry))) (now (answer .entry)) ⌝ }
-    ensures result { λ _. ⌜ now (result .exit) ≡ ifRoom (now (answer .entry)) 2 (simulationResult (now (circuit .entry)) (now (words .entry)) (now (result .entry))) (now (result .entry)) ⌝ }
+    ensures answer { λ _. ⌜ now (answer .exit) ≡ answerAfter (simulated (now (circuit .entry)) (now (words .entry)) (length (now (result .entry)))) (now (answer .entry)) ⌝ }
+    ensures result { λ _. ⌜ now (result .exit) ≡ bufferAfter (now (answer .entry)) (simulationResult (now (circuit .entry)) (now (words .entry)) (now (result .entry))) (now (result .entry)) ⌝ }
 {
-    if answer.len() < 2 {
+    if answer.len() < Limits::VERDICT {
         return;
     }
-    put(circuit::simulate(circuit, words, result), answer);
+    put(simulate::simulate(circuit, words, result), answer);
 }
 
 #[no_mangle]
 pub extern "C" fn tff_check_table(table: &[u8], answer: &mut [u64])
-    ensures { λ _. ⌜ now (answer .exit) ≡ ifRoom (now (answer .entry)) 2 (answered (tableChecked (now (table .entry))) (now (answer .entry))) (now (answer .entry)) ⌝ }
+    ensures { λ _. ⌜ now (answer .exit) ≡ answerAfter (tableChecked (now (table .entry))) (now (answer .entry)) ⌝ }
 {
-    if answer.len() < 2 {
+    if answer.len() < Limits::VERDICT {
         return;
     }
     put(table::check(table), answer);
@@ -62,10 +72,10 @@ pub extern "C" fn tff_check_table(table: &[u8], answer: &mut [u64])
 
 #[no_mangle]
 pub extern "C" fn tff_run(table: &[u8], words: &[u16], result: &mut [u16], answer: &mut [u64])
-    ensures answer { λ _. ⌜ now (answer .exit) ≡ ifRoom (now (answer .entry)) 2 (answered (ran (now (table .entry)) (now (words .entry)) (length (now (result .entry)))) (now (answer .entry))) (now (answer .entry)) ⌝ }
-    ensures result { λ _. ⌜ now (result .exit) ≡ ifRoom (now (answer .entry)) 2 (runResult (now (table .entry)) (now (words .entry)) (now (result .entry))) (now (result .entry)) ⌝ }
+    ensures answer { λ _. ⌜ now (answer .exit) ≡ answerAfter (ran (now (table .entry)) (now (words .entry)) (length (now (result .entry)))) (now (answer .entry)) ⌝ }
+    ensures result { λ _. ⌜ now (result .exit) ≡ bufferAfter (now (answer .entry)) (runResult (now (table .entry)) (now (words .entry)) (now (result .entry))) (now (result .entry)) ⌝ }
 {
-    if answer.len() < 2 {
+    if answer.len() < Limits::VERDICT {
         return;
     }
     put(steps::run(table, words, result), answer);
@@ -73,7 +83,7 @@ pub extern "C" fn tff_run(table: &[u8], words: &[u16], result: &mut [u16], answe
 
 // Puts all figures of a step into `answer`, which has room for them.
 fn put_step(step: StepFigures, answer: &mut [u64])
-    requires { ⌜ 5 ≤ length (now answer) ⌝ }
+    requires { ⌜ stepLength ≤ length (now answer) ⌝ }
     ensures { λ _. ⌜ now (answer .exit) ≡ stepAnswered step (now (answer .entry)) ⌝ }
 {
     answer[0] = step.number as u64;
@@ -85,9 +95,9 @@ fn put_step(step: StepFigures, answer: &mut [u64])
 
 #[no_mangle]
 pub extern "C" fn tff_step(table: &[u8], layer: u16, state: u16, word: u16, answer: &mut [u64])
-    ensures { λ _. ⌜ now (answer .exit) ≡ ifRoom (now (answer .entry)) 5 (stepAnswered (stepped (now (table .entry)) layer state word) (now (answer .entry))) (now (answer .entry)) ⌝ }
+    ensures { λ _. ⌜ now (answer .exit) ≡ stepAnswerAfter (stepped (now (table .entry)) layer state word) (now (answer .entry)) ⌝ }
 {
-    if answer.len() < 5 {
+    if answer.len() < Limits::STEP {
         return;
     }
     let position = Position {
@@ -105,11 +115,11 @@ pub extern "C" fn tff_fold(
     result: &mut [u8],
     answer: &mut [u64],
 )
-    ensures answer { λ _. ⌜ now (answer .exit) ≡ ifRoom (now (answer .entry)) 2 (answered (foldChecked (now (circuit .entry)) (length (now (scratch .entry))) (length (now (result .entry)))) (now (answer .entry))) (now (answer .entry)) ⌝ }
-    ensures result { λ _. ⌜ now (result .exit) ≡ ifRoom (now (answer .entry)) 2 (foldResult (now (circuit .entry)) (length (now (scratch .entry))) (now (result .entry))) (now (result .entry)) ⌝ }
-    ensures scratch { λ _. ⌜ now (scratch .exit) ≡ ifRoom (now (answer .entry)) 2 (foldScratch (now (circuit .entry)) (now (scratch .entry)) (length (now (result .entry)))) (now (scratch .entry)) ⌝ }
+    ensures answer { λ _. ⌜ now (answer .exit) ≡ answerAfter (foldChecked (now (circuit .entry)) (length (now (scratch .entry))) (length (now (result .entry)))) (now (answer .entry)) ⌝ }
+    ensures result { λ _. ⌜ now (result .exit) ≡ bufferAfter (now (answer .entry)) (foldResult (now (circuit .entry)) (length (now (scratch .entry))) (now (result .entry))) (now (result .entry)) ⌝ }
+    ensures scratch { λ _. ⌜ now (scratch .exit) ≡ bufferAfter (now (answer .entry)) (foldScratch (now (circuit .entry)) (now (scratch .entry)) (length (now (result .entry)))) (now (scratch .entry)) ⌝ }
 {
-    if answer.len() < 2 {
+    if answer.len() < Limits::VERDICT {
         return;
     }
     put(fold::fold(circuit, scratch, result), answer);
@@ -117,10 +127,10 @@ pub extern "C" fn tff_fold(
 
 #[no_mangle]
 pub extern "C" fn tff_unfold(table: &[u8], result: &mut [u8], answer: &mut [u64])
-    ensures answer { λ _. ⌜ now (answer .exit) ≡ ifRoom (now (answer .entry)) 2 (answered (unfoldChecked (now (table .entry)) (length (now (result .entry)))) (now (answer .entry))) (now (answer .entry)) ⌝ }
-    ensures result { λ _. ⌜ now (result .exit) ≡ ifRoom (now (answer .entry)) 2 (unfoldResult (now (table .entry)) (now (result .entry))) (now (result .entry)) ⌝ }
+    ensures answer { λ _. ⌜ now (answer .exit) ≡ answerAfter (unfoldChecked (now (table .entry)) (length (now (result .entry)))) (now (answer .entry)) ⌝ }
+    ensures result { λ _. ⌜ now (result .exit) ≡ bufferAfter (now (answer .entry)) (unfoldResult (now (table .entry)) (now (result .entry))) (now (result .entry)) ⌝ }
 {
-    if answer.len() < 2 {
+    if answer.len() < Limits::VERDICT {
         return;
     }
     put(unfold::unfold(table, result), answer);

@@ -1,2 +1,2 @@
--- What a reader of `figures` must believe, in the order of reading.
+-- What a reader of `vectors` must believe, in the order of reading.
 pub mod Vectors

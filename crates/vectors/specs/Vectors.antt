@@ -10,6 +10,7 @@ use Rattle.words.specs.Words.{wordBytes}
 use Rattle.verdict.specs.Judgements.{answer}
 use Rattle.verdict.specs.declared.Figures.{Figures}
 use Rattle.circuit.specs.Circuit.{checked}
+use Rattle.circuit.specs.Examples.{parity, identity, silent, delayed}
 use Rattle.steps.specs.Steps.{stepped}
 use Rattle.folded.specs.Folded.{foldChecked, foldResult, foldScratch}
 use Rattle.unfolded.specs.Unfolded.{unfoldChecked, unfoldResult}
@@ -42,46 +43,28 @@ outcomeOf (Step b layer state word) =
     let s = stepped b layer state word in
     record { figures = answer (s .number) (s .place); result = s .output ∷ s .layer ∷ s .state ∷ []; scratch = [] }
 
--- ---- circuits and tables, as words
+-- ---- tables and further circuits, as words; a table is n, m, T, the counts, the outputs, the next states
 
--- A circuit is n, m, T, G, the left literals, the right literals; a table is n, m, T, the counts, the outputs, the next states.
-
--- Parity: n = m = 1, T = 2, y1 = x1, y2 = x1 xor x2
-unfoldable pub parity : List ℕ
-parity = 1 ∷ 1 ∷ 2 ∷ 5 ∷ 2 ∷ 3 ∷ 7 ∷ 2 ∷ 11 ∷ 5 ∷ 4 ∷ 9 ∷ 1 ∷ 1 ∷ []
-
--- its table
+-- the table of parity
 unfoldable pub parityFolded : List ℕ
 parityFolded = (1 ∷ 1 ∷ 2 ∷ []) ++ ((1 ∷ 2 ∷ 1 ∷ []) ++ ((0 ∷ 1 ∷ 0 ∷ 1 ∷ 1 ∷ 0 ∷ []) ++ (0 ∷ 1 ∷ 0 ∷ 0 ∷ 0 ∷ 0 ∷ [])))
 
--- the table's circuit
+-- the circuit that is drawn of parity's table
 unfoldable pub parityDrawn : List ℕ
 parityDrawn =
     (1 ∷ 1 ∷ 2 ∷ 17 ∷ [])
     ++ ((1 ∷ 1 ∷ 1 ∷ 1 ∷ 1 ∷ 1 ∷ 1 ∷ 1 ∷ 1 ∷ 15 ∷ 15 ∷ 17 ∷ 17 ∷ 1 ∷ 32 ∷ 19 ∷ 35 ∷ [])
     ++ (3 ∷ 2 ∷ 6 ∷ 8 ∷ 11 ∷ 13 ∷ 13 ∷ 5 ∷ 4 ∷ 20 ∷ 22 ∷ 20 ∷ 22 ∷ 27 ∷ 29 ∷ 1 ∷ 1 ∷ []))
 
--- n = m = T = 1, y = x
-unfoldable pub identity : List ℕ
-identity = 1 ∷ 1 ∷ 1 ∷ 1 ∷ 2 ∷ 1 ∷ []
-
--- its table
+-- the table of the identity
 unfoldable pub identityFolded : List ℕ
 identityFolded = (1 ∷ 1 ∷ 1 ∷ []) ++ ((1 ∷ 1 ∷ []) ++ ((0 ∷ 1 ∷ []) ++ (0 ∷ 0 ∷ [])))
 
--- n = m = 1, T = 2, all outputs false
-unfoldable pub silent : List ℕ
-silent = 1 ∷ 1 ∷ 2 ∷ 2 ∷ 0 ∷ 0 ∷ 0 ∷ 0 ∷ []
-
--- its table
+-- the table of the silent circuit
 unfoldable pub silentFolded : List ℕ
 silentFolded = (1 ∷ 1 ∷ 2 ∷ []) ++ ((1 ∷ 1 ∷ 1 ∷ []) ++ ((0 ∷ 0 ∷ 0 ∷ 0 ∷ []) ++ (0 ∷ 0 ∷ 0 ∷ 0 ∷ [])))
 
--- n = m = 1, T = 3, y1 = y2 = 0, y3 = x1
-unfoldable pub delayed : List ℕ
-delayed = 1 ∷ 1 ∷ 3 ∷ 3 ∷ 0 ∷ 0 ∷ 2 ∷ 0 ∷ 0 ∷ 1 ∷ []
-
--- its table
+-- the table of the delayed one
 unfoldable pub delayedFolded : List ℕ
 delayedFolded =
     (1 ∷ 1 ∷ 3 ∷ [])

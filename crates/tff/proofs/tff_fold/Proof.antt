@@ -1,16 +1,12 @@
 -- `tff::tff_fold` meets its contract.
 -- Assumes nothing.
-use mathlib.Core.Path.{ap, _∙_}
-use denote.Ref.{now}
-use Rattle.verdict.specs.declared.Figures.{Figures}
-use Rattle.tff.specs.Answer.{answered}
-use Rattle.tff.proofs.Laws.{no-room, has-room}
+use Rattle.tff.proofs.Laws.{answer-kept, answer-put, buffer-kept, buffer-left}
 use borrow.Author.Needs.{needs}
 use Rattle.tff.proofs.tff_fold.Statement.{statement}
 use Rattle.tff.proofs.tff_fold.Tie as tie
 
 returns : tie.Need-returns
-returns c = (no-room _ 2 _ _ (c .if1 .taken), (no-room _ 2 _ _ (c .if1 .taken), no-room _ 2 _ _ (c .if1 .taken)))
+returns c = (answer-kept _ _ (c .if1 .taken), (buffer-kept _ _ _ (c .if1 .taken), buffer-kept _ _ _ (c .if1 .taken)))
 
 fold-requires : tie.Need-fold-requires
 fold-requires c κs = search needs
@@ -31,10 +27,9 @@ returns-2 : tie.Need-returns-2
 returns-2 c =
     let p = c .before .before in
     let k = p .before .before .before .before .before .before in
-    let e = k .before .before .before in
-    let s = e .before .before .before .before .before in (
-      has-room _ 2 _ _ _ (e .if1 .left) (p .put .ensures ∙ ap (λ (f : Figures). answered f (now (s .args .answer))) (k .fold .ensures .0)),
-      (has-room _ 2 _ _ _ (e .if1 .left) (k .fold .ensures .1 .0), has-room _ 2 _ _ _ (e .if1 .left) (k .fold .ensures .1 .1 .0)),
+    let e = k .before .before .before in (
+      answer-put _ _ _ _ (e .if1 .left) (k .fold .ensures .0) (p .put .ensures),
+      (buffer-left _ _ _ _ (e .if1 .left) (k .fold .ensures .1 .0), buffer-left _ _ _ _ (e .if1 .left) (k .fold .ensures .1 .1 .0)),
     )
 
 pub tff-fold-spec : {M : Type 1} → statement M

@@ -1,16 +1,13 @@
 -- `tff::tff_step` meets its contract.
 -- Assumes nothing.
-use mathlib.Core.Path.{ap, _∙_}
-use denote.Ref.{now}
-use Rattle.steps.specs.declared.StepFigures.{StepFigures}
-use Rattle.tff.specs.Answer.{stepAnswered}
-use Rattle.tff.proofs.Laws.{no-room, has-room}
+use mathlib.Core.Path.{_∙_}
+use Rattle.tff.proofs.Laws.{step-kept, step-put}
 use borrow.Author.Needs.{needs}
 use Rattle.tff.proofs.tff_step.Statement.{statement}
 use Rattle.tff.proofs.tff_step.Tie as tie
 
 returns : tie.Need-returns
-returns c = no-room _ 5 _ _ (c .if1 .taken)
+returns c = step-kept _ _ (c .if1 .taken)
 
 step-requires : tie.Need-step-requires
 step-requires c κs = search needs
@@ -29,8 +26,7 @@ returns-2 c =
     let p = c .before .before in
     let f = p .before .before in
     let k = f .before in
-    let s = k .before .before .before .before in
-    has-room _ 5 _ _ _ (k .before .if1 .left) (p .put-step .ensures ∙ ap (λ (f : StepFigures). stepAnswered f (now (s .args .answer))) (f .figures .ensures ∙ k .step .ensures .0))
+    step-put _ _ _ _ (k .before .if1 .left) (f .figures .ensures ∙ k .step .ensures .0) (p .put-step .ensures)
 
 pub tff-step-spec : {M : Type 1} → statement M
 tff-step-spec =

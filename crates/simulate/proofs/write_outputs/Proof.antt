@@ -1,4 +1,4 @@
--- `circuit::write_outputs` meets its contract. The invariant: the first t words are written, and the rest is as before.
+-- `simulate::write_outputs` meets its contract. The invariant: the first t words are written, and the rest is as before.
 -- Assumes nothing.
 use mathlib.Core.Path.{_≡_, refl, sym, _∙_}
 use mathlib.Core.List.{List, []}
@@ -7,12 +7,12 @@ use native.Mathlib.Omega.{arith}
 use borrow.Author.Needs.{needs}
 use denote.Ref.{now}
 use lib.ListN.{length, take, drop, length-set}
 use Rattle.circuit.specs.Lists.{grown, listed}
 use Rattle.sizes.specs.Sizes.{outputs as outputsOf}
 use Rattle.circuit.specs.Circuit.{gates, gateSignal, outputSignal, outputWord}
 use Rattle.circuit.proofs.Laws.{fill-grown, drop-more, output-first, output-next, output-room, word-is, all-written, signals-fit}
-use Rattle.circuit.proofs.write_outputs.Statement.{statement}
-use Rattle.circuit.proofs.write_outputs.Tie as tie
+use Rattle.simulate.proofs.write_outputs.Statement.{statement}
+use Rattle.simulate.proofs.write_outputs.Tie as tie
 
 abbrev Inv-loop : tie.InvT-loop
 Inv-loop circuit words result₀ values frames outputs at₀ t₀ result at t =

@@ -11,9 +11,10 @@ use Rattle.verdict.proofs.Laws.{stop, go-on, accepts, kept, left}
 use Rattle.sizes.specs.Sizes.{inputs, frames, sequenceChecked}
 use Rattle.sizes.specs.Sized.{Fed}
 use Rattle.sizes.proofs.Laws.{fed}
-use Rattle.circuit.specs.Circuit.{checked, outputWords, simulated, simulationResult}
+use Rattle.circuit.specs.Circuit.{checked, outputWords}
+use Rattle.simulate.specs.Simulate.{simulated, simulationResult}
 use Rattle.circuit.specs.WellFormed.{HeadOf}
 use Rattle.circuit.specs.declared.Head.{Head}
 
 -- the figures and the result of a simulation
 abbrev pub Outcome : (b words before : List ℕ) → Verdict → (after : List ℕ) → Type 0

@@ -1,4 +1,4 @@
--- `circuit::signal_values` meets its contract. The invariant: the values of the signals before gate g are in the array.
+-- `simulate::signal_values` meets its contract. The invariant: the values of the signals before gate g are in the array.
 -- Assumes nothing.
 use mathlib.Core.Path.{_≡_, sym, _∙_}
 use mathlib.Core.List.{List}
@@ -7,11 +7,11 @@ use native.Mathlib.Omega.{arith}
 use borrow.Author.Needs.{needs}
 use denote.Ref.{now}
 use lib.ListN.{length, take, length-set}
 use Rattle.circuit.specs.Limits.{mostSignals}
 use Rattle.circuit.specs.Circuit.{gates, inputValues, gateValue, signalValues}
 use Rattle.circuit.proofs.Laws.{inputs-fit, signals-none, signals-all, values-more}
-use Rattle.circuit.proofs.signal_values.Statement.{statement}
-use Rattle.circuit.proofs.signal_values.Tie as tie
+use Rattle.simulate.proofs.signal_values.Statement.{statement}
+use Rattle.simulate.proofs.signal_values.Tie as tie
 
 abbrev Inv-loop : tie.InvT-loop
 Inv-loop circuit head words count base values₀ g₀ values g =

@@ -1,4 +1,4 @@
--- `circuit::input_values` meets its contract. The invariant: the elements so far are those of the definition.
+-- `simulate::input_values` meets its contract. The invariant: the elements so far are those of the definition.
 -- Assumes nothing.
 use mathlib.Core.Path.{_≡_, refl}
 use mathlib.Core.List.{_∷_, []}
@@ -8,11 +8,11 @@ use native.Mathlib.Nat.{div-le-self, mod-lt, div-lt-iff-lt-mul}
 use native.Mathlib.Omega.{arith}
 use denote.Ref.{now}
 use lib.ListN.{length, getD, take, length-set}
 use Rattle.circuit.specs.Lists.{grown, bit}
 use Rattle.circuit.specs.Circuit.{inputValues}
 use Rattle.circuit.proofs.Laws.{fill-grown}
-use Rattle.circuit.proofs.input_values.Statement.{statement}
-use Rattle.circuit.proofs.input_values.Tie as tie
+use Rattle.simulate.proofs.input_values.Statement.{statement}
+use Rattle.simulate.proofs.input_values.Tie as tie
 
 abbrev Inv-loop : tie.InvT-loop
 Inv-loop words inputs count values₀ i₀ values i =

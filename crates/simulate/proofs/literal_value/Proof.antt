@@ -1,10 +1,10 @@
--- `circuit::literal_value` meets its contract.
+-- `simulate::literal_value` meets its contract.
 -- Assumes nothing.
 use borrow.Author.Tests.{eq-eqb, ne-eqb}
 use Rattle.circuit.specs.Circuit.{literalValue}
 use borrow.Author.Needs.{needs}
-use Rattle.circuit.proofs.literal_value.Statement.{statement}
-use Rattle.circuit.proofs.literal_value.Tie as tie
+use Rattle.simulate.proofs.literal_value.Statement.{statement}
+use Rattle.simulate.proofs.literal_value.Tie as tie
 
 shared-slice-read-value : tie.Need-shared-slice-read-value
 shared-slice-read-value c = search needs

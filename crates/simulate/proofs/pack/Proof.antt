@@ -1,4 +1,4 @@
--- `circuit::pack` meets its contract. The invariant: the word so far is that of the values from j on.
+-- `simulate::pack` meets its contract. The invariant: the word so far is that of the values from j on.
 -- Assumes nothing.
 use mathlib.Core.Path.{_≡_, ap₂, _∙_}
 use mathlib.Core.Bool.{Bool, true, false, cond}
@@ -7,10 +7,10 @@ use native.Mathlib.Omega.{arith}
 use denote.Ref.{now}
 use lib.ListN.{getD, take, drop, length-take}
 use lib.Dec.{lit≤}
 use Rattle.circuit.proofs.Laws.{packed-below, packed-more}
 use Rattle.circuit.specs.Lists.{packed}
-use Rattle.circuit.proofs.pack.Statement.{statement}
-use Rattle.circuit.proofs.pack.Tie as tie
+use Rattle.simulate.proofs.pack.Statement.{statement}
+use Rattle.simulate.proofs.pack.Tie as tie
 
 abbrev Inv-loop : tie.InvT-loop
 Inv-loop values at count word₀ j₀ word j =

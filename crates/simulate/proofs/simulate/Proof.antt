@@ -1,4 +1,4 @@
--- `circuit::simulate` meets its contract: each return is an outcome of the definition.
+-- `simulate::simulate` meets its contract: each return is an outcome of the definition.
 -- Assumes nothing.
 use mathlib.Core.Path.{_≡_}
 use Prim.Native.Nat.{_≤_}
@@ -8,11 +8,11 @@ use denote.Ref.{now}
 use Rattle.verdict.proofs.Laws.{accepts}
 use Rattle.sizes.specs.Sizes.{inputs, frames}
 use Rattle.sizes.specs.Sized.{Fed}
 use Rattle.circuit.proofs.Accepted.{Accepted, well-formed, accepted}
-use Rattle.circuit.proofs.Simulation.{refused-circuit, refused-sequence, sequence-fed, accepted-all}
+use Rattle.simulate.proofs.Simulation.{refused-circuit, refused-sequence, sequence-fed, accepted-all}
 use borrow.Author.Needs.{needs}
-use Rattle.circuit.proofs.simulate.Statement.{statement}
-use Rattle.circuit.proofs.simulate.Tie as tie
+use Rattle.simulate.proofs.simulate.Statement.{statement}
+use Rattle.simulate.proofs.simulate.Tie as tie
 
 check-requires : tie.Need-check-requires
 check-requires c κs = search needs

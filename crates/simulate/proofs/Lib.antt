@@ -1,0 +1,2 @@
+-- The proofs of `simulate`.
+pub mod Simulation
