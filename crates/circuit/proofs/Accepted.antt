@@ -6,12 +6,12 @@ use Prim.Native.Nat.{ℕ, _+_, _*_, _≤_, _<_, zero-le}
 use native.Mathlib.Omega.{arith}
 use lib.ListN.{length}
 use lib.Dec.{ltb, eqb}
-use borrow.Author.Tests.{eqb-true}
+use borrow.Author.Tests.{eqb-true, not-false}
 use Rattle.verdict.specs.Judgements.{answer}
 use Rattle.verdict.proofs.Laws.{both-accept, passed, none-found}
 use Rattle.sizes.specs.Sizes.{inputs, outputs, frames, outside, sizesChecked}
 use Rattle.sizes.specs.Sized.{Sized}
-use Rattle.sizes.proofs.Laws.{inside, sized, not-false}
+use Rattle.sizes.proofs.Laws.{inside, sized}
 use Rattle.circuit.specs.Circuit.{gates, leftsAt, rightsAt, circuitLength, literalAt, allInputs, allOutputs, admissible, headChecked, literalsChecked, lookAheadChecked, looksAhead, checked}
 use Rattle.circuit.specs.WellFormed.{CircuitHeaded, HeadOf, LegalGates, WellFormed}
 use Rattle.circuit.specs.declared.Head.{Head}
@@ -48,7 +48,7 @@ pub all-admissible : (b : List ℕ) (start p : ℕ) → literalsChecked b start 
 unfolding literalsChecked
 all-admissible b start p e g h =
     not-false _
-    (none-found (λ g. not (admissible b g (literalAt b start g))) 3 (λ g. start + 2 * g) (answer 0 0) p 0 (gates b) refl e .0 g zero-le (omega arith))
+    (none-found (λ g. not (admissible b g (literalAt b start g))) 3 _ (answer 0 0) p 0 (gates b) refl e .0 g zero-le (omega arith))
 
 pub legal : (b : List ℕ) (p q : ℕ) → literalsChecked b (leftsAt b) ≡ answer 0 p → literalsChecked b (rightsAt b) ≡ answer 0 q → LegalGates b
 legal b p q el er = record { left = all-admissible b (leftsAt b) p el; right = all-admissible b (rightsAt b) q er }
@@ -56,7 +56,7 @@ legal b p q el er = record { left = all-admissible b (leftsAt b) p el; right = a
 -- no output looks ahead
 pub none-ahead : (b : List ℕ) (p : ℕ) → lookAheadChecked b ≡ answer 0 p → (q : ℕ) → q < allOutputs b → looksAhead b q ≡ false
 unfolding lookAheadChecked
-none-ahead b p e q h = none-found (looksAhead b) 4 (λ q. q) (answer 0 0) p 0 (allOutputs b) refl e .0 q zero-le (omega arith)
+none-ahead b p e q h = none-found (looksAhead b) 4 _ (answer 0 0) p 0 (allOutputs b) refl e .0 q zero-le (omega arith)
 
 -- all that a circuit's acceptance tells
 pub record Accepted (b : List ℕ) : Type 0 where

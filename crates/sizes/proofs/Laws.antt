@@ -8,10 +8,11 @@ use native.Mathlib.Omega.{arith}
 use lib.ListN.{length, getD}
 use lib.Pow.{shl-exact}
 use lib.Dec.{ltb, leb, eqb, lit<}
-use borrow.Author.Tests.{ltb-false, le-ltb, leb-false, eqb-true}
+use borrow.Author.Tests.{ltb-false, le-ltb, leb-false, eqb-true, not-false}
 use Rattle.verdict.specs.Judgements.{answer}
 use Rattle.verdict.specs.declared.Figures.{Figures}
 use Rattle.verdict.proofs.Laws.{both-accept, passed, none-found}
+use Rattle.sizes.specs.Limits.{mostOutputs, mostFrames, mostBits}
 use Rattle.sizes.specs.Sizes.{outside, sizesChecked, wordsChecked, sequenceChecked}
 use Rattle.sizes.specs.Sized.{Sized, Fed}
 
@@ -30,7 +31,7 @@ inside low high x e =
     (ltb-false x low (s .0), ltb-false high x (s .1))
 
 -- `1 << n`, at 64 bits
-pub power-is : (n : ℕ) → n ≤ 16 → (1 * 2 ^ n) % 2 ^ 64 ≡ 2 ^ n
+pub power-is : (n : ℕ) → n ≤ mostBits → (1 * 2 ^ n) % 2 ^ 64 ≡ 2 ^ n
 power-is n h = shl-exact {a = 1} 1 n 64 (lit< tt) (omega arith) ∙ one-mul (2 ^ n)
 
 -- ---- acceptance
@@ -38,13 +39,13 @@ power-is n h = shl-exact {a = 1} 1 n 64 (lit< tt) (omega arith) ∙ one-mul (2 ^
 pub sized : (most n m T p : ℕ) → sizesChecked most n m T ≡ answer 0 p → Sized most n m T
 unfolding sizesChecked
 sized most n m T p e =
-    let e₁ = passed (outside 1 most n) 2 0 _ p refl e in
-    let e₂ = passed (outside 1 16 m) 2 2 _ p refl (e₁ .1) in
-    let e₃ = passed (outside 1 16 T) 2 4 _ p refl (e₂ .1) in
-    let e₄ = passed (ltb 16 (n * T)) 2 4 _ p refl (e₃ .1) in
+    let e₁ = passed (outside 1 most n) 2 _ _ p refl e in
+    let e₂ = passed (outside 1 mostOutputs m) 2 _ _ p refl (e₁ .1) in
+    let e₃ = passed (outside 1 mostFrames T) 2 _ _ p refl (e₂ .1) in
+    let e₄ = passed (ltb mostBits (n * T)) 2 _ _ p refl (e₃ .1) in
     let i₁ = inside 1 most n (e₁ .0) in
-    let i₂ = inside 1 16 m (e₂ .0) in
-    let i₃ = inside 1 16 T (e₃ .0) in
+    let i₂ = inside 1 mostOutputs m (e₂ .0) in
+    let i₃ = inside 1 mostFrames T (e₃ .0) in
     record {
       inputs-from = i₁ .0;
       inputs-to = i₁ .1;
@@ -52,12 +53,8 @@ sized most n m T p e =
       outputs-to = i₂ .1;
       frames-from = i₃ .0;
       frames-to = i₃ .1;
-      bits-to = ltb-false 16 (n * T) (e₄ .0);
+      bits-to = ltb-false mostBits (n * T) (e₄ .0);
     }
-
-pub not-false : (t : Bool) → not t ≡ false → t ≡ true
-not-false true e = refl
-not-false false e = sym e
 
 -- the words are T, each below 2^n, there is room for T, and T is the place
 pub fed : (n T : ℕ) (words : List ℕ) (room p : ℕ) → sequenceChecked n T words room ≡ answer 0 p → Fed n T words × (T ≤ room) × (p ≡ T)
@@ -67,7 +64,7 @@ fed n T words room p e =
     let l : length words ≡ T = eqb-true _ T (not-false _ (e₁ .0)) in
     let e₂ = both-accept (wordsChecked n words) _ p (e₁ .1) in
     let e₃ = passed (ltb room T) 7 T _ p refl (e₂ .2) in
-    let f = none-found (λ t. leb (2 ^ n) (getD words t 0)) 9 (λ t. t) (answer 0 0) (e₂ .0) 0 (length words) refl (e₂ .1) in (
+    let f = none-found (λ t. leb (2 ^ n) (getD words t 0)) 9 _ (answer 0 0) (e₂ .0) 0 (length words) refl (e₂ .1) in (
       record { as-many = l; below = λ t h. leb-false _ _ (f .0 t zero-le (omega arith)) },
       ltb-false room T (e₃ .0),
       sym (ap (λ (f : Figures). f .place) (e₃ .1)),
@@ -82,4 +79,4 @@ not-outside low high x l h = rw (le-ltb x low l, le-ltb high x h)
 pub sizes-pass : (most n m T : ℕ) → Sized most n m T → sizesChecked most n m T ≡ answer 0 0
 unfolding sizesChecked
 sizes-pass most n m T Z =
-    rw (not-outside 1 most n (Z .inputs-from) (Z .inputs-to), not-outside 1 16 m (Z .outputs-from) (Z .outputs-to), not-outside 1 16 T (Z .frames-from) (Z .frames-to), le-ltb 16 (n * T) (Z .bits-to))
+    rw (not-outside 1 most n (Z .inputs-from) (Z .inputs-to), not-outside 1 mostOutputs m (Z .outputs-from) (Z .outputs-to), not-outside 1 mostFrames T (Z .frames-from) (Z .frames-to), le-ltb mostBits (n * T) (Z .bits-to))

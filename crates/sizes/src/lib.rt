@@ -102,15 +102,8 @@ pub fn check_sequence(words: &[u16], inputs: usize, frames: usize, room: usize) 
     requires { ⌜ inputs ≤ mostBits ⌝ }
     ensures { λ r. ⌜ figures r ≡ sequenceChecked inputs frames (now (words .entry)) room ⌝ }
 {
-    if words.len() != frames {
-        return Verdict::Refused(Refusal::Count(words.len()));
-    }
+    let counted = Verdict::refuse_if(words.len() != frames, Refusal::Count(words.len()), 0);
     let small = check_words(words, inputs);
-    let Verdict::Accepted(_) = small else {
-        return small;
-    };
-    if room < frames {
-        return Verdict::Refused(Refusal::Room(frames));
-    }
-    Verdict::Accepted(frames)
+    let roomy = Verdict::refuse_if(room < frames, Refusal::Room(frames), frames);
+    counted.and_then(small.and_then(roomy))
 }

@@ -25,10 +25,15 @@ runResult b words before = resultAfter (ran b words (length before)) (feed (mach
 
 -- ---- step
 
+-- 11: the table has no such position
+unfoldable pub placeChecked : List ℕ → (layer state : ℕ) → Figures
+placeChecked b layer state = refuse (ltb (frames b) layer || leb (states b layer) state) 11 layer (answer 0 0)
+
 -- 11, 10, 9
 unfoldable pub positionChecked : List ℕ → (layer state word : ℕ) → Figures
+unfolding placeChecked
 positionChecked b layer state word =
-    refuse (ltb (frames b) layer || leb (states b layer) state) 11 layer
+    andThen (placeChecked b layer state)
     (refuse (eqb layer (frames b)) 10 (frames b)
     (refuse (leb (2 ^ inputs b) word) 9 0
     (answer 0 0)))

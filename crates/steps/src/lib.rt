@@ -16,7 +16,7 @@ ghost use Rattle.verdict.specs.Judgements.{figures, answer};
 ghost use Rattle.sizes.specs.Sizes.{inputs, frames};
 ghost use Rattle.table.specs.Table.{states};
 ghost use Rattle.table.specs.Sound.{TableHeaded, layoutOf};
-ghost use Rattle.steps.specs.Steps.{positionChecked, entryChecked, stepAfter, stepped, stepFigures, ran, runResult};
+ghost use Rattle.steps.specs.Steps.{placeChecked, positionChecked, entryChecked, stepAfter, stepped, stepFigures, ran, runResult};
 ghost use Rattle.steps.specs.Theorems.{RunFeeds, StepReaches, StepsFeed};
 
 // A position: a layer, and a state of it.
@@ -84,27 +84,31 @@ impl Stepped {
     }
 }
 
+// Number 11: the table has no such position.
+fn check_place(table: &[u8], layout: Layout, position: Position) -> Verdict
+    requires { ⌜ TableHeaded (now table) ⌝ }
+    requires { ⌜ layout ≡ layoutOf (now table) ⌝ }
+    ensures { λ r. ⌜ figures r ≡ placeChecked (now (table .entry)) (position .layer) (position .state) ⌝ }
+{
+    let layer = position.layer;
+    let state = position.state;
+    if layout.frames < layer {
+        return Verdict::Refused(Refusal::Position(layer));
+    }
+    Verdict::refuse_if(states_of(table, layer) <= state, Refusal::Position(layer), 0)
+}
+
 // Numbers 11, 10 and 9, of a step.
 fn check_position(table: &[u8], layout: Layout, position: Position, word: usize) -> Verdict
     requires { ⌜ TableHeaded (now table) ⌝ }
     requires { ⌜ layout ≡ layoutOf (now table) ⌝ }
     ensures { λ r. ⌜ figures r ≡ positionChecked (now (table .entry)) (position .layer) (position .state) word ⌝ }
 {
-    let layer = position.layer;
     let last = layout.frames;
-    if last < layer {
-        return Verdict::Refused(Refusal::Position(layer));
-    }
-    if states_of(table, layer) <= position.state {
-        return Verdict::Refused(Refusal::Position(layer));
-    }
-    if layer == last {
-        return Verdict::Refused(Refusal::End(last));
-    }
-    if layout.words <= word {
-        return Verdict::Refused(Refusal::Word(0));
-    }
-    Verdict::Accepted(0)
+    let placed = check_place(table, layout, position);
+    let ended = Verdict::refuse_if(position.layer == last, Refusal::End(last), 0);
+    let small = Verdict::refuse_if(layout.words <= word, Refusal::Word(0), 0);
+    placed.and_then(ended.and_then(small))
 }
 
 // A step by the one entry of a position and a word, and number 5 of that entry, output before next state.

@@ -37,7 +37,7 @@ table-checked b = table.checked b
 -- ---- the test
 
 pub vectors-hold : hold rows ≡ true
-unfolding hold rows circuit-checked folded-bytes table-checked folded.foldChecked folded.foldResult folded.foldScratch folded.scratchNeeded unfolded.unfoldResult steps.stepped steps.stepChecked steps.positionChecked steps.entryChecked
+unfolding hold rows circuit-checked folded-bytes table-checked folded.foldChecked folded.foldResult folded.foldScratch folded.scratchNeeded unfolded.unfoldResult steps.stepped steps.stepChecked steps.positionChecked steps.placeChecked steps.entryChecked
 vectors-hold = refl
 
 -- ---- what it shows

@@ -64,6 +64,11 @@ pub passed : (t : Bool) (k p : ℕ) (f : Figures) (q : ℕ) → eqb k 0 ≡ fals
 passed true k p f q z e = absurd (eqb-false k 0 z (ap (λ (f : Figures). f .number) e))
 passed false k p f q z e = (refl, e)
 
+-- one judgement and then others
+pub refuse-then : (t : Bool) (k p : ℕ) (f : Figures) → eqb k 0 ≡ false → andThen (refuse t k p (answer 0 0)) f ≡ refuse t k p f
+refuse-then true k p f z = rw z
+refuse-then false k p f z = refl
+
 -- ---- the first index at which a test holds: a loop that looks from k on, of n in all
 
 module _ (test : ℕ → Bool) (number : ℕ) (place : ℕ → ℕ) (rest : Figures) where

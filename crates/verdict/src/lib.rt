@@ -1,6 +1,7 @@
 // What every call answers: accepted with a place, or refused for one of document 01's reasons, each with its place.
 ghost use mathlib.Core.Path.{_≡_};
-ghost use Rattle.verdict.specs.Judgements.{figures, refusalFigures};
+ghost use mathlib.Core.Bool.{cond};
+ghost use Rattle.verdict.specs.Judgements.{answer, figures, refusalFigures, andThen};
 
 pub enum Verdict {
     Accepted(usize),
@@ -51,6 +52,27 @@ impl Refusal {
 }
 
 impl Verdict {
+    // One judgement: refused where the test holds, else accepted with this place.
+    pub fn refuse_if(test: bool, refusal: Refusal, place: usize) -> Verdict
+        ensures { λ r. ⌜ figures r ≡ cond test (refusalFigures refusal) (answer 0 place) ⌝ }
+    {
+        if test {
+            Verdict::Refused(refusal)
+        } else {
+            Verdict::Accepted(place)
+        }
+    }
+
+    // This judgement if it refuses, else the next.
+    pub fn and_then(self, next: Verdict) -> Verdict
+        ensures { λ r. ⌜ figures r ≡ andThen (figures self) (figures next) ⌝ }
+    {
+        if let Verdict::Refused(_) = self {
+            return self;
+        }
+        next
+    }
+
     pub fn figures(self) -> Figures
         ensures { λ r. ⌜ r ≡ figures self ⌝ }
     {

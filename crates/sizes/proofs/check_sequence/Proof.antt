@@ -1,47 +1,50 @@
--- `sizes::check_sequence` meets its contract.
+-- `sizes::check_sequence` meets its contract: its judgements follow one another as the definition's do.
 -- Assumes nothing.
-use mathlib.Core.Path.{refl}
-use borrow.Author.Tests.{lt-ltb, le-ltb, eq-eqb, ne-eqb}
-use Rattle.verdict.proofs.Laws.{stop, go-on}
-use Rattle.sizes.specs.Sizes.{sequenceChecked}
+use mathlib.Core.Path.{refl, ap₂, _∙_}
+use mathlib.Core.Bool.{not}
 use borrow.Author.Needs.{needs}
+use denote.Ref.{now}
+use lib.Dec.{ltb, eqb}
+use lib.ListN.{length}
+use Rattle.verdict.specs.Judgements.{answer, refuse, andThen}
+use Rattle.verdict.proofs.Laws.{refuse-then}
+use Rattle.sizes.specs.Sizes.{wordsChecked, sequenceChecked}
 use Rattle.sizes.proofs.check_sequence.Statement.{statement}
 use Rattle.sizes.proofs.check_sequence.Tie as tie
 
-returns : tie.Need-returns
-unfolding sequenceChecked
-returns c = simp (ne-eqb _ _ (c .if1 .taken))
+refuse-if-requires : tie.Need-refuse-if-requires
+refuse-if-requires c κs = search needs
 
 check-words-requires : tie.Need-check-words-requires
 check-words-requires c κs = search needs
 
-enum-told : tie.Need-enum-told
-enum-told c = search needs
+refuse-if-requires-2 : tie.Need-refuse-if-requires-2
+refuse-if-requires-2 c κs = search needs
 
-enum-told-2 : tie.Need-enum-told-2
-enum-told-2 c = search needs
+and-then-requires : tie.Need-and-then-requires
+and-then-requires c κs = search needs
 
-returns-2 : tie.Need-returns-2
+and-then-requires-2 : tie.Need-and-then-requires-2
+and-then-requires-2 c κs = search needs
+
+returns : tie.Need-returns
 unfolding sequenceChecked
-returns-2 c =
-    let w = c .before .before in
-    rw (eq-eqb _ _ (w .before .if1 .left)) (stop (w .check-words .result) _ _ (c .enum-told2 .given .0 .0) (w .check-words .ensures) (c .enum-told2 .given .1))
-
-returns-3 : tie.Need-returns-3
-unfolding sequenceChecked
-returns-3 c =
-    let e = c .before in
-    let w = e .before .before in
-    rw (eq-eqb _ _ (w .before .if1 .left), lt-ltb _ _ (c .if2 .taken)) (go-on (w .check-words .result) _ _ _ (e .enum-told .given .0 .0) (w .check-words .ensures) (e .enum-told .given .1) refl)
-
-returns-4 : tie.Need-returns-4
-unfolding sequenceChecked
-returns-4 c =
-    let e = c .before in
-    let w = e .before .before in
-    rw (eq-eqb _ _ (w .before .if1 .left), le-ltb _ _ (c .if2 .left)) (go-on (w .check-words .result) _ _ _ (e .enum-told .given .0 .0) (w .check-words .ensures) (e .enum-told .given .1) refl)
+returns c =
+    let r = c .before .before in
+    let w = r .before in
+    let a = w .before .before .before .args in
+    let ws = now (a .words) in
+    c .and-then2 .ensures
+    ∙ ap₂ andThen (w .before .refuse-if .ensures) (c .before .and-then .ensures ∙ ap₂ andThen (w .check-words .ensures) (r .refuse-if2 .ensures))
+    ∙ refuse-then (not (eqb (length ws) (a .frames))) 12 (length ws) (andThen (wordsChecked (a .inputs) ws) (refuse (ltb (a .room) (a .frames)) 7 (a .frames) (answer 0 (a .frames)))) refl
 
 pub check-sequence-spec : {M : Type 1} → statement M
 check-sequence-spec =
     tie.close
-    (tie.spec returns check-words-requires enum-told enum-told-2 returns-2 returns-3 returns-4)
+    (tie.spec
+    refuse-if-requires
+    check-words-requires
+    refuse-if-requires-2
+    and-then-requires
+    and-then-requires-2
+    returns)
