@@ -17,7 +17,7 @@ use Rattle.circuit.specs.WellFormed.{CircuitHeaded, HeadOf, LegalGates, 
 use Rattle.circuit.specs.declared.Head.{Head}
 
 -- the limits hold for a larger limit on n
-pub widen : {a c n m T : ℕ} → a ≤ c → Sized a n m T → Sized c n m T
+widen : {a c n m T : ℕ} → a ≤ c → Sized a n m T → Sized c n m T
 widen h z = record {
   inputs-from = z .inputs-from;
   inputs-to = omega arith;
@@ -44,7 +44,7 @@ module _ (b : List ℕ) (p : ℕ) where
       )
 
 -- each literal of an array that is accepted is admissible
-pub all-admissible : (b : List ℕ) (start p : ℕ) → literalsChecked b start ≡ answer 0 p → (g : ℕ) → g < gates b → admissible b g (literalAt b start g) ≡ true
+all-admissible : (b : List ℕ) (start p : ℕ) → literalsChecked b start ≡ answer 0 p → (g : ℕ) → g < gates b → admissible b g (literalAt b start g) ≡ true
 unfolding literalsChecked
 all-admissible b start p e g h =
     not-false _

@@ -7,7 +7,7 @@ use native.Mathlib.Nat.{mul-comm, mul-zero, mul-suc, mul-le-mul-left, lt-of-lt-o
 use native.Mathlib.Numerals.{add-one}
 use native.Mathlib.Omega.{arith}
 use lib.ListN.{length, getD, take, drop, set, length-append, take-append-drop}
-use lib.Seq.{take-suc-set, getD-take, drop-cons, take-take, take-nil, drop-set-lt, drop-drop}
+use lib.Seq.{take-suc-set, getD-take, drop-cons, take-take, take-nil}
 use lib.Pow.{pow-mono}
 use lib.Dec.{ltb, lit<}
 use borrow.Author.Tests.{ltb-true, lt-ltb, le-ltb}
@@ -148,10 +148,6 @@ module _ {A : Type 0} where
   window [] n (suc at) m h = rw (take-nil n) refl
   window (x ∷ v) zero (suc at) m h = absurd (omega arith)
   window (x ∷ v) (suc n) (suc at) m h = window v n at m (omega arith)
-
-  -- a store at t leaves what comes after it
-  pub drop-more : (l l₀ : List A) (t : ℕ) (x : A) → drop t l ≡ drop t l₀ → drop (t + 1) (set l t x) ≡ drop (t + 1) l₀
-  drop-more l l₀ t x e = drop-set-lt (t + 1) l t x (omega arith) ∙ sym (drop-drop 1 t l) ∙ ap (drop 1) e ∙ drop-drop 1 t l₀
 
 module _ (b : List ℕ) where
   pub output-at : (base g total q : ℕ) → base ≡ 1 + allInputs b → g ≡ gates b → total ≡ allOutputs b → base + (g - total) + q ≡ outputSignal b q

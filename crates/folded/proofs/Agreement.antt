@@ -16,7 +16,7 @@ pub record Agree (K T : ℕ) (M N : Machine) : Type 0 where
   pub outs-are : (t s w : ℕ) → t < T → s < M .states t → w < K → M .out t s w ≡ N .out t s w
   pub nexts-are : (t s w : ℕ) → t < T → s < M .states t → w < K → M .next t s w ≡ N .next t s w
 
-pub agree-sym : {K T : ℕ} (M N : Machine) → Agree K T M N → Agree K T N M
+agree-sym : {K T : ℕ} (M N : Machine) → Agree K T M N → Agree K T N M
 agree-sym M N A = record {
   states-are = λ t b. sym (A .states-are t b);
   start-is = sym (A .start-is);
@@ -25,7 +25,7 @@ agree-sym M N A = record {
 }
 
 -- it is renumbered by the identity
-pub agree-renumbered : {K T : ℕ} (M N : Machine) → Agree K T M N → Renumbered K T M N
+agree-renumbered : {K T : ℕ} (M N : Machine) → Agree K T M N → Renumbered K T M N
 agree-renumbered M N A = record {
   there = λ t s. s;
   back = λ t s. s;
@@ -44,7 +44,7 @@ agree-renumberings M N P A =
     ((λ R. renumbered-trans N M P (agree-renumbered N M (agree-sym M N A)) R), (λ R. renumbered-trans M N P (agree-renumbered M N A) R))
 
 module _ {K m T : ℕ} (M N : Machine) (L : Legal K m T M) (A : Agree K T M N) where
-  pub agree-feed : {r : ℕ} {c : List ℕ} (t s : ℕ) → r ≡ T - t → s < M .states t → Words K r c → feed N t s c ≡ feed M t s c
+  agree-feed : {r : ℕ} {c : List ℕ} (t s : ℕ) → r ≡ T - t → s < M .states t → Words K r c → feed N t s c ≡ feed M t s c
   unfolding agree-renumbered
   agree-feed t s e l W = renumbered-feed M N L (agree-renumbered M N A) t s e l W
 

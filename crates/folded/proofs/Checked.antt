@@ -1,28 +1,26 @@
 -- What passes the check of a table: exactly the bytes of the right length whose machine is legal and within the limits.
 use mathlib.Core.Path.{_≡_, refl, ap, _∙_}
-use mathlib.Core.Bool.{Bool, true, false, not, _||_, cond}
+use mathlib.Core.Bool.{Bool, true, false, _||_, cond}
 use mathlib.Core.List.{List}
-use Prim.Native.Nat.{ℕ, zero, suc, _+_, _*_, _/_, _%_, _^_, _≤_, _<_, zero-le}
-use native.Mathlib.Nat.{le-refl, le-trans, div-lt-iff-lt-mul, div-add-mod', mod-lt}
+use Prim.Native.Nat.{ℕ, zero, suc, _+_, _*_, _/_, _%_, _^_, _≤_, _<_}
+use native.Mathlib.Nat.{div-lt-iff-lt-mul, div-add-mod', mod-lt}
 use native.Mathlib.Omega.{arith}
-use lib.Dec.{ltb, leb, eqb}
+use lib.Dec.{eqb}
 use lib.Pow.{pow-pos}
-use lib.Arith.{digits-lt}
-use lib.ListN.{length, take, drop, length-take, length-drop}
-use borrow.Author.Tests.{le-ltb, lt-leb, eq-eqb, eqb-true, leb-false, not-false}
+use lib.ListN.{length, take, drop, length-take}
+use borrow.Author.Tests.{le-ltb, lt-leb, eq-eqb, eqb-true}
 use Rattle.words.specs.Words.{wordAt}
-use Rattle.verdict.specs.Judgements.{answer, andThen}
-use Rattle.verdict.specs.declared.Figures.{Figures}
-use Rattle.verdict.proofs.Laws.{both-accept, passed, none-found, row-accepts, finds-none, all-accept}
-use Rattle.sizes.specs.Sizes.{inputs, outputs, frames, outside, sizesChecked}
+use Rattle.verdict.specs.Judgements.{answer}
+use Rattle.verdict.proofs.Laws.{finds-none, all-accept}
+use Rattle.sizes.specs.Sizes.{inputs, outputs, frames}
 use Rattle.sizes.specs.Sized.{Sized}
-use Rattle.sizes.proofs.Laws.{inside, sized, not-outside, sizes-pass}
+use Rattle.sizes.proofs.Laws.{sized, not-outside, sizes-pass}
 use Rattle.table.specs.Table.{countAt, states, headLength, entriesBelow, entryCount, outputsAt, nextsAt, tableLength, layerPart, entryAt, machine, countsChecked, headChecked, partChecked, outputsChecked, nextsChecked, checked}
 use Rattle.table.proofs.Offsets.{part-word}
 use Rattle.table.proofs.Accepted.{sound}
 use Rattle.layered.specs.Machines.{Machine, Legal}
 use Rattle.layered.specs.Search.{total}
-use Rattle.folded.proofs.Places.{before, layer-within, place-below, entry-at}
+use Rattle.folded.proofs.Places.{before, entry-at}
 
 -- ---- tables
 

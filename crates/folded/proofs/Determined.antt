@@ -31,11 +31,11 @@ use Rattle.folded.proofs.Theorems.{folding}
 -- ---- counts
 
 -- a folding's machine is within the limits
-pub folding-writable : (b t : List ℕ) → Folding (2 ^ inputs b) (outputs b) (frames b) b t → Writable (inputs b) (outputs b) (frames b) (machine t)
+folding-writable : (b t : List ℕ) → Folding (2 ^ inputs b) (outputs b) (frames b) b t → Writable (inputs b) (outputs b) (frames b) (machine t)
 folding-writable b t F = subst₃ (λ n m T. Writable n m T (machine t)) (F .same-inputs) (F .same-outputs) (F .same-frames) (passed-table t 0 (F .legal) .1)
 
 -- invented layer counts: all foldings of a circuit have the same
-pub counts-determined : (b t u : List ℕ) → Folding (2 ^ inputs b) (outputs b) (frames b) b t → Folding (2 ^ inputs b) (outputs b) (frames b) b u
+counts-determined : (b t u : List ℕ) → Folding (2 ^ inputs b) (outputs b) (frames b) b t → Folding (2 ^ inputs b) (outputs b) (frames b) b u
     → (k : ℕ) → k ≤ frames b → states t k ≡ states u k
 counts-determined b t u F G k h =
     le-antisymm
@@ -153,18 +153,18 @@ module _
           ∙ reached-append (machine t) 0 0 c (w ∷ [])
           ∙ ap₂ (λ i q. machine t .next i q w) p (rep-state k g s l)
 
-    pub folding-agrees : Agree K T (folded K T y) (machine t)
+    folding-agrees : Agree K T (folded K T y) (machine t)
     folding-agrees = record { states-are = count-is; start-is = refl; outs-are = out-is; nexts-are = next-is }
 
 -- ---- the bytes
 
 module _ (b t : List ℕ) (C : Causal b) (F : Folding (2 ^ inputs b) (outputs b) (frames b) b t) where
   -- the machine of a folding is the circuit's table
-  pub machine-determined : Agree (2 ^ inputs b) (frames b) (foldedMachine b) (machine t)
+  machine-determined : Agree (2 ^ inputs b) (frames b) (foldedMachine b) (machine t)
   machine-determined = folding-agrees (2 ^ inputs b) (outputs b) (frames b) b t (response b) (C .follows) (C .below) F (folding-writable b t F .is-legal)
 
   -- and its bytes are the table's
-  pub bytes-determined : Below 256 t → t ≡ foldedBytes b
+  bytes-determined : Below 256 t → t ≡ foldedBytes b
   unfolding foldedBytes tableBytes
   bytes-determined B =
       let p = bytes-are t B (passed-table t 0 (F .legal) .0) in
@@ -173,6 +173,6 @@ module _ (b t : List ℕ) (C : Causal b) (F : Folding (2 ^ inputs b) (outputs b)
       p ∙ q ∙ sym (agree-bytes (inputs b) (outputs b) (frames b) (foldedMachine b) (machine t) machine-determined)
 
 -- so of all lists of bytes exactly one is a folding of a circuit that passes its check
-pub determined : (b t : List ℕ) → Causal b → Sized 8 (inputs b) (outputs b) (frames b)
+determined : (b t : List ℕ) → Causal b → Sized 8 (inputs b) (outputs b) (frames b)
     → (Folding (2 ^ inputs b) (outputs b) (frames b) b t × Below 256 t) ↔ (t ≡ foldedBytes b)
 determined b t C Z = ((λ F. bytes-determined b t C (F .0) (F .1)), (λ e. rw e (folding b C Z, folded-below b)))

@@ -19,7 +19,7 @@ unfolding historyNumber
 numbered-append K h [] d = refl
 numbered-append K h (w ∷ c) d = numbered-append K (h * K + w) c d
 
-pub numbered-below : {K k : ℕ} {c : List ℕ} (t h : ℕ) → h < K ^ t → Words K k c → historyNumber K h c < K ^ (t + k)
+numbered-below : {K k : ℕ} {c : List ℕ} (t h : ℕ) → h < K ^ t → Words K k c → historyNumber K h c < K ^ (t + k)
 unfolding historyNumber
 numbered-below {K} t h l none = subst (λ r. h < K ^ r) (omega arith) l
 numbered-below {K} t h l (more {k = k} {w = w} {c = c} b W) =
@@ -47,7 +47,7 @@ number-words K t h l = by-words (λ k g. Words K k (historyWords K k g) × (hist
 -- ---- outputs
 
 -- what follows a history's outputs
-pub outputs-after : (K : ℕ) (y : ℕ → ℕ → ℕ) (t h : ℕ) (c e : List ℕ) → drop (length c) (outputs K y t h (c ++ e)) ≡ outputs K y (t + length c) (historyNumber K h c) e
+outputs-after : (K : ℕ) (y : ℕ → ℕ → ℕ) (t h : ℕ) (c e : List ℕ) → drop (length c) (outputs K y t h (c ++ e)) ≡ outputs K y (t + length c) (historyNumber K h c) e
 unfolding outputs historyNumber
 outputs-after K y t h [] e = ap (λ k. outputs K y k h e) (omega arith)
 outputs-after K y t h (w ∷ c) e =

@@ -16,7 +16,6 @@ use Rattle.verdict.specs.declared.Refusal.{Refusal}
 use Rattle.verdict.proofs.Laws.{never, stop, both-accept, passed}
 use Rattle.sizes.specs.Sizes.{inputs, outputs, frames, outside, sizesChecked}
 use Rattle.sizes.specs.Sized.{Sized}
-use Rattle.sizes.proofs.Laws.{sized}
 use Rattle.circuit.specs.Circuit.{gates, leftsAt, rightsAt, circuitLength, allOutputs, headChecked, literalsChecked, lookAheadChecked, checked}
 use Rattle.circuit.proofs.Accepted.{accepted as circuitAccepted}
 use Rattle.folded.specs.Folded.{foldedBytes, scratchNeeded, foldChecked, foldResult, foldScratch}
@@ -66,7 +65,7 @@ unfolding lookAheadChecked
 ahead-number b = under-first 5 _ 4 _ (answer 0 0) 0 (allOutputs b) (lit< tt) (lit< tt)
 
 -- it is 4 at most, so never 7
-pub circuit-number : (b : List ℕ) → checked b .number < 5
+circuit-number : (b : List ℕ) → checked b .number < 5
 unfolding checked
 circuit-number b =
     under-then 5 (headChecked 8 b) _ (head-number 8 b)

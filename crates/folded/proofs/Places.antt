@@ -14,7 +14,7 @@ abbrev pub before : (K : ℕ) → Machine → (t : ℕ) → ℕ
 before K M t = total t (λ t. M .states t * K)
 
 -- a layer's entries are among all
-pub layer-within : (K T : ℕ) (M : Machine) (t : ℕ) → t < T → before K M t + M .states t * K ≤ before K M T
+layer-within : (K T : ℕ) (M : Machine) (t : ℕ) → t < T → before K M t + M .states t * K ≤ before K M T
 unfolding total
 layer-within K T M t b = total-le (suc t) T (λ t. M .states t * K) b
 

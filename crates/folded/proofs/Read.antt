@@ -28,7 +28,7 @@ states-tabulate K n f =
     ∙ ap (λ i. tabulate i f) (total-each n K)
 
 -- all entries
-pub entries-tabulate : (K T : ℕ) (S f : ℕ → ℕ) → entries K T S (λ t s w. f (total t (λ t. S t * K) + (s * K + w))) ≡ tabulate (total T (λ t. S t * K)) f
+entries-tabulate : (K T : ℕ) (S f : ℕ → ℕ) → entries K T S (λ t s w. f (total t (λ t. S t * K) + (s * K + w))) ≡ tabulate (total T (λ t. S t * K)) f
 unfolding entries
 entries-tabulate K T S f =
     join-cong T _ _ (λ t b. states-tabulate K (S t) (λ j. f (total t (λ t. S t * K) + j))) ∙ join-tabulate T (λ t. S t * K) f
@@ -41,7 +41,7 @@ unfolding bytesOf
 word-bytes x y l k = ap₂ (λ a b. a ∷ b ∷ []) (omega arith) (omega arith)
 
 -- the bytes of the first c words
-pub words-back : (b : List ℕ) → Below 256 b → (c : ℕ) → 2 * c ≤ length b → allBytes 2 (tabulate c (λ i. wordAt b (2 * i))) ≡ take (2 * c) b
+words-back : (b : List ℕ) → Below 256 b → (c : ℕ) → 2 * c ≤ length b → allBytes 2 (tabulate c (λ i. wordAt b (2 * i))) ≡ take (2 * c) b
 unfolding allBytes tabulate join
 words-back b B zero h = refl
 words-back b B (suc c) h =

@@ -58,7 +58,7 @@ module _ (K T : ℕ) (y : ℕ → ℕ → ℕ) where
       go (no n) = omega arith
 
   -- the smallest history that has the number s is the smallest of its class
-  pub history-smallest : (k s : ℕ) → s < count K T y k → (g : ℕ) → Equivalent K T y k g (history K T y k s) → history K T y k s ≤ g
+  history-smallest : (k s : ℕ) → s < count K T y k → (g : ℕ) → Equivalent K T y k g (history K T y k s) → history K T y k s ≤ g
   history-smallest k s l =
       let i = history-is K T y k s l in
       smallest-class k (history K T y k s) (i .0) (λ d W q. history-least K T y k s (historyNumber K 0 d) (history-below W) (q ∙ i .1))

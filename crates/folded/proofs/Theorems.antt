@@ -80,7 +80,7 @@ module _
         let N = agree-renumberings (folded K T y) (machine t) M A in
         ((λ E. N .0 (U .0 (λ k h. A .states-are k h ∙ E k h))), (λ R k h. sym (A .states-are k h) ∙ U .1 (N .1 R) k h))
 
-    pub is-folding : inputs t ≡ inputs b → outputs t ≡ outputs b → frames t ≡ frames b → checked t ≡ answer 0 0 → Folding K m T b t
+    is-folding : inputs t ≡ inputs b → outputs t ≡ outputs b → frames t ≡ frames b → checked t ≡ answer 0 0 → Folding K m T b t
     is-folding i o f c = record {
       same-inputs = i;
       same-outputs = o;
@@ -107,7 +107,7 @@ module _ (b : List ℕ) (C : Causal b) (Z : Sized 8 (inputs b) (outputs b) (fram
 -- ---- canonical
 
 -- the tables of two responses are the same bytes exactly when the outputs are the same
-pub bytes-canonical : (n m T : ℕ) (y z : ℕ → ℕ → ℕ) → Sized 8 n m T → ((t h : ℕ) → y t h < 2 ^ m) → ((t h : ℕ) → z t h < 2 ^ m)
+bytes-canonical : (n m T : ℕ) (y z : ℕ → ℕ → ℕ) → Sized 8 n m T → ((t h : ℕ) → y t h < 2 ^ m) → ((t h : ℕ) → z t h < 2 ^ m)
     → (tableBytes n m T (folded (2 ^ n) T y) ≡ tableBytes n m T (folded (2 ^ n) T z)) ↔ ((c : List ℕ) → Words (2 ^ n) T c → outputsOf (2 ^ n) y 0 0 c ≡ outputsOf (2 ^ n) z 0 0 c)
 unfolding tableBytes wordBytes
 bytes-canonical n m T y z Z B D =

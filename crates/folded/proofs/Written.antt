@@ -49,7 +49,7 @@ module _ (n m K T : ℕ) (M : Machine) where
   unfolding nexts
   nexts-length = entries-length K T (M .states) (M .next)
 
-  pub word-count : length (tableWords n m K T M) ≡ 4 + T + 2 * before K M T
+  word-count : length (tableWords n m K T M) ≡ 4 + T + 2 * before K M T
   word-count =
       ap length words-are
       ∙ omega (arith, counts-length, outs-length, nexts-length, length-append counts (outs ++ nexts), length-append outs nexts)
@@ -90,20 +90,20 @@ module _ (n m K T : ℕ) (M : Machine) where
 abbrev pub Below : (x : ℕ) → List ℕ → Type 0
 Below x l = (i : ℕ) → i < length l → getD l i 0 < x
 
-pub below-append : {x : ℕ} (k l : List ℕ) → Below x k → Below x l → Below x (k ++ l)
+below-append : {x : ℕ} (k l : List ℕ) → Below x k → Below x l → Below x (k ++ l)
 below-append [] l B C i h = C i h
 below-append (a ∷ k) l B C zero h = B zero (omega arith)
 below-append (a ∷ k) l B C (suc i) h = below-append k l (λ j g. B (suc j) (omega arith)) C i (omega arith)
 
-pub below-join : {x : ℕ} (n : ℕ) (f : ℕ → List ℕ) → ((i : ℕ) → i < n → Below x (f i)) → Below x (join n f)
+below-join : {x : ℕ} (n : ℕ) (f : ℕ → List ℕ) → ((i : ℕ) → i < n → Below x (f i)) → Below x (join n f)
 unfolding join
 below-join zero f B = λ i h. absurd (omega arith)
 below-join (suc n) f B = below-append (join n f) (f n) (below-join n f (λ i h. B i (le-trans h (le-suc n)))) (B n (le-refl _))
 
-pub below-tabulate : {x : ℕ} (n : ℕ) (f : ℕ → ℕ) → ((i : ℕ) → i < n → f i < x) → Below x (tabulate n f)
+below-tabulate : {x : ℕ} (n : ℕ) (f : ℕ → ℕ) → ((i : ℕ) → i < n → f i < x) → Below x (tabulate n f)
 below-tabulate {x} n f B i h = let l : i < n = omega (arith, tabulate-length n f) in rw (tabulate-at n i f l) (B i l)
 
-pub below-entries : {x : ℕ} (K T : ℕ) (S : ℕ → ℕ) (e : ℕ → ℕ → ℕ → ℕ) → ((t s w : ℕ) → t < T → s < S t → w < K → e t s w < x) → Below x (entries K T S e)
+below-entries : {x : ℕ} (K T : ℕ) (S : ℕ → ℕ) (e : ℕ → ℕ → ℕ → ℕ) → ((t s w : ℕ) → t < T → s < S t → w < K → e t s w < x) → Below x (entries K T S e)
 unfolding entries
 below-entries K T S e B = below-join T _ (λ t b. below-join (S t) _ (λ s l. below-tabulate K _ (λ w h. B t s w b l h)))
 
@@ -161,16 +161,16 @@ module _ {n m T : ℕ} {M : Machine} (W : Writable n m T M) where
   unfolding frames tableWords
   frames-back = byte-back 2 4 refl (omega arith)
 
-  pub states-back : (t : ℕ) → t ≤ T → states (tableBytes n m T M) t ≡ M .states t
+  states-back : (t : ℕ) → t ≤ T → states (tableBytes n m T M) t ≡ M .states t
   unfolding states countAt
   states-back t b = byte-back (3 + t) (6 + 2 * t) (omega arith) (omega arith) ∙ count-word n m (2 ^ n) T M t b
 
-  pub below-back : (t : ℕ) → t ≤ T → entriesBelow (tableBytes n m T M) t ≡ before (2 ^ n) M t
+  below-back : (t : ℕ) → t ≤ T → entriesBelow (tableBytes n m T M) t ≡ before (2 ^ n) M t
   unfolding entriesBelow total
   below-back zero b = refl
   below-back (suc t) b = ap₂ _+_ (below-back t (omega arith)) (ap₂ _*_ (states-back t (omega arith)) (ap (λ k. 2 ^ k) inputs-back))
 
-  pub count-back : entryCount (tableBytes n m T M) ≡ before (2 ^ n) M T
+  count-back : entryCount (tableBytes n m T M) ≡ before (2 ^ n) M T
   unfolding entryCount
   count-back = ap (entriesBelow (tableBytes n m T M)) frames-back ∙ below-back T (le-refl T)
 
@@ -182,7 +182,7 @@ module _ {n m T : ℕ} {M : Machine} (W : Writable n m T M) where
   unfolding nextsAt
   nexts-at = omega (arith, outputs-at, count-back)
 
-  pub length-back : length (tableBytes n m T M) ≡ tableLength (tableBytes n m T M)
+  length-back : length (tableBytes n m T M) ≡ tableLength (tableBytes n m T M)
   unfolding tableLength
   length-back = bytes-length n m T M ∙ omega (arith, nexts-at, count-back, total-mul T (2 ^ n) (M .states))
 
@@ -210,7 +210,7 @@ module _ {n m T : ℕ} {M : Machine} (W : Writable n m T M) where
   }
 
   -- and so it is within the limits
-  pub machine-writable : Writable n m T (machine (tableBytes n m T M))
+  machine-writable : Writable n m T (machine (tableBytes n m T M))
   machine-writable =
       let A = machine-back in
       record {

@@ -112,32 +112,32 @@ pub merged-layers : (t : List ℕ) → (states t 1 ≡ 1 → ¬ Folding 2 1 3 (w
 merged-layers t = (
   (λ e F. next-output-alone t (one-state t F (lit≤ tt) e (bit-below 0 (lit< tt)) ∙ sym (one-state t F (lit≤ tt) e (bit-below 1 (lit< tt)))) F),
   λ e F.
-  let w : 0 < 2 = lit< tt in
-  let W = more w (bit-below 0 w) in
-  let U = more {w = 1} (lit< tt) (bit-below 0 w) in
-  let a = F .apart 2 (0 ∷ 0 ∷ []) (1 ∷ 0 ∷ []) (lit≤ tt) W U .0 (one-state t F (lit≤ tt) e W ∙ sym (one-state t F (lit≤ tt) e U)) (0 ∷ []) (bit-below 0 w) in
-  omega (arith, ap (λ l. getD l 0 0) (sym (ap (drop 2) delayed-000) ∙ a ∙ ap (drop 2) delayed-100)),
+      let w : 0 < 2 = lit< tt in
+      let W = more w (bit-below 0 w) in
+      let U = more {w = 1} (lit< tt) (bit-below 0 w) in
+      let a = F .apart 2 (0 ∷ 0 ∷ []) (1 ∷ 0 ∷ []) (lit≤ tt) W U .0 (one-state t F (lit≤ tt) e W ∙ sym (one-state t F (lit≤ tt) e U)) (0 ∷ []) (bit-below 0 w) in
+      omega (arith, ap (λ l. getD l 0 0) (sym (ap (drop 2) delayed-000) ∙ a ∙ ap (drop 2) delayed-100)),
 )
 
 -- ---- To the testers
 
 -- One table for all circuits: of two circuits with one table, each gives what the table gives.
-pub one-table : {K m T : ℕ} (b d t : List ℕ) → Folding K m T b t → Folding K m T d t → (c : List ℕ) → Words K T c → outputWords b c ≡ outputWords d c
+one-table : {K m T : ℕ} (b d t : List ℕ) → Folding K m T b t → Folding K m T d t → (c : List ℕ) → Words K T c → outputWords b c ≡ outputWords d c
 unfolding Gives
 one-table b d t F G c W = sym (F .gives c W) ∙ G .gives c W
 
-pub one-for-all : (t : List ℕ) → Folding 2 1 2 (wordBytes parity) t → ¬ Folding 2 1 2 (wordBytes silent) t
+one-for-all : (t : List ℕ) → Folding 2 1 2 (wordBytes parity) t → ¬ Folding 2 1 2 (wordBytes silent) t
 one-for-all t F G =
     omega (arith, ap (λ l. getD l 0 0) (sym parity-10 ∙ one-table (wordBytes parity) (wordBytes silent) t F G (1 ∷ 0 ∷ []) (more (lit< tt) (more (lit< tt) none)) ∙ silent-all 1 0))
 
 -- Right in frame 1 and silent later.
-pub idle-later : (t : List ℕ) → ((k s w : ℕ) → 1 ≤ k → machine t .out k s w ≡ 0) → ¬ Folding 2 1 2 (wordBytes parity) t
+idle-later : (t : List ℕ) → ((k s w : ℕ) → 1 ≤ k → machine t .out k s w ≡ 0) → ¬ Folding 2 1 2 (wordBytes parity) t
 unfolding Gives feed
 idle-later t z F =
     let g = F .gives (1 ∷ 0 ∷ []) (more (lit< tt) (more (lit< tt) none)) ∙ parity-10 in
     omega (arith, ap (λ l. getD l 1 0) g, z 1 (machine t .next 0 0 1) 0 (lit≤ tt))
 
 -- A call that writes nothing, into an empty or a zeroed buffer: n is not there.
-pub unwritten : (t : List ℕ) → inputs t ≡ 0 → ¬ Folding 2 1 2 (wordBytes parity) t
+unwritten : (t : List ℕ) → inputs t ≡ 0 → ¬ Folding 2 1 2 (wordBytes parity) t
 unfolding given parity
 unwritten t e F = omega (arith, F .same-inputs)

@@ -44,7 +44,7 @@ module _ (M : Machine) where
       let p : suc t + length c ≡ t + suc (length c) = omega arith in
       reached-append (suc t) (M .next t s w) c e ∙ ap (λ k. reached M k (reached M (suc t) (M .next t s w) c) e) p
 
-  pub feed-after : (t s : ℕ) (c e : List ℕ) → drop (length c) (feed M t s (c ++ e)) ≡ feed M (t + length c) (reached M t s c) e
+  feed-after : (t s : ℕ) (c e : List ℕ) → drop (length c) (feed M t s (c ++ e)) ≡ feed M (t + length c) (reached M t s c) e
   unfolding reached feed
   feed-after t s [] e = ap (λ k. feed M k s e) (omega arith)
   feed-after t s (w ∷ c) e =

@@ -3,9 +3,8 @@ use mathlib.Core.Path.{_≡_, sym, ap, ap₂, _∙_}
 use mathlib.Core.List.{List, [], _++_, append-nil}
 use Prim.Native.Nat.{ℕ, _+_, _^_, _<_}
 use native.Mathlib.Numerals.{add-one}
-use native.Mathlib.Omega.{arith}
 use lib.ListN.{length, getD, set, take, drop, take-append-drop}
-use lib.Seq.{drop-cons, take-suc-set, append-snoc, drop-set-lt, drop-drop, drop-length}
+use lib.Seq.{drop-cons, take-suc-set, append-snoc, drop-length}
 use Rattle.verdict.specs.Judgements.{answer, figures}
 use Rattle.verdict.specs.declared.Refusal.{Refusal}
 use Rattle.verdict.specs.declared.Verdict.{Verdict}
@@ -36,10 +35,6 @@ pub feed-more : (M : Machine) (words r : List ℕ) (t s o s′ : ℕ) → t < le
     → feed M 0 0 words ≡ take t r ++ feed M t s (drop t words) → feed M 0 0 words ≡ take (t + 1) (set r t o) ++ feed M (t + 1) s′ (drop (t + 1) words)
 unfolding feed
 feed-more M words r t s o s′ hw hr eo es e = e ∙ rw (add-one, drop-cons words t 0 hw, take-suc-set r t o hr, eo, es, append-snoc)
-
--- and the rest is as before
-pub drop-more : (r before : List ℕ) (t o : ℕ) → drop t r ≡ drop t before → drop (t + 1) (set r t o) ≡ drop (t + 1) before
-drop-more r before t o e = drop-set-lt (t + 1) r t o (omega arith) ∙ sym (drop-drop 1 t r) ∙ ap (drop 1) e ∙ drop-drop 1 t before
 
 -- after the last word
 pub feed-all : (M : Machine) (words r before : List ℕ) (t s : ℕ) → length words ≡ t → feed M 0 0 words ≡ take t r ++ feed M t s (drop t words) → drop t r ≡ drop t before

@@ -95,7 +95,11 @@ fn check_place(table: &[u8], layout: Layout, position: Position) -> Verdict
     if layout.frames < layer {
         return Verdict::Refused(Refusal::Position(layer));
     }
-    Verdict::refuse_if(states_of(table, layer) <= state, Refusal::Position(layer), 0)
+    Verdict::refuse_if(
+        states_of(table, layer) <= state,
+        Refusal::Position(layer),
+        0,
+    )
 }
 
 // Numbers 11, 10 and 9, of a step.

@@ -1,9 +1,10 @@
 -- What acceptance tells of a table. Assumes nothing.
-use mathlib.Core.Path.{_≡_, refl, sym, ap, _∙_}
+use mathlib.Core.Path.{_≡_, refl, sym, ap}
 use mathlib.Core.Bool.{Bool, true, false, not, _||_, or-true, cond}
 use mathlib.Core.List.{List}
 use Prim.Native.Nat.{ℕ, zero, suc, _+_, _*_, _/_, _^_, _≤_, _<_, zero-le}
 use native.Mathlib.Omega.{arith}
+use lib.Arith.{digits-lt}
 use lib.Dec.{ltb, leb, eqb, lit≤}
 use lib.ListN.{length, take, drop, length-take, length-drop}
 use borrow.Author.Tests.{leb-false, eqb-true, eq-eqb, not-false}
@@ -16,7 +17,7 @@ use Rattle.sizes.proofs.Laws.{inside, sized}
 use Rattle.table.specs.Table.{countAt, states, headLength, entriesBelow, entryCount, outputsAt, nextsAt, tableLength, entryAt, layerPart, machine, countsChecked, headChecked, partChecked, outputsChecked, nextsChecked, checked}
 use Rattle.table.specs.Sound.{TableHeaded, Sound}
 use Rattle.table.specs.Theorems.{LegalTable}
-use Rattle.table.proofs.Offsets.{part-word, row-in, layer-in, arrays-stand}
+use Rattle.table.proofs.Offsets.{part-word, layer-in, arrays-stand}
 
 -- ---- the head
 
@@ -80,7 +81,7 @@ module _ (b : List ℕ) (p : ℕ) (h : TableHeaded b) where
   below-outputs e t s w ht hs hw =
       words-below (2 ^ outputs b) (outputsAt b) b (outputsAt b) (entryCount b) p (omega (arith, arrays-stand b, h .whole)) e
       (entriesBelow b t + (s * 2 ^ inputs b + w))
-      (omega (arith, layer-in b t ht, row-in s (states b t) w (2 ^ inputs b) hs hw))
+      (omega (arith, layer-in b t ht, digits-lt hs hw))
 
   below-nexts : nextsChecked b ≡ answer 0 p → (t s w : ℕ) → t < frames b → s < states b t → w < 2 ^ inputs b → machine b .next t s w < states b (suc t)
   unfolding nextsChecked entryAt layerPart
@@ -90,7 +91,7 @@ module _ (b : List ℕ) (p : ℕ) (h : TableHeaded b) where
       rw q
       (words-below (states b (suc t)) _ b (nextsAt b + 2 * entriesBelow b t) (states b t * 2 ^ inputs b) (a .0) (omega (arith, layer-in b t ht, arrays-stand b, h .whole)) (a .1)
       (s * 2 ^ inputs b + w)
-      (row-in s (states b t) w (2 ^ inputs b) hs hw))
+      (digits-lt hs hw))
 
 -- ---- the table
 

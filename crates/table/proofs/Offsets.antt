@@ -3,7 +3,7 @@ use mathlib.Core.Path.{_≡_, refl, ap, _∙_}
 use mathlib.Core.Logic.{⊎-elim}
 use mathlib.Core.List.{List}
 use Prim.Native.Nat.{ℕ, zero, suc, _+_, _*_, _^_, _≤_, _<_}
-use native.Mathlib.Nat.{suc-mul, mul-le-mul, mul-le-mul-right, le-trans, le-of-lt, eq-or-lt-of-le}
+use native.Mathlib.Nat.{mul-le-mul, le-trans, le-of-lt, eq-or-lt-of-le}
 use native.Mathlib.Omega.{arith}
 use lib.Dec.{lit≤}
 use lib.Pow.{pow-mono}
@@ -25,10 +25,6 @@ pub part-word : (b : List ℕ) (start k i : ℕ) → i + 2 ≤ k → wordAt (tak
 unfolding wordAt
 part-word b start k i h = number-take 2 k (drop start b) i h ∙ number-drop 2 start b i
 
--- the entry of state s and word w is one of those of S states, each with K words
-pub row-in : (s S w K : ℕ) → s < S → w < K → s * K + w < S * K
-row-in s S w K hs hw = omega (arith, suc-mul s K, mul-le-mul-right K hs)
-
 -- the entries of a layer are few, whatever its count is
 pub row-small : (S K : ℕ) → S < 65536 → K ≤ 256 → S * K ≤ 16777216
 row-small S K hs hk = le-trans (mul-le-mul (le-of-lt hs) hk) (lit≤ tt)
@@ -40,7 +36,7 @@ module _ (b : List ℕ) where
   below-next t = refl
 
   -- so more layers have more
-  pub below-mono : (t u : ℕ) → t ≤ u → entriesBelow b t ≤ entriesBelow b u
+  below-mono : (t u : ℕ) → t ≤ u → entriesBelow b t ≤ entriesBelow b u
   below-mono t zero h = let e : t ≡ 0 = omega arith in rw e (omega arith)
   below-mono t (suc u) h = ⊎-elim (λ e. rw e (omega arith)) (λ l. omega (arith, below-mono t u (omega arith), below-next u)) (eq-or-lt-of-le h)
 

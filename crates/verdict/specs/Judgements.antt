@@ -1,7 +1,7 @@
 -- Document 01's "number, place", and how judgements follow one another.
 use Prim.Native.Nat.{ℕ, zero, suc, _+_}
 use mathlib.Core.List.{List, _++_}
-use mathlib.Core.Bool.{Bool, true, false, cond}
+use mathlib.Core.Bool.{Bool, cond}
 use lib.Dec.{eqb}
 use lib.ListN.{drop}
 use Rattle.verdict.specs.declared.Figures.{Figures}

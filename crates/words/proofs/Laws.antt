@@ -13,7 +13,7 @@ use Rattle.words.specs.Words.{numberAt, bytesOf, allBytes, Fit, none, mo
 
 -- ---- one number
 
-pub bytesOf-length : (k x : ℕ) → length (bytesOf k x) ≡ k
+bytesOf-length : (k x : ℕ) → length (bytesOf k x) ≡ k
 unfolding bytesOf
 bytesOf-length zero x = refl
 bytesOf-length (suc k) x = ap suc (bytesOf-length k (x / 256))
@@ -24,7 +24,7 @@ unfolding wordAt numberAt
 word-is b i = rw (add-one i) (omega arith)
 
 -- only the bytes themselves count: those of another list, elsewhere
-pub number-cong : (k : ℕ) (a b : List ℕ) (i j : ℕ) → ((d : ℕ) → d < k → getD a (i + d) 0 ≡ getD b (j + d) 0) → numberAt k a i ≡ numberAt k b j
+number-cong : (k : ℕ) (a b : List ℕ) (i j : ℕ) → ((d : ℕ) → d < k → getD a (i + d) 0 ≡ getD b (j + d) 0) → numberAt k a i ≡ numberAt k b j
 unfolding numberAt
 number-cong zero a b i j e = refl
 number-cong (suc k) a b i j e =
@@ -47,14 +47,14 @@ pub number-take : (k n : ℕ) (b : List ℕ) (i : ℕ) → i + k ≤ n → numbe
 number-take k n b i l = number-cong k (take n b) b i i (λ d h. getD-take n b (i + d) 0 (omega arith))
 
 -- after the bytes p
-pub number-after : (k : ℕ) (p b : List ℕ) (i : ℕ) → numberAt k (p ++ b) (length p + i) ≡ numberAt k b i
+number-after : (k : ℕ) (p b : List ℕ) (i : ℕ) → numberAt k (p ++ b) (length p + i) ≡ numberAt k b i
 number-after k p b i =
     number-cong k (p ++ b) b (length p + i) i (λ d h.
     let q : length p + i + d ≡ length p + (i + d) = omega arith in
     ap (λ m. getD (p ++ b) m 0) q ∙ getD-append-add p b (i + d) 0)
 
 -- a number that fits is read back from its bytes
-pub number-back : (k x : ℕ) (r : List ℕ) → x < 256 ^ k → numberAt k (bytesOf k x ++ r) 0 ≡ x
+number-back : (k x : ℕ) (r : List ℕ) → x < 256 ^ k → numberAt k (bytesOf k x ++ r) 0 ≡ x
 unfolding numberAt bytesOf
 number-back zero x r l = sym (lt-one (rw pow-zero at l))
 number-back (suc k) x r l =
@@ -80,7 +80,7 @@ allBytes-append k [] ys = refl
 allBytes-append k (x ∷ xs) ys = ap (λ l. bytesOf k x ++ l) (allBytes-append k xs ys) ∙ sym (append-assoc (bytesOf k x) (allBytes k xs) (allBytes k ys))
 
 -- number i of a list that fits is read back from the bytes, whatever follows them
-pub read-back : (k : ℕ) (xs r : List ℕ) (i : ℕ) → Fit k xs → i < length xs → numberAt k (allBytes k xs ++ r) (k * i) ≡ getD xs i 0
+read-back : (k : ℕ) (xs r : List ℕ) (i : ℕ) → Fit k xs → i < length xs → numberAt k (allBytes k xs ++ r) (k * i) ≡ getD xs i 0
 unfolding allBytes
 read-back k (x ∷ xs) r zero (more l F) h = rw (mul-zero k, append-assoc) (number-back k x (allBytes k xs ++ r) l)
 read-back k (x ∷ xs) r (suc i) (more l F) h =

@@ -8,7 +8,7 @@ use lib.ListN.{length, take, drop, length-set}
 use lib.Seq.{length-take-le, length-front}
 use Rattle.sizes.specs.Sizes.{inputs}
 use Rattle.layered.specs.Search.{tabulate, join}
-use Rattle.circuit.proofs.Laws.{drop-more}
+use Rattle.layered.proofs.Lists.{drop-more}
 use Rattle.responses.proofs.Laws.{bits-to, count-is, count-to, fill-more, all-filled}
 use Rattle.responses.proofs.fill.Statement.{statement}
 use Rattle.responses.proofs.fill.Tie as tie

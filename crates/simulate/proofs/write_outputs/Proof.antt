@@ -10,7 +10,8 @@ use lib.ListN.{length, take, drop, length-set}
 use Rattle.circuit.specs.Lists.{grown, listed}
 use Rattle.sizes.specs.Sizes.{outputs as outputsOf}
 use Rattle.circuit.specs.Circuit.{gates, gateSignal, outputSignal, outputWord}
-use Rattle.circuit.proofs.Laws.{fill-grown, drop-more, output-first, output-next, output-room, word-is, all-written, signals-fit}
+use Rattle.layered.proofs.Lists.{drop-more}
+use Rattle.circuit.proofs.Laws.{fill-grown, output-first, output-next, output-room, word-is, all-written, signals-fit}
 use Rattle.simulate.proofs.write_outputs.Statement.{statement}
 use Rattle.simulate.proofs.write_outputs.Tie as tie
 

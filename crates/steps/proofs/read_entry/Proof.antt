@@ -8,13 +8,14 @@ use native.Mathlib.Numerals.{add-one}
 use native.Mathlib.Omega.{arith}
 use borrow.Author.Tests.{le-leb, lt-leb}
 use denote.Ref.{now}
+use lib.Arith.{digits-lt}
 use lib.Dec.{leb}
 use Rattle.words.specs.Words.{wordAt}
 use Rattle.verdict.specs.Judgements.{answer}
 use Rattle.sizes.specs.Sizes.{inputs, outputs}
 use Rattle.table.specs.Table.{states, entriesBelow, entryCount, outputsAt, nextsAt, entryAt, machine}
 use Rattle.steps.specs.Steps.{entryChecked, handedBack}
-use Rattle.table.proofs.Offsets.{Laid, laid, row-in, layer-in}
+use Rattle.table.proofs.Offsets.{Laid, laid, layer-in}
 use borrow.Author.Needs.{needs}
 use Rattle.steps.proofs.read_entry.Statement.{statement}
 use Rattle.steps.proofs.read_entry.Tie as tie
@@ -49,7 +50,7 @@ room c =
     let s = s₁ c in
     let t = s .args .position .layer in
     let p = s .pre .1 .1 in
-    omega (arith, index-is c, layer-in (b₀ s) t (p .0), row-in (s .args .position .state) (states (b₀ s) t) (s .args .word) (2 ^ inputs (b₀ s)) (p .1) (p .2))
+    omega (arith, index-is c, layer-in (b₀ s) t (p .0), digits-lt (p .1) (p .2))
 
 output-at : (c : tie.After-entries-below) → s₁ c .args .layout .outputs + 2 * index₁ c ≡ entryAt (b₀ (s₁ c)) (outputsAt (b₀ (s₁ c))) (s₁ c .args .position .layer) (s₁ c .args .position .state) (s₁ c .args .word)
 unfolding entryAt

@@ -16,13 +16,14 @@ use Rattle.sizes.specs.Sized.{Fed}
 use Rattle.sizes.specs.declared.Sizes.{Sizes}
 use Rattle.sizes.proofs.Laws.{fed}
 use Rattle.layered.specs.Machines.{feed}
+use Rattle.layered.proofs.Lists.{drop-more}
 use Rattle.table.specs.Table.{states, machine, checked}
 use Rattle.steps.specs.Steps.{ran, moved, stepped, stepFigures}
 use Rattle.table.specs.Sound.{Sound}
 use Rattle.table.proofs.Offsets.{arrays-stand}
 use Rattle.table.proofs.Accepted.{sound}
 use Rattle.steps.proofs.Steps.{moves, moved-is, not-refused}
-use Rattle.steps.proofs.Runs.{run-feeds, feed-more, drop-more, feed-all, run-kept, run-left}
+use Rattle.steps.proofs.Runs.{run-feeds, feed-more, feed-all, run-kept, run-left}
 use Rattle.steps.proofs.run.Statement.{statement}
 use Rattle.steps.proofs.run.Tie as tie
 
