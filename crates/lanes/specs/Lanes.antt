@@ -9,6 +9,7 @@ use Rattle.sizes.specs.Sizes.{inputs, frames}
 use Rattle.circuit.specs.Lists.{bit}
 use Rattle.circuit.specs.Circuit.{gates, gateSignal, signalValues}
 use Rattle.circuit.specs.Theorems.{historyWords}
+use Rattle.lanes.specs.Limits.{laneCount}
 
 -- lane j of each number
 unfoldable pub lane : (j : ℕ) → List ℕ → List Bool
@@ -16,7 +17,7 @@ lane j v = map (λ x. bit x j) v
 
 -- the lanes of a literal whose signal has the lanes x: an inverted one has each lane inverted
 unfoldable pub literalLanes : (x literal : ℕ) → ℕ
-literalLanes x literal = cond (eqb (literal % 2) 1) (2 ^ 64 - 1 - x) x
+literalLanes x literal = cond (eqb (literal % 2) 1) (2 ^ laneCount - 1 - x) x
 
 -- the words of the history h of t words, and zero words after them, T words in all
 abbrev pub sequence : (K T t h : ℕ) → List ℕ

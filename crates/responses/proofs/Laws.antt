@@ -91,12 +91,13 @@ module _ (b : List ℕ) (H : CircuitHeaded b) (n t : ℕ) (en : n ≡ inputs b) 
   pub bits-to : n * t ≤ 16
   bits-to = rw en (omega (arith, mul-le-mul-left (inputs b) l, H .sizes .bits-to))
 
-  pub count-is : (1 * 2 ^ (n * t)) % 2 ^ 64 ≡ (2 ^ inputs b) ^ t
-  count-is = power-is (n * t) bits-to ∙ pow-mul 2 n t ∙ ap (λ k. (2 ^ k) ^ t) en
+  -- the number of histories, as it was computed
+  pub count-is : (r : ℕ) → r ≡ (2 ^ n) ^ t → r ≡ (2 ^ inputs b) ^ t
+  count-is r e = e ∙ ap (λ k. (2 ^ k) ^ t) en
 
   -- each history is a number of 16 bits
-  pub count-to : (1 * 2 ^ (n * t)) % 2 ^ 64 ≤ 65536
-  count-to = rw (power-is (n * t) bits-to) (pow-mono {j = 16} bits-to)
+  pub count-to : (r : ℕ) → r ≡ (2 ^ n) ^ t → r ≤ 65536
+  count-to r e = rw (e, ← pow-mul 2 n t) (pow-mono {j = 16} bits-to)
 
 -- one number more is stored
 pub fill-more : (v : List ℕ) (k : ℕ) → k < length v → take k v ≡ tabulate k (λ i. i) → take (k + 1) (set v k k) ≡ tabulate (k + 1) (λ i. i)

@@ -1,22 +1,27 @@
 // The responses of a circuit to histories of input words: the only code of folding that reads a circuit.
 use circuit::Head;
+use lanes::Limits;
 use lanes::pack_lanes;
 use lanes::room;
 use lanes::store_signals;
+use sizes::power;
 ghost use mathlib.Core.Path.{_≡_};
 ghost use mathlib.Core.List.{map};
-ghost use Prim.Native.Nat.{_+_, _^_, _≤_, min};
+ghost use Prim.Native.Nat.{_+_, _*_, _^_, _≤_, min};
 ghost use lib.ListN.{length};
+ghost use Rattle.sizes.specs.Limits.{mostBits};
 ghost use Rattle.sizes.specs.Sizes.{inputs, frames};
+ghost use Rattle.circuit.specs.Limits.{mostSignals};
 ghost use Rattle.circuit.specs.WellFormed.{WellFormed};
 ghost use Rattle.circuit.specs.Theorems.{response};
+ghost use Rattle.lanes.specs.Limits.{laneCount};
 ghost use Rattle.responses.specs.Responses.{filled};
 
-// Replaces each of up to 64 histories by the response of frame t, from 1, to it. All are simulated side by side.
+// Replaces each of a few histories by the response of frame t, from 1, to it. All are simulated side by side.
 fn respond_part(circuit: &[u8], head: Head, t: usize, lanes: &mut [u64], histories: &mut [u16])
     requires { ⌜ WellFormed (now circuit) head ⌝ }
     requires { ⌜ (1 ≤ t) × (t ≤ frames (now circuit)) ⌝ }
-    requires { ⌜ (4113 ≤ length (now lanes)) × (length (now histories) ≤ 64) ⌝ }
+    requires { ⌜ (mostSignals ≤ length (now lanes)) × (length (now histories) ≤ laneCount) ⌝ }
     ensures { λ _. ⌜ now (histories .exit) ≡ map (response (now (circuit .entry)) t) (now (histories .entry)) ⌝ }
 {
     store_signals(circuit, head, t, histories, lanes);
@@ -25,12 +30,16 @@ fn respond_part(circuit: &[u8], head: Head, t: usize, lanes: &mut [u64], histori
     pack_lanes(lanes, at, head.outputs, histories);
 }
 
-// Where the part of at most 64 that begins at `at` ends.
+// Where the part that begins at `at` ends: it has as many as are simulated side by side, or what is left.
 fn part_end(at: usize, count: usize) -> usize
     requires { ⌜ at ≤ count ⌝ }
-    ensures { λ r. ⌜ r ≡ min (at + 64) count ⌝ }
+    ensures { λ r. ⌜ r ≡ min (at + laneCount) count ⌝ }
 {
-    if count - at < 64 { count } else { at + 64 }
+    if count - at < Limits::LANES {
+        count
+    } else {
+        at + Limits::LANES
+    }
 }
 
 // Replaces each history by the response of frame t, from 1, to it.
@@ -49,6 +58,14 @@ pub fn respond_each(circuit: &[u8], head: Head, t: usize, histories: &mut [u16])
     }
 }
 
+// How many histories of t words there are.
+pub fn histories(inputs: usize, t: usize) -> usize
+    requires { ⌜ inputs * t ≤ mostBits ⌝ }
+    ensures { λ r. ⌜ r ≡ (2 ^ inputs) ^ t ⌝ }
+{
+    power(inputs * t)
+}
+
 // Stores the responses of frame t, from 1, to all its histories.
 pub fn fill(circuit: &[u8], head: Head, t: usize, responses: &mut [u16])
     requires { ⌜ WellFormed (now circuit) head ⌝ }
@@ -56,7 +73,7 @@ pub fn fill(circuit: &[u8], head: Head, t: usize, responses: &mut [u16])
     requires { ⌜ (2 ^ inputs (now circuit)) ^ t ≤ length (now responses) ⌝ }
     ensures { λ _. ⌜ now (responses .exit) ≡ filled (now (circuit .entry)) t (now (responses .entry)) ⌝ }
 {
-    let count: usize = 1 << (head.inputs * t);
+    let count = histories(head.inputs, t);
     for h in 0..count {
         responses[h] = h as u16;
     }

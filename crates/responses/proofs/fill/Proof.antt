@@ -21,27 +21,21 @@ Inv-loop circuit head t responses₀ count h₀ responses h =
 abbrev μ-loop : tie.MeasureT-loop
 μ-loop circuit head t responses₀ count h₀ responses h = count - h
 
--- the bits of a history
-bits : (c : tie.After-struct-known Inv-loop μ-loop) → c .before .before .before .args .head .inputs * c .before .before .before .args .t ≤ 16
-bits c =
-    let s = c .before .before .before in
+histories-requires : tie.Need-histories-requires Inv-loop μ-loop
+histories-requires c κs =
+    let s = c .before .before in
     let p = s .pre in
     bits-to (now (s .args .circuit)) (p .0 .headed) (s .args .head .inputs) (s .args .t) (p .0 .head-is .inputs-is) (p .1 .0 .1)
-
-mul-count : tie.Need-mul-count Inv-loop μ-loop
-mul-count c = omega (arith, bits c)
-
-shl-count : tie.Need-shl-count Inv-loop μ-loop
-shl-count c = omega (arith, bits c)
 
 loop-holds : tie.Need-loop-holds Inv-loop μ-loop
 unfolding tabulate join
 loop-holds c =
+    let k = c .histories in
     let s = c .before .before .before in
     let p = s .pre in (
       omega arith,
-      count-to (now (s .args .circuit)) (p .0 .headed) (s .args .head .inputs) (s .args .t) (p .0 .head-is .inputs-is) (p .1 .0 .1),
-      count-is (now (s .args .circuit)) (p .0 .headed) (s .args .head .inputs) (s .args .t) (p .0 .head-is .inputs-is) (p .1 .0 .1),
+      count-to (now (s .args .circuit)) (p .0 .headed) (s .args .head .inputs) (s .args .t) (p .0 .head-is .inputs-is) (p .1 .0 .1) (k .result) (k .ensures),
+      count-is (now (s .args .circuit)) (p .0 .headed) (s .args .head .inputs) (s .args .t) (p .0 .head-is .inputs-is) (p .1 .0 .1) (k .result) (k .ensures),
       refl,
       refl,
       refl,
@@ -91,8 +85,8 @@ respond-each-requires c κs =
 same-length : tie.Need-same-length Inv-loop μ-loop
 same-length c =
     let i = c .before .before .before .before .before .loop in
-    let a = c .before .before .before .before .before .before .before .before .before .args in
-    length-front (i .responses) (c .before .before .respond-each .last .1 .1 .1 .0) ((1 * 2 ^ (a .head .inputs * a .t)) % 2 ^ 64) (c .before .before .respond-each .kept .1 .1 .1 .0) ∙ i .inv .3
+    let k = c .before .before .before .before .before .before .histories in
+    length-front (i .responses) (c .before .before .respond-each .last .1 .1 .1 .0) (k .result) (c .before .before .respond-each .kept .1 .1 .1 .0) ∙ i .inv .3
 
 returns : tie.Need-returns Inv-loop μ-loop
 returns c =
@@ -107,8 +101,7 @@ fill-spec =
     (tie.spec
     Inv-loop
     μ-loop
-    mul-count
-    shl-count
+    histories-requires
     loop-holds
     cast-responses
     mul-responses
