@@ -7,6 +7,8 @@ use native.Mathlib.Omega.{arith}
 use lib.ListN.{length}
 use lib.Dec.{ltb, eqb}
 use borrow.Author.Tests.{eqb-true, not-false}
+use Rattle.sizes.specs.Limits.{mostInputs}
+use Rattle.circuit.specs.Limits.{mostGates, circuitHead}
 use Rattle.verdict.specs.Judgements.{answer}
 use Rattle.verdict.proofs.Laws.{both-accept, passed, none-found}
 use Rattle.sizes.specs.Sizes.{inputs, outputs, frames, outside, sizesChecked}
@@ -33,12 +35,12 @@ module _ (b : List ℕ) (p : ℕ) where
   pub headed : (most : ℕ) → most ≤ 16 → headChecked most b ≡ answer 0 p → CircuitHeaded b × Sized most (inputs b) (outputs b) (frames b)
   unfolding headChecked circuitLength allInputs
   headed most h e =
-      let e₁ = passed (ltb (length b) 8) 1 (length b) _ p refl e in
+      let e₁ = passed (ltb (length b) circuitHead) 1 (length b) _ p refl e in
       let e₂ = both-accept (sizesChecked most (inputs b) (outputs b) (frames b)) _ p (e₁ .1) in
-      let e₃ = passed (outside (allOutputs b) 4096 (gates b)) 2 6 _ p refl (e₂ .2) in
-      let e₄ = passed (not (eqb (length b) (8 + 4 * gates b))) 1 (length b) _ p refl (e₃ .1) in
+      let e₃ = passed (outside (allOutputs b) mostGates (gates b)) 2 6 _ p refl (e₂ .2) in
+      let e₄ = passed (not (eqb (length b) (circuitHead + 4 * gates b))) 1 (length b) _ p refl (e₃ .1) in
       let z = sized most _ _ _ (e₂ .0) (e₂ .1) in
-      let g = inside (allOutputs b) 4096 (gates b) (e₃ .0) in (
+      let g = inside (allOutputs b) mostGates (gates b) (e₃ .0) in (
         record { sizes = widen h z; inputs-to = z .bits-to; outputs-to = g .0; gates-to = g .1; whole = eqb-true _ _ (not-false _ (e₄ .0)) },
         z,
       )
@@ -61,7 +63,7 @@ none-ahead b p e q h = none-found (looksAhead b) 4 _ (answer 0 0) p 0 (allOutput
 -- all that a circuit's acceptance tells
 pub record Accepted (b : List ℕ) : Type 0 where
   pub head : CircuitHeaded b
-  pub sizes : Sized 8 (inputs b) (outputs b) (frames b)
+  pub sizes : Sized mostInputs (inputs b) (outputs b) (frames b)
   pub literals : LegalGates b
   pub causal : (q : ℕ) → q < allOutputs b → looksAhead b q ≡ false
 
@@ -71,7 +73,7 @@ well-formed A H = record { headed = A .head; head-is = H; legal = A .literals }
 pub accepted : (b : List ℕ) (p : ℕ) → checked b ≡ answer 0 p → Accepted b
 unfolding checked
 accepted b p e =
-    let h = both-accept (headChecked 8 b) _ p e in
+    let h = both-accept (headChecked mostInputs b) _ p e in
     let l = both-accept (literalsChecked b (leftsAt b)) _ p (h .2) in
     let r = both-accept (literalsChecked b (rightsAt b)) (lookAheadChecked b) p (l .2) in
     let k = headed b (h .0) 8 (omega arith) (h .1) in

@@ -15,7 +15,7 @@ use Rattle.words.specs.Words.{wordAt}
 use Rattle.sizes.specs.Sizes.{inputs, outputs, frames}
 use Rattle.circuit.specs.Lists.{grown, listed, packed}
 use Rattle.circuit.specs.Circuit.{gates, leftsAt, rightsAt, literalAt, allInputs, allOutputs, gateSignal, outputSignal, frameOf, admissible, inputFrames, laterFrame, latestFrames, looksAhead, inputValues, literalValue, gateValue, signalValues, outputWord, outputWords}
-use Rattle.circuit.specs.Limits.{circuitHead}
+use Rattle.circuit.specs.Limits.{circuitHead, mostSignals}
 use Rattle.circuit.specs.WellFormed.{CircuitHeaded, LegalGates, GateOf}
 
 -- ---- literals
@@ -80,7 +80,7 @@ module _ {A : Type 0} where
   signals-all f b v base g eb eg h = rw (← eb, ← eg) h
 
 -- there is room for every signal
-pub signals-fit : (b : List ℕ) → CircuitHeaded b → gateSignal b (gates b) ≤ 4113
+pub signals-fit : (b : List ℕ) → CircuitHeaded b → gateSignal b (gates b) ≤ mostSignals
 unfolding gateSignal
 signals-fit b h = omega arith
 

@@ -6,6 +6,7 @@ use Prim.Native.Nat.{ℕ, _+_, _*_, _≤_, _<_}
 use native.Mathlib.Nat.{mul-le-mul}
 use lib.ListN.{length}
 use borrow.Author.Tests.{lt-ltb, le-ltb, eq-eqb, ne-eqb}
+use Rattle.circuit.specs.Limits.{mostGates, circuitHead}
 use Rattle.words.specs.Words.{wordAt}
 use Rattle.verdict.specs.Judgements.{answer, figures}
 use Rattle.verdict.specs.declared.Verdict.{Verdict}
@@ -29,11 +30,11 @@ module _ (s : Sizes) (b : List ℕ) (e : s ≡ sizesOf b) where
   outputs-product = ap (λ (s : Sizes). s .outputs * s .frames) e
 
 module _ (most : ℕ) (b : List ℕ) where
-  pub head-short : length b < 8 → answer 1 (length b) ≡ headChecked most b
+  pub head-short : length b < circuitHead → answer 1 (length b) ≡ headChecked most b
   unfolding headChecked
   head-short h = simp (lt-ltb _ _ h)
 
-  module _ (h : 8 ≤ length b) (s : Sizes) (es : s ≡ sizesOf b) (x : Verdict) (ex : figures x ≡ sizesChecked most (s .inputs) (s .outputs) (s .frames)) where
+  module _ (h : circuitHead ≤ length b) (s : Sizes) (es : s ≡ sizesOf b) (x : Verdict) (ex : figures x ≡ sizesChecked most (s .inputs) (s .outputs) (s .frames)) where
     of-b : figures x ≡ sizesChecked most (inputs b) (outputs b) (frames b)
     of-b = ex ∙ ap (λ (s : Sizes). sizesChecked most (s .inputs) (s .outputs) (s .frames)) es
 
@@ -49,19 +50,19 @@ module _ (most : ℕ) (b : List ℕ) where
           mul-le-mul (z .outputs-to) (z .frames-to)
 
       module _ (g : ℕ) (eg : g ≡ wordAt b 6) where
-        asked : outside (s .outputs * s .frames) 4096 g ≡ outside (allOutputs b) 4096 (gates b)
+        asked : outside (s .outputs * s .frames) mostGates g ≡ outside (allOutputs b) mostGates (gates b)
         unfolding gates
-        asked = ap₂ (λ (t g : ℕ). outside t 4096 g) (outputs-product s b es) eg
+        asked = ap₂ (λ (t g : ℕ). outside t mostGates g) (outputs-product s b es) eg
 
-        pub head-gates : outside (s .outputs * s .frames) 4096 g ≡ true → answer 2 6 ≡ headChecked most b
+        pub head-gates : outside (s .outputs * s .frames) mostGates g ≡ true → answer 2 6 ≡ headChecked most b
         unfolding headChecked
         head-gates t = rw (le-ltb _ _ h) (go-on x _ _ _ p of-b q (rw (sym asked ∙ t)))
 
-        module _ (t : outside (s .outputs * s .frames) 4096 g ≡ false) where
-          pub head-length : ¬ (length b ≡ 8 + 4 * g) → answer 1 (length b) ≡ headChecked most b
+        module _ (t : outside (s .outputs * s .frames) mostGates g ≡ false) where
+          pub head-length : ¬ (length b ≡ circuitHead + 4 * g) → answer 1 (length b) ≡ headChecked most b
           unfolding headChecked circuitLength gates
-          head-length n = rw (le-ltb _ _ h) (go-on x _ _ _ p of-b q (rw (sym asked ∙ t, ne-eqb (length b) (8 + 4 * wordAt b 6) (λ e. n (e ∙ ap (λ (g : ℕ). 8 + 4 * g) (sym eg))))))
+          head-length n = rw (le-ltb _ _ h) (go-on x _ _ _ p of-b q (rw (sym asked ∙ t, ne-eqb (length b) (circuitHead + 4 * wordAt b 6) (λ e. n (e ∙ ap (λ (g : ℕ). circuitHead + 4 * g) (sym eg))))))
 
-          pub head-whole : length b ≡ 8 + 4 * g → answer 0 0 ≡ headChecked most b
+          pub head-whole : length b ≡ circuitHead + 4 * g → answer 0 0 ≡ headChecked most b
           unfolding headChecked circuitLength gates
-          head-whole e = rw (le-ltb _ _ h) (go-on x _ _ _ p of-b q (rw (sym asked ∙ t, eq-eqb (length b) (8 + 4 * wordAt b 6) (e ∙ ap (λ (g : ℕ). 8 + 4 * g) eg))))
+          head-whole e = rw (le-ltb _ _ h) (go-on x _ _ _ p of-b q (rw (sym asked ∙ t, eq-eqb (length b) (circuitHead + 4 * wordAt b 6) (e ∙ ap (λ (g : ℕ). circuitHead + 4 * g) eg))))

@@ -9,6 +9,8 @@ use lib.Dec.{eqb}
 use lib.Pow.{pow-pos}
 use lib.ListN.{length, take, drop, length-take}
 use borrow.Author.Tests.{le-ltb, lt-leb, eq-eqb, eqb-true}
+use Rattle.sizes.specs.Limits.{mostInputs}
+use Rattle.table.specs.Limits.{endStates, mostStates, sizesLength}
 use Rattle.words.specs.Words.{wordAt}
 use Rattle.verdict.specs.Judgements.{answer}
 use Rattle.verdict.proofs.Laws.{finds-none, all-accept}
@@ -26,15 +28,15 @@ use Rattle.folded.proofs.Places.{before, entry-at}
 
 -- a machine within the limits of document 01's sheet
 pub record Writable (n m T : ℕ) (M : Machine) : Type 0 where
-  pub sizes : Sized 8 n m T
+  pub sizes : Sized mostInputs n m T
   pub is-legal : Legal (2 ^ n) m T M
   pub counts-from : (t : ℕ) → t ≤ T → 1 ≤ M .states t
-  pub counts-to : (t : ℕ) → t ≤ T → M .states t ≤ 32768
+  pub counts-to : (t : ℕ) → t ≤ T → M .states t ≤ mostStates
   pub one-first : M .states 0 ≡ 1
   pub one-last : M .states T ≡ 1
 
 -- the limit of a count: 1 for the first and the last
-limited : (s t : Bool) (x : ℕ) → (s ≡ true → x ≡ 1) → (t ≡ true → x ≡ 1) → x ≤ 32768 → x ≤ cond (s || t) 1 32768
+limited : (s t : Bool) (x : ℕ) → (s ≡ true → x ≡ 1) → (t ≡ true → x ≡ 1) → x ≤ mostStates → x ≤ cond (s || t) endStates mostStates
 limited true t x e f h = omega (arith, e refl)
 limited false true x e f h = omega (arith, f refl)
 limited false false x e f h = h
@@ -76,8 +78,8 @@ module _ (b : List ℕ) where
     unfolding headChecked headLength countAt
     head-passes =
         rw (
-          le-ltb (length b) 6 (omega (arith, head-fits)),
-          sizes-pass 8 (inputs b) (outputs b) (frames b) (W .sizes),
+          le-ltb (length b) sizesLength (omega (arith, head-fits)),
+          sizes-pass mostInputs (inputs b) (outputs b) (frames b) (W .sizes),
           le-ltb (length b) (headLength (frames b)) head-fits,
           counts-pass,
           eq-eqb (length b) (tableLength b) L,

@@ -8,6 +8,8 @@ use lib.Dec.{ltb, eqb, lit<}
 use lib.ListN.{length, take, drop, replicate}
 use lib.Seq.{take-at}
 use borrow.Author.Tests.{lt-ltb, le-ltb, ltb-false, ne-eqb}
+use Rattle.sizes.specs.Limits.{mostInputs, mostOutputs, mostFrames, mostBits}
+use Rattle.circuit.specs.Limits.{mostGates, circuitHead}
 use Rattle.verdict.specs.Judgements.{answer, figures, refuse, andThen, refuseFirst, resultAfter}
 use Rattle.verdict.specs.declared.Figures.{Figures}
 use Rattle.verdict.specs.declared.Verdict.{Verdict}
@@ -44,16 +46,16 @@ sizes-number : (most n m T : ℕ) → sizesChecked most n m T .number < 5
 unfolding sizesChecked
 sizes-number most n m T =
     under-refuse 5 (outside 1 most n) 2 0 _ (lit< tt)
-    (under-refuse 5 (outside 1 16 m) 2 2 _ (lit< tt)
-    (under-refuse 5 (outside 1 16 T) 2 4 _ (lit< tt)
-    (under-refuse 5 (ltb 16 (n * T)) 2 4 _ (lit< tt) (lit< tt))))
+    (under-refuse 5 (outside 1 mostOutputs m) 2 2 _ (lit< tt)
+    (under-refuse 5 (outside 1 mostFrames T) 2 4 _ (lit< tt)
+    (under-refuse 5 (ltb mostBits (n * T)) 2 4 _ (lit< tt) (lit< tt))))
 
 head-number : (most : ℕ) (b : List ℕ) → headChecked most b .number < 5
 unfolding headChecked
 head-number most b =
-    under-refuse 5 (ltb (length b) 8) 1 (length b) _ (lit< tt)
+    under-refuse 5 (ltb (length b) circuitHead) 1 (length b) _ (lit< tt)
     (under-then 5 (sizesChecked most (inputs b) (outputs b) (frames b)) _ (sizes-number most _ _ _)
-    (under-refuse 5 (outside (allOutputs b) 4096 (gates b)) 2 6 _ (lit< tt)
+    (under-refuse 5 (outside (allOutputs b) mostGates (gates b)) 2 6 _ (lit< tt)
     (under-refuse 5 (not (eqb (length b) (circuitLength b))) 1 (length b) _ (lit< tt) (lit< tt))))
 
 literals-number : (b : List ℕ) (start : ℕ) → literalsChecked b start .number < 5
@@ -68,14 +70,14 @@ ahead-number b = under-first 5 _ 4 _ (answer 0 0) 0 (allOutputs b) (lit< tt) (li
 circuit-number : (b : List ℕ) → checked b .number < 5
 unfolding checked
 circuit-number b =
-    under-then 5 (headChecked 8 b) _ (head-number 8 b)
+    under-then 5 (headChecked mostInputs b) _ (head-number mostInputs b)
     (under-then 5 (literalsChecked b (leftsAt b)) _ (literals-number b (leftsAt b))
     (under-then 5 (literalsChecked b (rightsAt b)) (lookAheadChecked b) (literals-number b (rightsAt b)) (ahead-number b)))
 
 -- ---- what acceptance tells
 
 -- of a circuit
-pub circuit-sized : (b : List ℕ) (p : ℕ) → checked b ≡ answer 0 p → Sized 8 (inputs b) (outputs b) (frames b)
+pub circuit-sized : (b : List ℕ) (p : ℕ) → checked b ≡ answer 0 p → Sized mostInputs (inputs b) (outputs b) (frames b)
 circuit-sized b p e = circuitAccepted b p e .sizes
 
 -- of folding

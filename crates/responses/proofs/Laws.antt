@@ -8,6 +8,7 @@ use native.Mathlib.Omega.{arith}
 use lib.ListN.{length, getD, length-map, drop-of-length-le, take, drop, set}
 use lib.Pow.{pow-mono}
 use lib.Seq.{take-suc, take-length, take-all, take-add, drop-drop, length-take-le, length-front, take-suc-set, take-at, drop-at}
+use Rattle.circuit.specs.Limits.{mostSignals}
 use Rattle.sizes.specs.Sizes.{inputs, outputs, frames}
 use Rattle.sizes.proofs.Laws.{power-is}
 use Rattle.layered.specs.Search.{join, tabulate}
@@ -72,7 +73,7 @@ module _ (b : List ℕ) (head : Head) (H : CircuitHeaded b) (O : HeadOf b head) 
   are-signals : firstOutput head t + head .outputs ≤ gateSignal b (gates b)
   are-signals = omega (arith, first-is, O .outputs-is, output-room b (t - 1) (H .outputs-to) (omega arith))
 
-  pub outputs-fit : firstOutput head t + head .outputs ≤ 4113
+  pub outputs-fit : firstOutput head t + head .outputs ≤ mostSignals
   outputs-fit = omega (arith, are-signals, signals-fit b H)
 
   -- the outputs of frame t on all histories side by side, where v has the lanes of all signals

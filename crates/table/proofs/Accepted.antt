@@ -8,6 +8,8 @@ use lib.Arith.{digits-lt}
 use lib.Dec.{ltb, leb, eqb, lit≤}
 use lib.ListN.{length, take, drop, length-take, length-drop}
 use borrow.Author.Tests.{leb-false, eqb-true, eq-eqb, not-false}
+use Rattle.sizes.specs.Limits.{mostInputs}
+use Rattle.table.specs.Limits.{endStates, mostStates, sizesLength}
 use Rattle.words.specs.Words.{wordAt}
 use Rattle.verdict.specs.Judgements.{answer, firstRefusal}
 use Rattle.verdict.specs.declared.Figures.{Figures}
@@ -23,33 +25,33 @@ use Rattle.table.proofs.Offsets.{part-word, layer-in, arrays-stand}
 
 -- each count is within its limits
 module _ (b : List ℕ) (p : ℕ) (e : countsChecked b ≡ answer 0 p) where
-  counted : (t : ℕ) → t ≤ frames b → (1 ≤ states b t) × (states b t ≤ cond (eqb t 0 || eqb t (frames b)) 1 32768)
+  counted : (t : ℕ) → t ≤ frames b → (1 ≤ states b t) × (states b t ≤ cond (eqb t 0 || eqb t (frames b)) endStates mostStates)
   unfolding countsChecked
   counted t h =
       inside 1 _ (states b t)
-      (none-found (λ t. outside 1 (cond (eqb t 0 || eqb t (frames b)) 1 32768) (states b t)) 2 countAt (answer 0 0) p 0 (suc (frames b)) refl e .0 t zero-le (omega arith))
+      (none-found (λ t. outside 1 (cond (eqb t 0 || eqb t (frames b)) endStates mostStates) (states b t)) 2 countAt (answer 0 0) p 0 (suc (frames b)) refl e .0 t zero-le (omega arith))
 
 -- the limits of a count are at most 32,768, and 1 for layer T
-either-most : (s : Bool) → cond s 1 32768 ≤ 32768
+either-most : (s : Bool) → cond s endStates mostStates ≤ mostStates
 either-most true = lit≤ tt
 either-most false = lit≤ tt
 
-last-most : (s t : Bool) → t ≡ true → cond (s || t) 1 32768 ≤ 1
+last-most : (s t : Bool) → t ≡ true → cond (s || t) endStates mostStates ≤ 1
 last-most s t e = rw (e, or-true) (lit≤ tt)
 
 -- a head that is accepted
 pub headed : (b : List ℕ) (p : ℕ) → headChecked b ≡ answer 0 p → TableHeaded b
 unfolding headChecked
 headed b p e =
-    let e₁ = passed (ltb (length b) 6) 1 (length b) _ p refl e in
-    let e₂ = both-accept (sizesChecked 8 (inputs b) (outputs b) (frames b)) _ p (e₁ .1) in
+    let e₁ = passed (ltb (length b) sizesLength) 1 (length b) _ p refl e in
+    let e₂ = both-accept (sizesChecked mostInputs (inputs b) (outputs b) (frames b)) _ p (e₁ .1) in
     let e₃ = passed (ltb (length b) (headLength (frames b))) 1 (length b) _ p refl (e₂ .2) in
     let e₄ = both-accept (countsChecked b) _ p (e₃ .1) in
     let e₅ = passed (not (eqb (length b) (tableLength b))) 1 (length b) _ p refl (e₄ .2) in
     let count = counted b (e₄ .0) (e₄ .1) in
     let most = last-most (eqb (frames b) 0) (eqb (frames b) (frames b)) (eq-eqb (frames b) (frames b) refl) in
     record {
-      sized = sized 8 (inputs b) (outputs b) (frames b) (e₂ .0) (e₂ .1);
+      sized = sized mostInputs (inputs b) (outputs b) (frames b) (e₂ .0) (e₂ .1);
       one-first = omega (arith, count 0 zero-le);
       one-last = omega (arith, count (frames b) (omega arith), most);
       states-from = λ t h. count t h .0;

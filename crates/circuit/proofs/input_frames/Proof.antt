@@ -5,6 +5,7 @@ use mathlib.Core.List.{_∷_, []}
 use Prim.Native.Nat.{_+_, _-_, _≤_}
 use native.Mathlib.Omega.{arith}
 use lib.ListN.{length, take, length-set}
+use Rattle.circuit.specs.Limits.{mostSignals}
 use Rattle.circuit.specs.Lists.{grown}
 use Rattle.circuit.specs.Circuit.{frameOf, inputFrames}
 use Rattle.circuit.proofs.Laws.{fill-grown}
@@ -12,7 +13,7 @@ use Rattle.circuit.proofs.input_frames.Statement.{statement}
 use Rattle.circuit.proofs.input_frames.Tie as tie
 
 abbrev Inv-loop : tie.InvT-loop
-Inv-loop inputs count latest₀ i₀ latest i = (i ≤ count) × (length latest ≡ 4113) × (take (1 + i) latest ≡ inputFrames inputs i)
+Inv-loop inputs count latest₀ i₀ latest i = (i ≤ count) × (length latest ≡ mostSignals) × (take (1 + i) latest ≡ inputFrames inputs i)
 
 abbrev μ-loop : tie.MeasureT-loop
 μ-loop inputs count latest₀ i₀ latest i = count - i

@@ -6,6 +6,7 @@ use native.Mathlib.Omega.{arith}
 use denote.Ref.{now}
 use borrow.Author.Needs.{needs}
 use lib.ListN.{length, length-take}
+use Rattle.circuit.specs.Limits.{mostSignals}
 use Rattle.circuit.specs.Theorems.{response}
 use Rattle.responses.proofs.Laws.{replaced, replaced-length, replaced-more, replaced-all}
 use Rattle.responses.proofs.respond_each.Statement.{statement}
@@ -13,7 +14,7 @@ use Rattle.responses.proofs.respond_each.Tie as tie
 
 abbrev Inv-loop : tie.InvT-loop
 Inv-loop circuit head t histories₀ lanes₀ count at₀ histories lanes at =
-    (at ≤ count) × (count ≡ length histories₀) × (length lanes ≡ 4113) × (histories ≡ replaced (response circuit t) at histories₀)
+    (at ≤ count) × (count ≡ length histories₀) × (length lanes ≡ mostSignals) × (histories ≡ replaced (response circuit t) at histories₀)
 
 abbrev μ-loop : tie.MeasureT-loop
 μ-loop circuit head t histories₀ lanes₀ count at₀ histories lanes at = count - at

@@ -3,13 +3,14 @@
 use Prim.Native.Nat.{_+_, _≤_}
 use native.Mathlib.Omega.{arith}
 use denote.Ref.{now}
+use Rattle.circuit.specs.Limits.{mostSignals}
 use Rattle.responses.proofs.Laws.{firstOutput, outputs-fit, responses-are}
 use borrow.Author.Needs.{needs}
 use Rattle.responses.proofs.respond_part.Statement.{statement}
 use Rattle.responses.proofs.respond_part.Tie as tie
 
 -- there is room for the outputs of frame t
-fit : (c : tie.Start) → firstOutput (c .args .head) (c .args .t) + c .args .head .outputs ≤ 4113
+fit : (c : tie.Start) → firstOutput (c .args .head) (c .args .t) + c .args .head .outputs ≤ mostSignals
 fit c = let p = c .pre in outputs-fit (now (c .args .circuit)) (c .args .head) (p .0 .headed) (p .0 .head-is) (c .args .t) (p .1 .0 .0) (p .1 .0 .1)
 
 -- once the lanes are there: the entry

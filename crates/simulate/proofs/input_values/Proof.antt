@@ -8,6 +8,7 @@ use native.Mathlib.Nat.{div-le-self, mod-lt, div-lt-iff-lt-mul}
 use native.Mathlib.Omega.{arith}
 use denote.Ref.{now}
 use lib.ListN.{length, getD, take, length-set}
+use Rattle.circuit.specs.Limits.{mostSignals}
 use Rattle.circuit.specs.Lists.{grown, bit}
 use Rattle.circuit.specs.Circuit.{inputValues}
 use Rattle.circuit.proofs.Laws.{fill-grown}
@@ -16,7 +17,7 @@ use Rattle.simulate.proofs.input_values.Tie as tie
 
 abbrev Inv-loop : tie.InvT-loop
 Inv-loop words inputs count values₀ i₀ values i =
-    (i ≤ count) × (length values ≡ 4113) × (take (1 + i) values ≡ inputValues words inputs i)
+    (i ≤ count) × (length values ≡ mostSignals) × (take (1 + i) values ≡ inputValues words inputs i)
 
 abbrev μ-loop : tie.MeasureT-loop
 μ-loop words inputs count values₀ i₀ values i = count - i

@@ -7,6 +7,7 @@ use native.Mathlib.Omega.{arith}
 use borrow.Author.Needs.{needs}
 use denote.Ref.{now}
 use lib.ListN.{length, take, drop, length-set}
+use Rattle.circuit.specs.Limits.{mostSignals}
 use Rattle.circuit.specs.Lists.{grown, listed}
 use Rattle.sizes.specs.Sizes.{outputs as outputsOf}
 use Rattle.circuit.specs.Circuit.{gates, gateSignal, outputSignal, outputWord}
@@ -47,7 +48,7 @@ start c = c .before .before .before .before .before .before .before .before
 abbrev b₀ : tie.In-loop Inv-loop μ-loop → List ℕ
 b₀ c = now (start c .args .circuit)
 
-full : (c : tie.After-signal-values Inv-loop μ-loop) → length (c .signal-values .result) ≡ 4113
+full : (c : tie.After-signal-values Inv-loop μ-loop) → length (c .signal-values .result) ≡ mostSignals
 full c = search needs
 
 -- the outputs of a frame are signals

@@ -7,6 +7,7 @@ use Prim.Native.Nat.{ℕ, suc, _+_, _-_, _≤_}
 use native.Mathlib.Omega.{arith}
 use denote.Ref.{now}
 use lib.Dec.{eqb}
+use Rattle.table.specs.Limits.{endStates, mostStates}
 use Rattle.verdict.specs.Judgements.{answer, refuseFirst}
 use Rattle.verdict.proofs.Laws.{first-here, first-later, first-none}
 use Rattle.sizes.specs.Sizes.{frames, outside}
@@ -16,7 +17,7 @@ use Rattle.table.proofs.head.check_counts.Tie as tie
 
 -- the count of layer t is out of its limits
 abbrev wrong : List ℕ → ℕ → Bool
-wrong b t = outside 1 (cond (eqb t 0 || eqb t (frames b)) 1 32768) (states b t)
+wrong b t = outside 1 (cond (eqb t 0 || eqb t (frames b)) endStates mostStates) (states b t)
 
 abbrev Inv-loop : tie.InvT-loop
 Inv-loop table last count t₀ t = (t ≤ count) × (countsChecked table ≡ refuseFirst (wrong table) 2 countAt (answer 0 0) t (count - t))
@@ -54,7 +55,7 @@ judged : (c : tie.After-is-outside Inv-loop μ-loop) → wrong (now (c .before .
 judged c =
     let a = c .before .before .before .before .before .before in
     let t = c .before .before .before .before .loop .t in
-    let most = c .before .before .most-states .ensures ∙ ap (λ (l : ℕ). cond (eqb t 0 || eqb t l) 1 32768) (a .pre .0) in
+    let most = c .before .before .most-states .ensures ∙ ap (λ (l : ℕ). cond (eqb t 0 || eqb t l) endStates mostStates) (a .pre .0) in
     sym (c .is-outside .ensures ∙ ap₂ (outside 1) most (c .before .states-of .ensures .0))
 
 returns : tie.Need-returns Inv-loop μ-loop

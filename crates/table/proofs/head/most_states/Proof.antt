@@ -5,6 +5,7 @@ use mathlib.Core.Bool.{Bool, true, _||_, cond}
 use mathlib.Core.Logic.{⊎-elim}
 use lib.Dec.{eqb}
 use borrow.Author.Tests.{eq-eqb, ne-eqb}
+use Rattle.table.specs.Limits.{endStates, mostStates}
 use Rattle.verdict.specs.Judgements.{}
 use Rattle.table.proofs.head.most_states.Statement.{statement}
 use Rattle.table.proofs.head.most_states.Tie as tie
@@ -16,10 +17,10 @@ flag c =
     (λ w. rw (ne-eqb t 0 (w .0 .left)) (sym (w .1))) (c .if1 .came)
 
 returns : tie.Need-returns
-returns c = ap (λ (f : Bool). cond f 1 32768) (sym (flag (c .before) ∙ c .if2 .taken))
+returns c = ap (λ (f : Bool). cond f endStates mostStates) (sym (flag (c .before) ∙ c .if2 .taken))
 
 returns-2 : tie.Need-returns-2
-returns-2 c = ap (λ (f : Bool). cond f 1 32768) (sym (flag (c .before) ∙ c .if2 .left))
+returns-2 c = ap (λ (f : Bool). cond f endStates mostStates) (sym (flag (c .before) ∙ c .if2 .left))
 
 pub most-states-spec : {M : Type 1} → statement M
 most-states-spec = tie.close (tie.spec returns returns-2)
