@@ -10,11 +10,14 @@ use Rattle.words.specs.Words.{wordAt}
 use Rattle.layered.proofs.Search.{tally-le}
 use Rattle.unfolded.specs.Unfolded.{invertedEdges}
 use Rattle.unfolded.proofs.Counts.{edges-length}
-use Rattle.chains.specs.Chains.{chosen, gathering}
+use Rattle.chains.specs.Chains.{chosen, gatherEdges}
+use Rattle.chains.specs.declared.Target.{Target}
+use Rattle.chains.specs.declared.gathers.Key.{Key}
+use Rattle.chains.specs.declared.gathers.Gathering.{Gathering}
 
--- which edges are gathered
-abbrev pub gathered : List ℕ → (nexts : Bool) (which : ℕ) → ℕ → Bool
-gathered entries nexts which e = chosen nexts which (wordAt entries (2 * e))
+-- which edges chain i gathers
+abbrev pub belongs : Key → List ℕ → (i e : ℕ) → Bool
+belongs key entries i e = chosen key i (wordAt entries (2 * e))
 
 module _ (at : ℕ) (test : ℕ → Bool) where
   pub edge-taken : (e : ℕ) → test e ≡ true → invertedEdges at test e ++ ((2 * (at + e) + 1) ∷ []) ≡ invertedEdges at test (e + 1)
@@ -37,7 +40,7 @@ module _ (at : ℕ) (test : ℕ → Bool) where
   edge-room e c h q = omega (arith, taken-length e q, edges-most (e + 1) c (omega arith))
 
 -- all edges
-pub gathering-is : (at : ℕ) (entries : List ℕ) (nexts : Bool) (which c : ℕ) → c ≡ length entries / 2
-    → invertedEdges at (gathered entries nexts which) c ≡ gathering at entries nexts which
-unfolding gathering
-gathering-is at entries nexts which c e = rw e
+pub all-edges : (target : Target) (g : Gathering) (entries : List ℕ) (i c : ℕ) → c ≡ length entries / 2
+    → invertedEdges (target .base + g .edges) (belongs (g .key) entries i) c ≡ gatherEdges target g entries i
+unfolding gatherEdges
+all-edges target g entries i c e = rw e

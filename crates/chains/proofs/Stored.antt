@@ -7,8 +7,7 @@ use native.Mathlib.Nat.{le-refl}
 use native.Mathlib.Decide.{le-ind}
 use native.Mathlib.Numerals.{add-one}
 use native.Mathlib.Omega.{arith}
-use lib.ListN.{length, set, length-append, length-map}
-use lib.Seq.{sets}
+use lib.ListN.{length, length-append, length-map}
 use borrow.Author.Tests.{eq-eqb, ne-eqb}
 use Rattle.words.specs.Words.{stored}
 use Rattle.words.proofs.Laws.{stored-none, stored-length, stored-more, stored-comm}
@@ -144,17 +143,3 @@ each-more G k v w f i j g ew ej eg h room =
     ap (λ (w : List ℕ). gatesStored G j w (g ∷ [])) ew
     ∙ gates-append G k v (listed [] f i) (g ∷ []) j (omega (arith, listed-length f i)) (omega arith) room
     ∙ ap (gatesStored G k v) (listed-more f i g eg)
-
--- ---- literals that are kept in a list
-
-pub kept-more : (l l₀ : List ℕ) (at : ℕ) (f : ℕ → ℕ) (i j x : ℕ) → l ≡ sets l₀ at (listed [] f i) → j ≡ at + i → x ≡ f i → set l j x ≡ sets l₀ at (listed [] f (i + 1))
-kept-more l l₀ at f i j x el ej ex =
-    ap₂ (λ (l : List ℕ) (j : ℕ). set l j x) el (ej ∙ ap (λ (k : ℕ). at + k) (sym (listed-length f i)))
-    ∙ sets-snoc l₀ at (listed [] f i) x
-    ∙ ap (sets l₀ at) (listed-more f i x ex)
-  where
-    sets-snoc : (l : List ℕ) (at : ℕ) (xs : List ℕ) (x : ℕ) → set (sets l at xs) (at + length xs) x ≡ sets l at (xs ++ (x ∷ []))
-    sets-snoc l at [] x = let e : at + 0 ≡ at = omega arith in ap (λ (j : ℕ). set l j x) e
-    sets-snoc l at (y ∷ xs) x =
-        let e : at + suc (length xs) ≡ suc at + length xs = omega arith in
-        ap (λ (j : ℕ). set (sets (set l at y) (suc at) xs) j x) e ∙ sets-snoc (set l at y) (suc at) xs x

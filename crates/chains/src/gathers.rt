@@ -5,24 +5,32 @@ use super::gates::put_gate;
 use circuit::is_set;
 use words::read;
 ghost use mathlib.Core.Path.{_≡_};
-ghost use mathlib.Core.Bool.{false};
-ghost use mathlib.Core.List.{[]};
-ghost use Prim.Native.Nat.{_+_, _/_, _%_, _≤_, _<_};
+ghost use Prim.Native.Nat.{_+_, _/_, _≤_, _<_};
 ghost use lib.ListN.{length};
-ghost use lib.Seq.{sets};
-ghost use Rattle.unfolded.specs.Unfolded.{inverted, chain, chainsFrom, ending};
-ghost use Rattle.circuit.specs.Lists.{listed};
-ghost use Rattle.chains.specs.Chains.{Fits, gatesStored, chosen, gathering};
+ghost use Rattle.unfolded.specs.Unfolded.{inverted, chain};
+ghost use Rattle.chains.specs.Chains.{Fits, gatesStored, chosen, gatherEdges, gatherGates, gatherLiterals};
 
-// Whether an edge is gathered: of next states, where x is the state; of outputs, where bit `which` of x is 1.
-fn is_chosen(nexts: bool, which: usize, x: usize) -> bool
-    requires { ⌜ (nexts ≡ false → which < 16) ⌝ }
-    ensures { λ r. ⌜ r ≡ chosen nexts which x ⌝ }
+// By what an edge belongs to gather chain i: its next state is i, or bit i of its output is 1.
+pub enum Key {
+    NextState,
+    OutputBit,
+}
+
+// What is gathered: the edges from gate `edges` on, by their next states or by the bits of their outputs.
+pub struct Gathering {
+    pub key: Key,
+    pub edges: usize,
+}
+
+// Whether an edge with the next state or output x belongs to chain i.
+fn is_chosen(key: Key, i: usize, x: usize) -> bool
+    requires { ⌜ (key ≡ Key.OutputBit → i < 16) ⌝ }
+    ensures { λ r. ⌜ r ≡ chosen key i x ⌝ }
 {
-    if nexts {
-        return x == which;
+    match key {
+        Key::NextState => x == i,
+        Key::OutputBit => is_set(x, i),
     }
-    is_set(x, which)
 }
 
 // A literal inverted.
@@ -37,59 +45,58 @@ fn invert(literal: usize) -> usize
     }
 }
 
-// A gather chain from gate k on, of a layer's next states or outputs whose edges are the gates from `edges` on; answers where it ends.
+// Gather chain i, from gate k on; `entries` are the edges' next states or outputs. Answers where it ends.
 fn put_gather(
     target: Target,
     entries: &[u8],
-    edges: usize,
-    nexts: bool,
-    which: usize,
+    gathering: Gathering,
+    i: usize,
     k: usize,
     result: &mut [u8],
 ) -> usize
     requires { ⌜ Fits target (now result) ⌝ }
-    requires { ⌜ (nexts ≡ false → which < 16) ⌝ }
-    requires { ⌜ edges + length (now entries) / 2 ≤ target .gates ⌝ }
-    requires { ⌜ k + length (gathering (target .base + edges) (now entries) nexts which) ≤ target .gates ⌝ }
-    ensures gates { λ _. ⌜ now (result .exit) ≡ gatesStored (target .gates) k (now (result .entry)) (chain (target .base + k) 1 (gathering (target .base + edges) (now (entries .entry)) nexts which)) ⌝ }
-    ensures end { λ r. ⌜ r ≡ k + length (gathering (target .base + edges) (now (entries .entry)) nexts which) ⌝ }
+    requires { ⌜ (gathering .key ≡ Key.OutputBit → i < 16) ⌝ }
+    requires { ⌜ gathering .edges + length (now entries) / 2 ≤ target .gates ⌝ }
+    requires { ⌜ k + length (gatherEdges target gathering (now entries) i) ≤ target .gates ⌝ }
+    ensures gates { λ _. ⌜ now (result .exit) ≡ gatesStored (target .gates) k (now (result .entry)) (chain (target .base + k) 1 (gatherEdges target gathering (now (entries .entry)) i)) ⌝ }
+    ensures end { λ r. ⌜ r ≡ k + length (gatherEdges target gathering (now (entries .entry)) i) ⌝ }
 {
+    let key = gathering.key;
+    let edges = target.base + gathering.edges;
     let count = entries.len() / 2;
     let mut end = k;
     for e in 0..count {
-        if is_chosen(nexts, which, read(entries, 2 * e)) {
+        if is_chosen(key, i, read(entries, 2 * e)) {
             let left = chain_end(target, k, end);
-            put_gate(target, end, left, 2 * (target.base + edges + e) + 1, result);
+            put_gate(target, end, left, 2 * (edges + e) + 1, result);
             end += 1;
         }
     }
     end
 }
 
-// The first `count` gather chains, from gate k on; what each ends with, inverted, is kept from `at` on. Answers where they end.
+// One gather chain for each of `literals`, from gate k on, which are left with what each ends with, inverted. Answers where they end.
 pub fn put_gathers(
     target: Target,
     entries: &[u8],
-    edges: usize,
-    nexts: bool,
-    count: usize,
+    gathering: Gathering,
     k: usize,
     literals: &mut [u16],
-    at: usize,
     result: &mut [u8],
 ) -> usize
     requires { ⌜ Fits target (now result) ⌝ }
-    requires { ⌜ (nexts ≡ false → count ≤ 16) ⌝ }
-    requires { ⌜ (edges + length (now entries) / 2 ≤ target .gates) × (at + count ≤ length (now literals)) ⌝ }
-    requires { ⌜ k + length (chainsFrom (target .base + k) (gathering (target .base + edges) (now entries) nexts) count) ≤ target .gates ⌝ }
-    ensures gates { λ _. ⌜ now (result .exit) ≡ gatesStored (target .gates) k (now (result .entry)) (chainsFrom (target .base + k) (gathering (target .base + edges) (now (entries .entry)) nexts) count) ⌝ }
-    ensures ends { λ _. ⌜ now (literals .exit) ≡ sets (now (literals .entry)) at (listed [] (λ i. inverted (ending (target .base + k) (gathering (target .base + edges) (now (entries .entry)) nexts) i)) count) ⌝ }
-    ensures end { λ r. ⌜ r ≡ k + length (chainsFrom (target .base + k) (gathering (target .base + edges) (now (entries .entry)) nexts) count) ⌝ }
+    requires { ⌜ (gathering .key ≡ Key.OutputBit → length (now literals) ≤ 16) ⌝ }
+    requires { ⌜ gathering .edges + length (now entries) / 2 ≤ target .gates ⌝ }
+    requires { ⌜ k + length (gatherGates target gathering (now entries) k (length (now literals))) ≤ target .gates ⌝ }
+    ensures gates { λ _. ⌜ now (result .exit) ≡ gatesStored (target .gates) k (now (result .entry)) (gatherGates target gathering (now (entries .entry)) k (length (now (literals .entry)))) ⌝ }
+    ensures ends { λ _. ⌜ now (literals .exit) ≡ gatherLiterals target gathering (now (entries .entry)) k (length (now (literals .entry))) ⌝ }
+    ensures end { λ r. ⌜ r ≡ k + length (gatherGates target gathering (now (entries .entry)) k (length (now (literals .entry)))) ⌝ }
 {
+    let count = literals.len();
     let mut end = k;
     for i in 0..count {
-        let next = put_gather(target, entries, edges, nexts, i, end, result);
-        literals[at + i] = invert(chain_end(target, end, next)) as u16;
+        let next = put_gather(target, entries, gathering, i, end, result);
+        literals[i] = invert(chain_end(target, end, next)) as u16;
         end = next;
     }
     end

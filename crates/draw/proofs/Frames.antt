@@ -9,8 +9,8 @@ use native.Mathlib.Decide.{le-ind}
 use native.Mathlib.Omega.{arith}
 use lib.Dec.{ltb}
 use lib.Pow.{pow-pos, pow-mono}
-use lib.ListN.{length, getD, take, length-append, length-take}
-use lib.Seq.{getD-take, take-at, sets, sets-eq}
+use lib.ListN.{length, getD, take, drop, length-append, length-drop}
+use lib.Seq.{getD-take, take-at, take-append-seam, length-take-le}
 use borrow.Author.Tests.{ne-eqb, ltb-true}
 use Rattle.words.specs.Words.{wordAt}
 use Rattle.sizes.specs.Sizes.{inputs, outputs, frames}
@@ -22,11 +22,17 @@ use Rattle.unfolded.specs.Unfolded.{lastOf, chainsFrom, ending, inverted, Frame
 use Rattle.circuit.proofs.Lists.{listed-length, listed-cong}
 use Rattle.unfolded.proofs.Drawings.{drawn-length, frame-nexts}
 use Rattle.unfolded.proofs.Counts.{matches-length, match-count, edge-count, frame-count}
-use Rattle.chains.specs.Chains.{targetOf, gatesStored, endOf, matchOf, edgeOf, chosen, gathering}
+use Rattle.chains.specs.Chains.{targetOf, gatesStored, endOf, matchOf, edgeOf, chosen, gatherEdges, gatherGates, gatherLiterals}
 use Rattle.chains.specs.declared.Target.{Target}
+use Rattle.chains.specs.declared.gathers.Key.{Key}
+use Rattle.chains.specs.declared.gathers.Key.the-variants.{NextState, OutputBit}
+use Rattle.chains.specs.declared.gathers.Gathering.{Gathering}
 use Rattle.chains.proofs.Laws.{match-length}
 use Rattle.chains.proofs.Stored.{gates-append, end-is}
-use Rattle.table.proofs.Parts.{part-length, part-entry}
+use Rattle.table.proofs.Parts.{part-in, part-length, part-entry}
+use Rattle.draw.specs.Limits.{mostDrawnStates}
+use Rattle.draw.specs.Draw.{planOf, StatesKept}
+use Rattle.draw.specs.declared.Plan.{Plan}
 
 -- ---- parts of a frame
 
@@ -48,35 +54,59 @@ edges-cong at p q zero h = refl
 edges-cong at p q (suc c) h =
     ap₂ (λ (rs : List ℕ) (t : Bool). rs ++ cond t ((2 * (at + c) + 1) ∷ []) []) (edges-cong at p q c (λ e l. h e (omega arith))) (h c (omega arith))
 
+module _ (b : List ℕ) (H : TableHeaded b) where
+  pub outputs-stand : outputsAt b + 2 * entryCount b ≤ length b
+  outputs-stand = omega (arith, H .whole, arrays-stand b)
+
+  pub nexts-stand : nextsAt b + 2 * entryCount b ≤ length b
+  nexts-stand = omega (arith, H .whole, arrays-stand b)
+
+pub next-is-not-output : NextState ≡ OutputBit → ⊥
+next-is-not-output e = let z : _≡_ {A = ℕ} 0 1 = cc in omega arith
+
 module _ (b : List ℕ) (H : TableHeaded b) (t : ℕ) (h : t < frames b) where
   abbrev E : ℕ
   E = states b t * 2 ^ inputs b
 
   -- the edges that are gathered, by their entries
-  abbrev gathers : (start : ℕ) (nexts : Bool) (which e : ℕ) → Bool
-  gathers start nexts which e = chosen nexts which (wordAt b (entryAt b start t (e / 2 ^ inputs b) (e % 2 ^ inputs b)))
+  abbrev gathers : Key → (start i e : ℕ) → Bool
+  gathers key start i e = chosen key i (wordAt b (entryAt b start t (e / 2 ^ inputs b) (e % 2 ^ inputs b)))
 
-  part-edges : (start at : ℕ) (nexts : Bool) (which : ℕ) → start + 2 * entryCount b ≤ length b
-      → gathering at (layerPart b start t) nexts which ≡ invertedEdges at (gathers start nexts which) E
-  unfolding gathering
-  part-edges start at nexts which room =
+  part-edges : (target : Target) (g : Gathering) (start : ℕ) (p : List ℕ) (i : ℕ) → p ≡ layerPart b start t → start + 2 * entryCount b ≤ length b
+      → gatherEdges target g p i ≡ invertedEdges (target .base + g .edges) (gathers (g .key) start i) E
+  unfolding gatherEdges
+  part-edges target g start p i ep room =
+      let at : ℕ = target .base + g .edges in
       let c : length (layerPart b start t) / 2 ≡ E = omega (arith, part-length b start t room h) in
-      ap (invertedEdges at (λ e. chosen nexts which (wordAt (layerPart b start t) (2 * e)))) c
-      ∙ edges-cong at _ _ E (λ e l. ap (chosen nexts which) (part-entry b start t e l))
+      ap (λ (p : List ℕ). gatherEdges target g p i) ep
+      ∙ ap (invertedEdges at (λ e. chosen (g .key) i (wordAt (layerPart b start t) (2 * e)))) c
+      ∙ edges-cong at _ _ E (λ e l. ap (chosen (g .key) i) (part-entry b start t e l))
 
-  outputs-in : outputsAt b + 2 * entryCount b ≤ length b
-  outputs-in = omega (arith, H .whole, arrays-stand b)
+  -- a plan's entries stand in the table, and are the layer's
+  module _ (first : ℕ) (p : Plan) (e : p ≡ planOf b t first) where
+    pub nexts-part : (p .nexts + 2 * p .edges ≤ length b) × (take (2 * p .edges) (drop (p .nexts) b) ≡ layerPart b (nextsAt b) t)
+    unfolding layerPart
+    nexts-part =
+        let room = part-in b (nextsAt b) t (nexts-stand b H) h in
+        (omega (arith, ap (λ (p : Plan). p .nexts) e, ap (λ (p : Plan). p .edges) e), λ i. take (2 * e i .edges) (drop (e i .nexts) b))
 
-  nexts-in : nextsAt b + 2 * entryCount b ≤ length b
-  nexts-in = omega (arith, H .whole, arrays-stand b)
+    pub outputs-part : (p .outputs + 2 * p .edges ≤ length b) × (take (2 * p .edges) (drop (p .outputs) b) ≡ layerPart b (outputsAt b) t)
+    unfolding layerPart
+    outputs-part =
+        let room = part-in b (outputsAt b) t (outputs-stand b H) h in
+        (omega (arith, ap (λ (p : Plan). p .outputs) e, ap (λ (p : Plan). p .edges) e), λ i. take (2 * e i .edges) (drop (e i .outputs) b))
 
   module _ (target : Target) (e : target ≡ targetOf b) (d : Drawing) where
     abbrev F : Frame
     F = tableFrame b t d
 
+    pub outs-count : target .outputs ≡ F .outputs
+    unfolding tableFrame
+    outs-count = rw e
+
     -- the arguments of the code's calls, and the gates that they store
     module _ (k : ℕ) (ek : k ≡ length (d .gates)) where
-      pub frame-first : target .base + k ≡ F .at
+      frame-first : target .base + k ≡ F .at
       unfolding tableFrame
       frame-first = rw (e, ek)
 
@@ -90,7 +120,7 @@ module _ (b : List ℕ) (H : TableHeaded b) (t : ℕ) (h : t < frames b) where
 
       -- the first edge is gate j
       module _ (j : ℕ) (ej : j ≡ k + target .words * target .inputs) where
-        pub edges-first : target .base + j ≡ edgesAt F
+        edges-first : target .base + j ≡ edgesAt F
         unfolding edgesAt
         edges-first = omega (arith, frame-first, matches-count)
 
@@ -107,46 +137,47 @@ module _ (b : List ℕ) (H : TableHeaded b) (t : ℕ) (h : t < frames b) where
 
         -- the first gather gate is gate g
         module _ (g : ℕ) (eg : g ≡ j + E) where
-          pub nexts-first : target .base + g ≡ nextGatesAt F
+          nexts-first : target .base + g ≡ nextGatesAt F
           unfolding nextGatesAt tableFrame
           nexts-first = omega (arith, edges-first, edge-count F)
 
           -- the chains of the next states
-          entering-are : (s : ℕ) → gathering (target .base + j) (layerPart b (nextsAt b) t) true s ≡ entering F s
-          unfolding entering tableFrame chosen
-          entering-are s = part-edges (nextsAt b) (target .base + j) true s nexts-in ∙ ap (λ (at : ℕ). invertedEdges at (gathers (nextsAt b) true s) E) edges-first
+          module _ (p : List ℕ) (ep : p ≡ layerPart b (nextsAt b) t) where
+            abbrev nexts : Gathering
+            nexts = record { key = NextState; edges = j }
 
-          pub nexts-are : (count : ℕ) → count ≡ F .nexts → chainsFrom (target .base + g) (gathering (target .base + j) (layerPart b (nextsAt b) t) true) count ≡ nextGates F
-          unfolding nextGates
-          nexts-are count ec = λ i. chainsFrom (nexts-first i) (λ s. entering-are s i) (ec i)
+            entering-are : (s : ℕ) → gatherEdges target nexts p s ≡ entering F s
+            unfolding entering tableFrame chosen
+            entering-are s = part-edges target nexts (nextsAt b) p s ep (nexts-stand b H) ∙ ap (λ (at : ℕ). invertedEdges at (gathers NextState (nextsAt b) s) E) edges-first
 
-          pub next-literals : (count : ℕ) → count ≡ F .nexts
-              → listed [] (λ s. inverted (ending (target .base + g) (gathering (target .base + j) (layerPart b (nextsAt b) t) true) s)) count ≡ listed [] (nextLiteral F) (F .nexts)
-          unfolding nextLiteral
-          next-literals count ec = λ i. listed [] (λ s. inverted (ending (nexts-first i) (λ s. entering-are s i) s)) (ec i)
+            pub nexts-are : (count : ℕ) → count ≡ F .nexts → gatherGates target nexts p g count ≡ nextGates F
+            unfolding nextGates
+            nexts-are count ec = λ i. chainsFrom (nexts-first i) (λ s. entering-are s i) (ec i)
+
+            pub next-literals : (count : ℕ) → count ≡ F .nexts → gatherLiterals target nexts p g count ≡ listed [] (nextLiteral F) (F .nexts)
+            unfolding nextLiteral
+            next-literals count ec = λ i. listed [] (λ s. inverted (ending (nexts-first i) (λ s. entering-are s i) s)) (ec i)
 
           -- the first gather gate of the outputs is gate o
-          module _ (o : ℕ) (eo : o ≡ g + length (nextGates F)) where
-            pub outs-first : target .base + o ≡ outGatesAt F
+          module _ (o : ℕ) (eo : o ≡ g + length (nextGates F)) (p : List ℕ) (ep : p ≡ layerPart b (outputsAt b) t) where
+            abbrev words : Gathering
+            words = record { key = OutputBit; edges = j }
+
+            outs-first : target .base + o ≡ outGatesAt F
             unfolding outGatesAt
             outs-first = omega (arith, nexts-first)
 
-            with-bit-are : (s : ℕ) → gathering (target .base + j) (layerPart b (outputsAt b) t) false s ≡ withBit F s
+            with-bit-are : (s : ℕ) → gatherEdges target words p s ≡ withBit F s
             unfolding withBit tableFrame chosen
-            with-bit-are s = part-edges (outputsAt b) (target .base + j) false s outputs-in ∙ ap (λ (at : ℕ). invertedEdges at (gathers (outputsAt b) false s) E) edges-first
+            with-bit-are s = part-edges target words (outputsAt b) p s ep (outputs-stand b H) ∙ ap (λ (at : ℕ). invertedEdges at (gathers OutputBit (outputsAt b) s) E) edges-first
 
-            outs-count : target .outputs ≡ F .outputs
-            unfolding tableFrame
-            outs-count = rw e
-
-            pub outs-are : chainsFrom (target .base + o) (gathering (target .base + j) (layerPart b (outputsAt b) t) false) (target .outputs) ≡ outGates F
+            pub outs-are : (count : ℕ) → count ≡ F .outputs → gatherGates target words p o count ≡ outGates F
             unfolding outGates
-            outs-are = λ i. chainsFrom (outs-first i) (λ s. with-bit-are s i) (outs-count i)
+            outs-are count ec = λ i. chainsFrom (outs-first i) (λ s. with-bit-are s i) (ec i)
 
-            pub out-literals : listed [] (λ s. inverted (ending (target .base + o) (gathering (target .base + j) (layerPart b (outputsAt b) t) false) s)) (target .outputs)
-                ≡ listed [] (outLiteral F) (target .outputs)
+            pub out-literals : (count : ℕ) → count ≡ F .outputs → gatherLiterals target words p o count ≡ listed [] (outLiteral F) (F .outputs)
             unfolding outLiteral
-            out-literals = λ i. listed [] (λ s. inverted (ending (outs-first i) (λ s. with-bit-are s i) s)) (target .outputs)
+            out-literals count ec = λ i. listed [] (λ s. inverted (ending (outs-first i) (λ s. with-bit-are s i) s)) (ec i)
 
 -- ---- the parts together
 
@@ -216,6 +247,13 @@ module _ (b : List ℕ) where
 
 -- ---- all frames
 
+-- a part that is lent, and the list when it is back
+pub part-size : (v : List ℕ) (a k : ℕ) → a + k ≤ length v → length (take (a + k - a) (drop a v)) ≡ k
+part-size v a k h = length-take-le (a + k - a) (drop a v) (simp length-drop (omega arith)) ∙ omega arith
+
+pub part-back : (v w : List ℕ) (a k : ℕ) → length w ≡ k → a + k ≤ length v → length (take a v ++ (w ++ drop (a + k - a) (drop a v))) ≡ length v
+part-back v w a k e h = simp (length-append, length-drop) (omega (arith, length-take-le a v (omega arith)))
+
 -- one frame more, behind those that are stored
 pub drawn-more : (b : List ℕ) (G : ℕ) (v w w′ : List ℕ) (t k : ℕ) → w ≡ gatesStored G 0 v (drawing b t .gates) → k ≡ length (drawing b t .gates)
     → w′ ≡ gatesStored G k w (frameGates (tableFrame b t (drawing b t))) → length (drawing b (suc t) .gates) ≤ G → 8 + 4 * G ≤ length v
@@ -225,29 +263,30 @@ drawn-more b G v w w′ t k ew ek e h room =
     let fs : List (ℕ × ℕ) = frameGates (tableFrame b t (drawing b t)) in
     e ∙ ap (λ (w : List ℕ). gatesStored G k w fs) ew ∙ gates-append G 0 v (drawing b t .gates) fs k (omega arith) (omega (arith, frame-ends b t)) room
 
--- literals that are kept behind others
-pub kept-behind : (v xs ys : List ℕ) (n m : ℕ) → take n v ≡ ys → n + length xs ≤ length v → m ≡ n + length xs → take m (sets v n xs) ≡ ys ++ xs
-kept-behind v xs ys n m e h em =
-    ap (take m) (sets-eq xs v n h) ∙ take-at (take n v ++ xs) _ m (length-append (take n v) xs ∙ omega (arith, length-take n v)) ∙ ap (λ (l : List ℕ). l ++ xs) e
-
 module _ (b : List ℕ) where
-  pub states-kept : (v w : List ℕ) (t u : ℕ) → u ≡ suc t → w ≡ sets v 0 (drawing b (suc t) .states) → length (drawing b (suc t) .states) ≤ length v
-      → take (length (drawing b u .states)) w ≡ drawing b u .states
-  states-kept v w t u eu ew h = rw (eu, ew) (kept-behind v (drawing b (suc t) .states) [] 0 (length (drawing b (suc t) .states)) refl (omega arith) (omega arith))
+  -- the literals of the next layer's states stand in front of the list v
+  pub states-left : (v w : List ℕ) (t k : ℕ) → w ≡ drawing b (suc t) .states → k ≡ length w → k ≤ length v → length v ≡ mostDrawnStates → StatesKept b (suc t) (w ++ drop k v)
+  states-left v w t k ew ek h l =
+      record { long = simp (length-append, length-drop) (omega arith); kept = ap (λ (u : List ℕ). take (length u) (w ++ drop k v)) (sym ew) ∙ take-append-seam w (drop k v) ∙ ew }
 
-  pub outputs-kept : (v : List ℕ) (t m : ℕ) → m ≡ outputs b → take (m * t) v ≡ drawing b t .outputs → m * t + m ≤ length v
-      → take (m * (t + 1)) (sets v (m * t) (listed [] (outLiteral (tableFrame b t (drawing b t))) m)) ≡ drawing b (suc t) .outputs
+  -- a plan that was read at t is that of its own frame
+  pub plan-again : (t k : ℕ) (p : Plan) → p ≡ planOf b t k → k ≡ length (drawing b t .gates) → p ≡ planOf b (p .frame) (length (drawing b (p .frame) .gates))
+  plan-again t k p e ek =
+      let f : t ≡ p .frame = sym (ap (λ (p : Plan). p .frame) e) in
+      let g : k ≡ length (drawing b (p .frame) .gates) = ek ∙ ap (λ (t : ℕ). length (drawing b t .gates)) f in
+      e ∙ (λ i. planOf b (f i) (g i))
+
+  -- the literals of a frame's outputs stand behind those of earlier frames in the list v
+  pub outputs-left : (v w rest : List ℕ) (t m : ℕ) → m ≡ outputs b → take (m * t) v ≡ drawing b t .outputs → m * t ≤ length v → w ≡ listed [] (outLiteral (tableFrame b t (drawing b t))) m
+      → take (m * (t + 1)) (take (m * t) v ++ (w ++ rest)) ≡ drawing b (suc t) .outputs
   unfolding drawing withFrame tableFrame
-  outputs-kept v t m em e h =
-      let ls : List ℕ = listed [] (outLiteral (tableFrame b t (drawing b t))) m in
-      let n : length ls ≡ m = listed-length _ m in
-      kept-behind v ls (drawing b t .outputs) (m * t) (m * (t + 1)) e (omega arith) (omega (arith, mul-suc m t, ap (λ (k : ℕ). m * k) (add-one t)))
-      ∙ ap (λ (k : ℕ). drawing b t .outputs ++ listed [] (outLiteral (tableFrame b t (drawing b t))) k) em
-
-  -- a layer that is drawn has a literal for each state, and the last has none
-  pub states-few : (t : ℕ) → (suc t < frames b → states b (suc t) ≤ 2048) → length (drawing b (suc t) .states) ≤ 2048
-  unfolding tableFrame
-  states-few t h = rw (states-next b t, listed-length) (few-drawn b (suc t) h)
+  outputs-left v w rest t m em ev h ew =
+      let F : Frame = tableFrame b t (drawing b t) in
+      let n : length w ≡ m = ap length ew ∙ listed-length (outLiteral F) m in
+      let l : length (take (m * t) v ++ w) ≡ m * (t + 1) =
+      length-append (take (m * t) v) w ∙ omega (arith, length-take-le (m * t) v h, mul-suc m t, ap (λ (k : ℕ). m * k) (add-one t)) in
+      ap (take (m * (t + 1))) (sym (append-assoc (take (m * t) v) w rest)) ∙ take-at (take (m * t) v ++ w) rest (m * (t + 1)) l
+      ∙ ap₂ (λ (xs ys : List ℕ). xs ++ ys) ev (ew ∙ ap (listed [] (outLiteral F)) em)
 
   -- the output gates, behind all frames
   pub outputs-drawn : (G : ℕ) (v w w′ : List ℕ) (k q : ℕ) (ls : List ℕ) → w ≡ gatesStored G 0 v (drawing b (frames b) .gates) → k ≡ length (drawing b (frames b) .gates)

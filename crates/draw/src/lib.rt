@@ -1,6 +1,8 @@
 // Draws the gates of a table (document 01, "Drawing back into gates"), gate after gate, into a result with room for all of them.
 use chains::Target;
 use chains::gates::put_gate;
+use chains::gathers::Gathering;
+use chains::gathers::Key;
 use chains::gathers::put_gathers;
 use chains::put_edges;
 use chains::put_matches;
@@ -8,18 +10,19 @@ use table::Layout;
 use table::head::entries_below;
 use table::head::states_of;
 ghost use mathlib.Core.Path.{_≡_};
-ghost use mathlib.Core.Bool.{false, cond};
+ghost use mathlib.Core.Bool.{cond};
 ghost use mathlib.Core.List.{_∷_, []};
-ghost use Prim.Native.Nat.{suc, _+_, _*_, _^_, _≤_, _<_};
+ghost use Prim.Native.Nat.{suc, _+_, _*_, _≤_, _<_};
 ghost use lib.Dec.{ltb};
-ghost use lib.ListN.{length, getD, take, replicate};
-ghost use lib.Seq.{sets};
-ghost use Rattle.sizes.specs.Sizes.{inputs, outputs, frames};
+ghost use lib.ListN.{length, getD, take, drop, replicate};
+ghost use Rattle.sizes.specs.Sizes.{frames};
 ghost use Rattle.circuit.specs.Lists.{listed};
-ghost use Rattle.table.specs.Table.{states, entryCount, layerPart};
+ghost use Rattle.table.specs.Table.{states};
 ghost use Rattle.table.specs.Sound.{TableHeaded, Sound, layoutOf};
-ghost use Rattle.unfolded.specs.Unfolded.{inverted, chainsFrom, ending, outLiteral, tableFrame, frameGates, drawing, drawn};
-ghost use Rattle.chains.specs.Chains.{Fits, targetOf, gatesStored, gathering};
+ghost use Rattle.unfolded.specs.Unfolded.{outLiteral, frameGates, drawing, drawn};
+ghost use Rattle.chains.specs.Chains.{Fits, targetOf, gatesStored};
+ghost use Rattle.draw.specs.Limits.{mostLiterals};
+ghost use Rattle.draw.specs.Draw.{frameAt, planOf, StatesKept};
 
 // The most states of a layer that are drawn, as each has two edges or more, and the most outputs over all frames.
 pub struct Limits;
@@ -43,98 +46,92 @@ fn drawn_states(table: &[u8], layout: Layout, t: usize) -> usize
     0
 }
 
-// The gather chains over layer t's part of the array at byte offset `start`, as `put_gathers` stores them.
-fn put_layer(
-    table: &[u8],
-    start: usize,
-    t: usize,
-    target: Target,
+// What a frame is drawn from: its number, its first gate, how many edges it has and how many next states are drawn, and the byte offsets of
+// the edges' next states and outputs.
+struct Plan {
+    frame: usize,
+    first: usize,
     edges: usize,
-    nexts: bool,
-    count: usize,
-    k: usize,
-    literals: &mut [u16],
-    at: usize,
-    result: &mut [u8],
-) -> usize
-    requires { ⌜ TableHeaded (now table) ⌝ }
-    requires { ⌜ (start + 2 * entryCount (now table) ≤ length (now table)) × (t < frames (now table)) × (target .words ≡ 2 ^ inputs (now table)) ⌝ }
-    requires { ⌜ Fits target (now result) ⌝ }
-    requires { ⌜ (nexts ≡ false → count ≤ 16) ⌝ }
-    requires { ⌜ (edges + states (now table) t * 2 ^ inputs (now table) ≤ target .gates) × (at + count ≤ length (now literals)) ⌝ }
-    requires { ⌜ k + length (chainsFrom (target .base + k) (gathering (target .base + edges) (layerPart (now table) start t) nexts) count) ≤ target .gates ⌝ }
-    ensures gates { λ _. ⌜ now (result .exit) ≡ gatesStored (target .gates) k (now (result .entry)) (chainsFrom (target .base + k) (gathering (target .base + edges) (layerPart (now (table .entry)) start t) nexts) count) ⌝ }
-    ensures ends { λ _. ⌜ now (literals .exit) ≡ sets (now (literals .entry)) at (listed [] (λ i. inverted (ending (target .base + k) (gathering (target .base + edges) (layerPart (now (table .entry)) start t) nexts) i)) count) ⌝ }
-    ensures end { λ r. ⌜ r ≡ k + length (chainsFrom (target .base + k) (gathering (target .base + edges) (layerPart (now (table .entry)) start t) nexts) count) ⌝ }
-{
-    let from = start + 2 * entries_below(table, target.words, t);
-    let to = from + 2 * (states_of(table, t) * target.words);
-    put_gathers(
-        target,
-        &table[from..to],
-        edges,
-        nexts,
-        count,
-        k,
-        literals,
-        at,
-        result,
-    )
+    drawn: usize,
+    nexts: usize,
+    outputs: usize,
 }
 
-// The gates of frame t, from gate k on: the match chains, the edges, and the gather chains of the next states and of the outputs. `states` has
-// the literals of layer t's states and is left with those of the next layer; the literals of the outputs go behind those of earlier frames.
-// Answers where the gates end.
+impl Plan {
+    fn read(table: &[u8], layout: Layout, t: usize, first: usize) -> Plan
+        requires { ⌜ TableHeaded (now table) ⌝ }
+        requires { ⌜ (layout ≡ layoutOf (now table)) × (t < frames (now table)) ⌝ }
+        ensures { λ r. ⌜ r ≡ planOf (now (table .entry)) t first ⌝ }
+    {
+        let edges = states_of(table, t) * layout.words;
+        let drawn = drawn_states(table, layout, t + 1);
+        let below = 2 * entries_below(table, layout.words, t);
+        Plan {
+            frame: t,
+            first,
+            edges,
+            drawn,
+            nexts: layout.nexts + below,
+            outputs: layout.outputs + below,
+        }
+    }
+}
+
+// The entries of so many edges, from byte offset `from` on.
+fn entries_from(table: &[u8], from: usize, edges: usize) -> &[u8]
+    requires { ⌜ from + 2 * edges ≤ length (now table) ⌝ }
+    ensures { λ r. ⌜ now r ≡ take (2 * edges) (drop from (now (table .entry))) ⌝ }
+{
+    let to = from + 2 * edges;
+    &table[from..to]
+}
+
+// The gates of a frame: the match chains, the edges, and the gather chains of the next states and of the outputs. `states` has the literals of
+// the states that the edges leave, and is left with those of the next layer; `outputs` is left with those of the frame's outputs. Answers where
+// the gates end.
 fn put_frame(
     table: &[u8],
-    layout: Layout,
     target: Target,
-    t: usize,
-    k: usize,
+    plan: Plan,
     states: &mut [u16],
     outputs: &mut [u16],
     result: &mut [u8],
 ) -> usize
     requires { ⌜ Sound (now table) ⌝ }
-    requires { ⌜ layout ≡ layoutOf (now table) ⌝ }
     requires { ⌜ (target ≡ targetOf (now table)) × Fits target (now result) ⌝ }
-    requires { ⌜ (t < frames (now table)) × (k ≡ length (drawing (now table) t .gates)) ⌝ }
-    requires { ⌜ (length (now states) ≡ 2048) × (take (length (drawing (now table) t .states)) (now states) ≡ drawing (now table) t .states) ⌝ }
-    requires { ⌜ length (now outputs) ≡ 256 ⌝ }
-    ensures gates { λ _. ⌜ now (result .exit) ≡ gatesStored (target .gates) k (now (result .entry)) (frameGates (tableFrame (now (table .entry)) t (drawing (now (table .entry)) t))) ⌝ }
-    ensures states { λ _. ⌜ now (states .exit) ≡ sets (now (states .entry)) 0 (drawing (now (table .entry)) (suc t) .states) ⌝ }
-    ensures outputs { λ _. ⌜ now (outputs .exit) ≡ sets (now (outputs .entry)) (target .outputs * t) (listed [] (outLiteral (tableFrame (now (table .entry)) t (drawing (now (table .entry)) t))) (target .outputs)) ⌝ }
-    ensures end { λ r. ⌜ r ≡ length (drawing (now (table .entry)) (suc t) .gates) ⌝ }
+    requires { ⌜ (plan .frame < frames (now table)) × (plan ≡ planOf (now table) (plan .frame) (length (drawing (now table) (plan .frame) .gates))) ⌝ }
+    requires { ⌜ StatesKept (now table) (plan .frame) (now states) ⌝ }
+    requires { ⌜ length (now outputs) ≡ target .outputs ⌝ }
+    ensures gates { λ _. ⌜ now (result .exit) ≡ gatesStored (target .gates) (plan .first) (now (result .entry)) (frameGates (frameAt (now (table .entry)) (plan .frame))) ⌝ }
+    ensures states { λ _. ⌜ StatesKept (now (table .entry)) (suc (plan .frame)) (now (states .exit)) ⌝ }
+    ensures outputs { λ _. ⌜ now (outputs .exit) ≡ listed [] (outLiteral (frameAt (now (table .entry)) (plan .frame))) (target .outputs) ⌝ }
+    ensures end { λ r. ⌜ r ≡ length (drawing (now (table .entry)) (suc (plan .frame)) .gates) ⌝ }
 {
-    let edges = put_matches(target, t, k, result);
-    let count = states_of(table, t) * target.words;
-    put_edges(target, states, k, count, edges, result);
-    let nexts = drawn_states(table, layout, t + 1);
-    let gathers = put_layer(
-        table,
-        layout.nexts,
-        t,
+    let edges = put_matches(target, plan.frame, plan.first, result);
+    put_edges(target, states, plan.first, plan.edges, edges, result);
+    let nexts = entries_from(table, plan.nexts, plan.edges);
+    let drawn = plan.drawn;
+    let gathers = put_gathers(
         target,
-        edges,
-        true,
         nexts,
-        edges + count,
-        states,
-        0,
+        Gathering {
+            key: Key::NextState,
+            edges,
+        },
+        edges + plan.edges,
+        &mut states[..drawn],
         result,
     );
-    let seen = target.outputs * t;
-    put_layer(
-        table,
-        layout.outputs,
-        t,
+    let words = entries_from(table, plan.outputs, plan.edges);
+    put_gathers(
         target,
-        edges,
-        false,
-        target.outputs,
+        words,
+        Gathering {
+            key: Key::OutputBit,
+            edges,
+        },
         gathers,
         outputs,
-        seen,
         result,
     )
 }
@@ -150,7 +147,7 @@ fn start_states() -> [u16; Limits::STATES]
 
 // No literals of outputs yet.
 fn no_outputs() -> [u16; Limits::OUTPUTS]
-    ensures { λ r. ⌜ r ≡ replicate 256 0 ⌝ }
+    ensures { λ r. ⌜ r ≡ replicate mostLiterals 0 ⌝ }
 {
     [0; Limits::OUTPUTS]
 }
@@ -177,18 +174,20 @@ pub fn draw(table: &[u8], layout: Layout, target: Target, result: &mut [u8])
     let mut states = start_states();
     let mut outputs = no_outputs();
     let frames = layout.frames;
+    let count = target.outputs;
     let mut k = 0;
     for t in 0..frames {
+        let plan = Plan::read(table, layout, t, k);
+        let from = count * t;
+        let to = from + count;
         k = put_frame(
             table,
-            layout,
             target,
-            t,
-            k,
+            plan,
             &mut states,
-            &mut outputs,
+            &mut outputs[from..to],
             result,
         );
     }
-    put_outputs(target, &outputs, target.outputs * frames, k, result);
+    put_outputs(target, &outputs, count * frames, k, result);
 }

@@ -1,7 +1,7 @@
 -- `draw::draw` meets its contract. The invariant: the gates of the first t frames are stored, and the literals of the states that they reach and
 -- of their outputs are kept.
 -- Assumes nothing.
-use mathlib.Core.Path.{_≡_, refl, sym, ap, _∙_}
+use mathlib.Core.Path.{_≡_, refl, sym, ap, subst, _∙_}
 use mathlib.Core.List.{List, []}
 use Prim.Native.Nat.{ℕ, suc, _+_, _*_, _-_, _≤_, _<_}
 use native.Mathlib.Nat.{mul-zero, mul-suc, mul-le-mul, le-trans}
@@ -10,27 +10,29 @@ use native.Mathlib.Omega.{arith}
 use borrow.Author.Needs.{needs}
 use denote.Ref.{now}
 use lib.ListN.{length, take}
-use lib.Seq.{length-sets}
 use Rattle.circuit.specs.Lists.{listed}
+use Rattle.circuit.proofs.Lists.{listed-length}
 use Rattle.sizes.specs.Sizes.{outputs as outputsOf, frames as framesOf}
 use Rattle.table.proofs.Offsets.{laid}
-use Rattle.unfolded.specs.Unfolded.{outLiteral, tableFrame, drawing, drawn, gatesNeeded}
+use Rattle.unfolded.specs.Unfolded.{outLiteral, frameGates, drawing, drawn, gatesNeeded}
 use Rattle.unfolded.proofs.Drawings.{drawn-length}
 use Rattle.chains.specs.Chains.{Fits, targetOf, gatesStored}
 use Rattle.chains.specs.declared.Target.{Target}
 use Rattle.chains.proofs.Stored.{gates-none, gates-length, fits-still}
-use Rattle.draw.proofs.Frames.{frame-ends, frame-room, few-states, drawn-more, states-kept, outputs-kept, states-few, gates-mono, outputs-drawn}
+use Rattle.draw.specs.Limits.{mostLiterals}
+use Rattle.draw.specs.Draw.{frameAt, StatesKept}
+use Rattle.draw.specs.declared.Plan.{Plan}
+use Rattle.draw.proofs.Frames.{frame-ends, frame-room, drawn-more, plan-again, part-size, part-back, outputs-left, gates-mono, outputs-drawn}
 use Rattle.draw.proofs.draw.Statement.{statement}
 use Rattle.draw.proofs.draw.Tie as tie
 
 abbrev Inv-loop : tie.InvT-loop
-Inv-loop table layout target result₀ states₀ outputs₀ frames k₀ t₀ result states outputs k t =
-    (t ≤ frames) × (k ≡ length (drawing table t .gates)) × (result ≡ gatesStored (target .gates) 0 result₀ (drawing table t .gates))
-    × (length states ≡ 2048) × (take (length (drawing table t .states)) states ≡ drawing table t .states)
-    × (length outputs ≡ 256) × (take (target .outputs * t) outputs ≡ drawing table t .outputs)
+Inv-loop table layout target result₀ states₀ outputs₀ frames count k₀ t₀ result states outputs k t =
+    (t ≤ frames) × (k ≡ length (drawing table t .gates)) × (result ≡ gatesStored (target .gates) 0 result₀ (drawing table t .gates)) × StatesKept table t states
+    × (length outputs ≡ mostLiterals) × (take (count * t) outputs ≡ drawing table t .outputs)
 
 abbrev μ-loop : tie.MeasureT-loop
-μ-loop table layout target result₀ states₀ outputs₀ frames k₀ t₀ result states outputs k t = frames - t
+μ-loop table layout target result₀ states₀ outputs₀ frames count k₀ t₀ result states outputs k t = frames - t
 
 start-states-requires : tie.Need-start-states-requires Inv-loop μ-loop
 start-states-requires c κs = tt
@@ -45,8 +47,7 @@ loop-holds c =
       omega arith,
       refl,
       sym (gates-none _ _ _),
-      search needs,
-      c .before .start-states .ensures,
+      record { long = search needs; kept = c .before .start-states .ensures },
       search needs,
       rw (mul-zero m) refl,
     )
@@ -87,54 +88,89 @@ still l = fits-still (start l .args .target) (now (start l .args .result)) (l .l
 early : (i : tie.In-loop Inv-loop μ-loop) → i .before .loop .t < framesOf (b₀ (i .before))
 early i = omega (arith, i .loop-test .taken, frames-are (i .before))
 
-slice-aggregate-put-frame : tie.Need-slice-aggregate-put-frame Inv-loop μ-loop
-slice-aggregate-put-frame c = sym (c .before .before .loop .inv .3)
-
-slice-aggregate-put-frame-2 : tie.Need-slice-aggregate-put-frame-2 Inv-loop μ-loop
-slice-aggregate-put-frame-2 c = sym (c .before .before .before .loop .inv .5)
-
-put-frame-requires : tie.Need-put-frame-requires Inv-loop μ-loop
-put-frame-requires c κs =
-    let i = c .before .before .before in
-    let l = i .before in
-    let s = start l in
-    (s .pre .0, (s .pre .1 .0, ((aim l, still l), ((early i, l .loop .inv .1), ((l .loop .inv .3, l .loop .inv .4), l .loop .inv .5)))))
-
-add-t : tie.Need-add-t Inv-loop μ-loop
-add-t c = let i = c .before .before .before .before .before .before .before .before in omega (arith, early i, start (i .before) .pre .0 .headed .sized)
-
-loop-less : tie.Need-loop-less Inv-loop μ-loop
-loop-less c = omega arith
-
 -- there is a place for each output
-places : (i : tie.In-loop Inv-loop μ-loop) → start (i .before) .args .target .outputs * i .before .loop .t + start (i .before) .args .target .outputs ≤ 256
+places : (i : tie.In-loop Inv-loop μ-loop) → start (i .before) .args .target .outputs * i .before .loop .t + start (i .before) .args .target .outputs ≤ mostLiterals
 places i =
     let l = i .before in
     omega (arith, mul-suc (start l .args .target .outputs) (l .loop .t), mul-le-mul (fit l .outputs-to) (le-trans (early i) (start l .pre .0 .headed .sized .frames-to)))
 
+read-requires : tie.Need-read-requires Inv-loop μ-loop
+read-requires c κs = let s = start (c .before) in (s .pre .0 .headed, (s .pre .1 .0, early c))
+
+-- the plan that is read
+frame-of : (r : tie.After-read Inv-loop μ-loop) → r .read .result .frame ≡ r .before .before .loop .t
+frame-of r = ap (λ (p : Plan). p .frame) (r .read .ensures)
+
+first-of : (r : tie.After-read Inv-loop μ-loop) → r .read .result .first ≡ r .before .before .loop .k
+first-of r = ap (λ (p : Plan). p .first) (r .read .ensures)
+
+mul-from : tie.Need-mul-from Inv-loop μ-loop
+mul-from c = omega (arith, places (c .before))
+
+add-to : tie.Need-add-to Inv-loop μ-loop
+add-to c = omega (arith, places (c .before))
+
+slice-aggregate-put-frame : tie.Need-slice-aggregate-put-frame Inv-loop μ-loop
+slice-aggregate-put-frame c = sym (c .before .before .before .loop .inv .3 .long)
+
+mul-outputs : tie.Need-mul-outputs Inv-loop μ-loop
+mul-outputs c = omega (arith, places (c .before .before))
+
+sub-put-frame : tie.Need-sub-put-frame Inv-loop μ-loop
+sub-put-frame c = omega arith
+
+part-outputs-start : tie.Need-part-outputs-start Inv-loop μ-loop
+part-outputs-start c = omega arith
+
+part-outputs-end : tie.Need-part-outputs-end Inv-loop μ-loop
+part-outputs-end c = omega (arith, places (c .before .before), c .before .before .before .loop .inv .4)
+
+put-frame-requires : tie.Need-put-frame-requires Inv-loop μ-loop
+put-frame-requires c κs =
+    let r = c .before .before .before in
+    let i = r .before in
+    let l = i .before in
+    let s = start l in
+    let few = part-size (l .loop .outputs) (s .args .target .outputs * l .loop .t) (s .args .target .outputs) (omega (arith, places i, l .loop .inv .4)) in (
+      s .pre .0,
+      (
+        (aim l, still l),
+        (
+          (omega (arith, frame-of r, early i), plan-again (b₀ l) (l .loop .t) (l .loop .k) _ (r .read .ensures) (l .loop .inv .1)),
+          (subst (λ (t : ℕ). StatesKept (b₀ l) t (l .loop .states)) (sym (frame-of r)) (l .loop .inv .3), few),
+        ),
+      ),
+    )
+
+add-t : tie.Need-add-t Inv-loop μ-loop
+add-t c = let i = c .before .before .before .before .before .before .before .before .before in omega (arith, early i, start (i .before) .pre .0 .headed .sized)
+
+loop-less : tie.Need-loop-less Inv-loop μ-loop
+loop-less c = omega arith
+
 loop-again : tie.Need-loop-again Inv-loop μ-loop
 loop-again c =
     let p = c .before .before .before .before in
-    let i = c .before .before .before .before .before .before .before .before in
+    let r = p .before .before .before .before in
+    let i = r .before in
     let l = i .before in
     let s = start l in
     let b = b₀ l in
     let t : ℕ = l .loop .t in
     let a = s .args .target in
     let f = p .put-frame in
-    let few : length (drawing b (suc t) .states) ≤ 2048 =
-    states-few b t (λ h. few-states b (suc t) h (s .pre .0 .headed .sized .inputs-from) (omega (arith, gates-are l, fit l .gates-to))) in
-    let e : t + 1 ≡ suc t = add-one t in (
+    let next : suc (r .read .result .frame) ≡ t + 1 = omega (arith, frame-of r) in
+    let outs = f .ensures .1 .1 .0 ∙ ap (λ (t : ℕ). listed [] (outLiteral (frameAt b t)) (a .outputs)) (frame-of r) in
+    let room : a .outputs * t + a .outputs ≤ length (l .loop .outputs) = omega (arith, places i, l .loop .inv .4) in (
       omega (arith, i .loop-test .taken),
-      f .ensures .1 .1 .1 ∙ ap (λ (t : ℕ). length (drawing b t .gates)) (sym e),
-      drawn-more b (a .gates) (now (s .args .result)) (l .loop .result) _ t (l .loop .k) (l .loop .inv .2) (l .loop .inv .1) (f .ensures .0)
+      f .ensures .1 .1 .1 ∙ ap (λ (t : ℕ). length (drawing b t .gates)) next,
+      drawn-more b (a .gates) (now (s .args .result)) (l .loop .result) _ t (l .loop .k) (l .loop .inv .2) (l .loop .inv .1)
+          (f .ensures .0 ∙ (λ i. gatesStored (a .gates) (first-of r i) (l .loop .result) (frameGates (frameAt b (frame-of r i)))))
           (omega (arith, gates-are l, frame-ends b t, frame-room b t (early i))) (fit l .room)
-          ∙ ap (λ (t : ℕ). gatesStored (a .gates) 0 (now (s .args .result)) (drawing b t .gates)) (sym e),
-      ap length (f .ensures .1 .0) ∙ length-sets (l .loop .states) 0 (drawing b (suc t) .states) ∙ l .loop .inv .3,
-      states-kept b (l .loop .states) _ t (t + 1) e (f .ensures .1 .0) (omega (arith, few, l .loop .inv .3)),
-      ap length (f .ensures .1 .1 .0) ∙ length-sets (l .loop .outputs) (a .outputs * t) (listed [] (outLiteral (tableFrame b t (drawing b t))) (a .outputs)) ∙ l .loop .inv .5,
-      ap (take (a .outputs * (t + 1))) (f .ensures .1 .1 .0) ∙ outputs-kept b (l .loop .outputs) t (a .outputs) (outputs-are l) (l .loop .inv .6) (omega (arith, places i, l .loop .inv .5))
-          ∙ ap (λ (t : ℕ). drawing b t .outputs) (sym e),
+          ∙ ap (λ (t : ℕ). gatesStored (a .gates) 0 (now (s .args .result)) (drawing b t .gates)) (sym (add-one t)),
+      subst (λ (t : ℕ). StatesKept b t (p .put-frame .last .1 .1 .1 .0)) next (f .ensures .1 .0),
+      part-back (l .loop .outputs) (f .last .1 .1 .1 .1 .0) (a .outputs * t) (a .outputs) (ap length outs ∙ listed-length _ (a .outputs)) room ∙ l .loop .inv .4,
+      outputs-left b (l .loop .outputs) _ _ t (a .outputs) (outputs-are l) (l .loop .inv .5) (omega arith) outs ∙ ap (λ (t : ℕ). drawing b t .outputs) (sym (add-one t)),
     )
 
 -- ---- the output gates
@@ -146,7 +182,7 @@ ended x = omega (arith, x .loop-test .left, x .before .loop .inv .0, frames-are 
 total-is : (l : tie.At-loop Inv-loop μ-loop) → start l .args .target .outputs * start l .args .layout .frames ≡ outputsOf (b₀ l) * framesOf (b₀ l)
 total-is l = λ i. outputs-are l i * frames-are l i
 
-few-outputs : (l : tie.At-loop Inv-loop μ-loop) → start l .args .target .outputs * start l .args .layout .frames ≤ 256
+few-outputs : (l : tie.At-loop Inv-loop μ-loop) → start l .args .target .outputs * start l .args .layout .frames ≤ mostLiterals
 few-outputs l = let h : start l .args .layout .frames ≤ 16 = omega (arith, frames-are l, start l .pre .0 .headed .sized) in mul-le-mul (fit l .outputs-to) h
 
 room : (x : tie.After-loop Inv-loop μ-loop)
@@ -154,34 +190,34 @@ room : (x : tie.After-loop Inv-loop μ-loop)
 room x = let l = x .before in omega (arith, all-gates l, total-is l, l .loop .inv .1, ap (λ (t : ℕ). length (drawing (b₀ l) t .gates)) (ended x))
 
 slice-aggregate-put-outputs : tie.Need-slice-aggregate-put-outputs Inv-loop μ-loop
-slice-aggregate-put-outputs c = sym (c .before .before .loop .inv .5)
+slice-aggregate-put-outputs c = sym (c .before .before .loop .inv .4)
 
 mul-put-outputs : tie.Need-mul-put-outputs Inv-loop μ-loop
-mul-put-outputs c = omega (arith, few-outputs (c .before .before .before))
+mul-put-outputs c = omega (arith, few-outputs (c .before .before))
 
 put-outputs-requires : tie.Need-put-outputs-requires Inv-loop μ-loop
 put-outputs-requires c κs =
-    let x = c .before .before .before in
+    let x = c .before .before in
     let l = x .before in
-    (still l, (room x, omega (arith, few-outputs l, l .loop .inv .5)))
+    (still l, (room x, omega (arith, few-outputs l, l .loop .inv .4)))
 
-drawn-all : (p : tie.After-put-outputs Inv-loop μ-loop) → p .put-outputs .last .1 .1 .1 .1 .0
-    ≡ gatesStored (start (p .before .before .before .before .before) .args .target .gates) 0 (now (start (p .before .before .before .before .before) .args .result)) (drawn (b₀ (p .before .before .before .before .before)))
+drawn-all : (p : tie.After-put-outputs Inv-loop μ-loop) → let l = p .before .before .before .before in p .put-outputs .last .1 .1 .1 .1 .0
+    ≡ gatesStored (start l .args .target .gates) 0 (now (start l .args .result)) (drawn (b₀ l))
 drawn-all p =
-    let x = p .before .before .before .before in
+    let x = p .before .before .before in
     let l = x .before in
     let s = start l in
     outputs-drawn (b₀ l) (s .args .target .gates) (now (s .args .result)) (l .loop .result) _ (l .loop .k) (s .args .target .outputs * s .args .layout .frames) (l .loop .outputs)
     (l .loop .inv .2 ∙ ap (λ (t : ℕ). gatesStored (s .args .target .gates) 0 (now (s .args .result)) (drawing (b₀ l) t .gates)) (ended x))
     (l .loop .inv .1 ∙ ap (λ (t : ℕ). length (drawing (b₀ l) t .gates)) (ended x))
-    (ap (λ (t : ℕ). take (s .args .target .outputs * t) (l .loop .outputs)) (frames-are l ∙ sym (ended x)) ∙ l .loop .inv .6 ∙ ap (λ (t : ℕ). drawing (b₀ l) t .outputs) (ended x))
+    (ap (λ (t : ℕ). take (s .args .target .outputs * t) (l .loop .outputs)) (frames-are l ∙ sym (ended x)) ∙ l .loop .inv .5 ∙ ap (λ (t : ℕ). drawing (b₀ l) t .outputs) (ended x))
     (total-is l) (p .put-outputs .ensures) (room x) (fit l .room)
 
 same-length : tie.Need-same-length Inv-loop μ-loop
 unfolding gatesNeeded
 same-length c =
     let p = c .before .before in
-    let l = p .before .before .before .before .before in
+    let l = p .before .before .before .before in
     ap length (drawn-all p) ∙ gates-length _ 0 _ (drawn (b₀ l)) (omega (arith, gates-are l)) (fit l .room)
 
 returns : tie.Need-returns Inv-loop μ-loop
@@ -196,8 +232,14 @@ draw-spec =
     start-states-requires
     no-outputs-requires
     loop-holds
+    read-requires
+    mul-from
+    add-to
     slice-aggregate-put-frame
-    slice-aggregate-put-frame-2
+    mul-outputs
+    sub-put-frame
+    part-outputs-start
+    part-outputs-end
     put-frame-requires
     add-t
     loop-less

@@ -1,29 +1,29 @@
 -- `draw::put_frame` meets its contract: part after part, the gates are those of the frame.
 -- Assumes nothing.
 use mathlib.Core.Path.{_≡_, sym, ap, _∙_}
-use mathlib.Core.Bool.{true, false, cond, true≢false}
-use mathlib.Core.List.{List, []}
-use Prim.Native.Nat.{ℕ, suc, _+_, _*_, _^_, _≤_, _<_}
-use native.Mathlib.Nat.{mul-le-mul, mul-le-mul-right, mul-suc, le-trans}
-use native.Mathlib.Numerals.{add-one}
+use mathlib.Core.List.{List, [], _++_}
+use Prim.Native.Nat.{ℕ, suc, _+_, _*_, _/_, _^_, _≤_, _<_}
+use native.Mathlib.Nat.{mul-le-mul-right}
 use native.Mathlib.Omega.{arith}
-use borrow.Author.Needs.{needs}
 use denote.Ref.{now}
-use lib.Dec.{ltb}
-use lib.ListN.{length}
-use lib.Seq.{sets}
+use lib.ListN.{length, take, drop}
+use lib.Seq.{length-take-le}
 use Rattle.sizes.specs.Sizes.{inputs, frames}
 use Rattle.circuit.specs.Lists.{listed}
-use Rattle.table.specs.Table.{states, layerPart}
+use Rattle.table.specs.Table.{states, entryCount, outputsAt, nextsAt, layerPart}
 use Rattle.table.specs.Sound.{TableHeaded}
-use Rattle.table.proofs.Offsets.{laid}
-use Rattle.unfolded.specs.Unfolded.{chainsFrom, ending, inverted, Frame, matchGates, edgeGates, nextGates, outLiteral, outGates, frameGates, Drawing, tableFrame, drawing}
+use Rattle.table.proofs.Parts.{part-length}
+use Rattle.circuit.proofs.Lists.{listed-length}
+use Rattle.unfolded.specs.Unfolded.{Frame, matchGates, edgeGates, nextGates, outLiteral, outGates, frameGates, Drawing, tableFrame, drawing}
 use Rattle.unfolded.proofs.Counts.{edge-count, frame-count}
-use Rattle.chains.specs.Chains.{Fits, targetOf, gatesStored, gathering}
+use Rattle.chains.specs.Chains.{Fits, targetOf, gatesStored, gatherGates, gatherLiterals}
 use Rattle.chains.specs.declared.Target.{Target}
+use Rattle.chains.specs.declared.gathers.Key.the-variants.{NextState, OutputBit}
+use Rattle.chains.specs.declared.gathers.Gathering.{Gathering}
 use Rattle.chains.proofs.Stored.{gates-length, fits-still}
-use Rattle.table.proofs.Parts.{count-in}
-use Rattle.draw.proofs.Frames.{matches-are, matches-count, edges-are, nexts-are, next-literals, outs-are, out-literals, parts-stored, frame-ends, frame-room, frame-edges, few-states, few-drawn, states-count, states-next}
+use Rattle.draw.specs.Draw.{frameAt, planOf, StatesKept}
+use Rattle.draw.specs.declared.Plan.{Plan}
+use Rattle.draw.proofs.Frames.{matches-are, matches-count, edges-are, nexts-are, next-literals, outs-are, out-literals, outs-count, next-is-not-output, nexts-stand, outputs-stand, nexts-part, outputs-part, parts-stored, frame-ends, frame-room, frame-edges, few-states, few-drawn, states-count, states-next, states-left}
 use Rattle.draw.proofs.put_frame.Statement.{statement}
 use Rattle.draw.proofs.put_frame.Tie as tie
 
@@ -32,37 +32,66 @@ use Rattle.draw.proofs.put_frame.Tie as tie
 abbrev b₀ : tie.Start → List ℕ
 b₀ s = now (s .args .table)
 
+abbrev t₀ : tie.Start → ℕ
+t₀ s = s .args .plan .frame
+
 abbrev d₀ : tie.Start → Drawing
-d₀ s = drawing (b₀ s) (s .args .t)
+d₀ s = drawing (b₀ s) (t₀ s)
 
 abbrev F₀ : tie.Start → Frame
-F₀ s = tableFrame (b₀ s) (s .args .t) (d₀ s)
+F₀ s = frameAt (b₀ s) (t₀ s)
 
 head : (s : tie.Start) → TableHeaded (b₀ s)
 head s = s .pre .0 .headed
 
-early : (s : tie.Start) → s .args .t < frames (b₀ s)
-early s = s .pre .1 .1 .1 .0 .0
-
 aim : (s : tie.Start) → s .args .target ≡ targetOf (b₀ s)
-aim s = s .pre .1 .1 .0 .0
+aim s = s .pre .1 .0 .0
+
+fits₀ : (s : tie.Start) → Fits (s .args .target) (now (s .args .result))
+fits₀ s = s .pre .1 .0 .1
+
+early : (s : tie.Start) → t₀ s < frames (b₀ s)
+early s = s .pre .1 .1 .0 .0
+
+-- the plan
+planned : (s : tie.Start) → s .args .plan ≡ planOf (b₀ s) (t₀ s) (length (d₀ s .gates))
+planned s = s .pre .1 .1 .0 .1
+
+first-is : (s : tie.Start) → s .args .plan .first ≡ length (d₀ s .gates)
+first-is s = ap (λ (p : Plan). p .first) (planned s)
+
+edges-is : (s : tie.Start) → s .args .plan .edges ≡ states (b₀ s) (t₀ s) * 2 ^ inputs (b₀ s)
+edges-is s = ap (λ (p : Plan). p .edges) (planned s)
+
+drawn-is : (s : tie.Start) → s .args .plan .drawn ≡ F₀ s .nexts
+unfolding tableFrame
+drawn-is s = ap (λ (p : Plan). p .drawn) (planned s)
 
 -- the frame's gates have room
-room : (s : tie.Start) → s .args .k + length (frameGates (F₀ s)) ≤ s .args .target .gates
-room s = omega (arith, s .pre .1 .1 .1 .0 .1, frame-room (b₀ s) (s .args .t) (early s), ap (λ (target : Target). target .gates) (aim s))
+room : (s : tie.Start) → s .args .plan .first + length (frameGates (F₀ s)) ≤ s .args .target .gates
+room s = omega (arith, first-is s, frame-room (b₀ s) (t₀ s) (early s), ap (λ (target : Target). target .gates) (aim s))
 
 few : (s : tie.Start) (t : ℕ) → t < frames (b₀ s) → states (b₀ s) t ≤ 2048
-few s t h = few-states (b₀ s) t h (head s .sized .inputs-from) (omega (arith, s .pre .1 .1 .0 .1 .gates-to, ap (λ (target : Target). target .gates) (aim s)))
-
--- ---- after the match chains
+few s t h = few-states (b₀ s) t h (head s .sized .inputs-from) (omega (arith, fits₀ s .gates-to, ap (λ (target : Target). target .gates) (aim s)))
 
 matches : (s : tie.Start) → length (matchGates (F₀ s)) ≡ s .args .target .words * s .args .target .inputs
-matches s = matches-count (b₀ s) (head s) (s .args .t) (early s) (s .args .target) (aim s) (d₀ s) (s .args .k) (s .pre .1 .1 .1 .0 .1)
+matches s = matches-count (b₀ s) (head s) (t₀ s) (early s) (s .args .target) (aim s) (d₀ s) (s .args .plan .first) (first-is s)
+
+edge-length : (s : tie.Start) → length (edgeGates (F₀ s)) ≡ s .args .plan .edges
+edge-length s = edge-count (F₀ s) ∙ frame-edges (b₀ s) (t₀ s) (d₀ s) ∙ sym (edges-is s)
+
+edges-few : (s : tie.Start) → s .args .plan .edges ≤ length (now (s .args .states)) * s .args .target .words
+edges-few s =
+    let w : s .args .plan .edges ≡ states (b₀ s) (t₀ s) * s .args .target .words = edges-is s ∙ ap (λ (target : Target). states (b₀ s) (t₀ s) * target .words) (sym (aim s)) in
+    let l : states (b₀ s) (t₀ s) ≤ length (now (s .args .states)) = omega (arith, s .pre .1 .1 .1 .0 .long, few s (t₀ s) (early s)) in
+    omega (arith, w, mul-le-mul-right (s .args .target .words) l)
+
+-- ---- after the match chains
 
 put-matches-requires : tie.Need-put-matches-requires
 put-matches-requires c κs =
     let s = c .before .before .before .before .before in
-    (s .pre .1 .1 .0 .1, (omega (arith, early s, head s .sized), omega (arith, room s, matches s, frame-count (F₀ s))))
+    (fits₀ s, (omega (arith, early s, head s .sized), omega (arith, room s, matches s, frame-count (F₀ s))))
 
 abbrev s₁ : tie.After-put-matches → tie.Start
 s₁ m = m .before .before .before .before .before .before
@@ -70,269 +99,262 @@ s₁ m = m .before .before .before .before .before .before
 abbrev r₁ : tie.After-put-matches → List ℕ
 r₁ m = m .put-matches .last .1 .1 .1 .0
 
-stored₁ : (m : tie.After-put-matches) → r₁ m ≡ gatesStored (s₁ m .args .target .gates) (s₁ m .args .k) (now (s₁ m .args .result)) (matchGates (F₀ (s₁ m)))
+stored₁ : (m : tie.After-put-matches) → r₁ m ≡ gatesStored (s₁ m .args .target .gates) (s₁ m .args .plan .first) (now (s₁ m .args .result)) (matchGates (F₀ (s₁ m)))
 stored₁ m =
     let s = s₁ m in
     m .put-matches .ensures .0
-    ∙ ap (gatesStored (s .args .target .gates) (s .args .k) (now (s .args .result)))
-    (matches-are (b₀ s) (head s) (s .args .t) (early s) (s .args .target) (aim s) (d₀ s) (s .args .k) (s .pre .1 .1 .1 .0 .1))
+    ∙ ap (gatesStored (s .args .target .gates) (s .args .plan .first) (now (s .args .result)))
+    (matches-are (b₀ s) (head s) (t₀ s) (early s) (s .args .target) (aim s) (d₀ s) (s .args .plan .first) (first-is s))
 
 fits₁ : (m : tie.After-put-matches) → Fits (s₁ m .args .target) (r₁ m)
-fits₁ m = let s = s₁ m in fits-still (s .args .target) (now (s .args .result)) (r₁ m) (s .args .k) (matchGates (F₀ s)) (s .pre .1 .1 .0 .1) (stored₁ m) (omega (arith, room s, frame-count (F₀ s)))
-
-states-of-requires : tie.Need-states-of-requires
-states-of-requires c κs = let s = c .before .before .before .before .before .before .before .before in count-in (b₀ s) (head s) (s .args .t) (omega (arith, early s))
+fits₁ m = let s = s₁ m in fits-still (s .args .target) (now (s .args .result)) (r₁ m) (s .args .plan .first) (matchGates (F₀ s)) (fits₀ s) (stored₁ m) (omega (arith, room s, frame-count (F₀ s)))
 
 -- ---- after the edges
 
-abbrev m₁ : tie.After-states-of → tie.After-put-matches
-m₁ c = c .before .before .before
-
-count-is : (c : tie.After-states-of) → c .states-of .result * s₁ (m₁ c) .args .target .words ≡ states (b₀ (s₁ (m₁ c))) (s₁ (m₁ c) .args .t) * 2 ^ inputs (b₀ (s₁ (m₁ c)))
-count-is c = let s = s₁ (m₁ c) in λ i. c .states-of .ensures .0 i * aim s i .words
-
-edge-length : (s : tie.Start) → length (edgeGates (F₀ s)) ≡ states (b₀ s) (s .args .t) * 2 ^ inputs (b₀ s)
-edge-length s = edge-count (F₀ s) ∙ frame-edges (b₀ s) (s .args .t) (d₀ s)
-
-mul-count : tie.Need-mul-count
-mul-count c =
-    let s = s₁ (m₁ (c .before)) in
-    omega (arith, count-is (c .before), edge-length s, frame-count (F₀ s), room s, s .pre .1 .1 .0 .1 .gates-to)
-
 put-edges-requires : tie.Need-put-edges-requires
 put-edges-requires c κs =
-    let n = c .before .before .before in
-    let m = m₁ n in
+    let m = c .before .before .before .before in
     let s = s₁ m in (
       fits₁ m,
       (
         omega (arith, m .put-matches .ensures .1),
-        omega (arith, m .put-matches .ensures .1, matches s, count-is n, edge-length s, frame-count (F₀ s), room s),
-        mul-le-mul-right (s .args .target .words) (omega (arith, n .states-of .ensures .0, s .pre .1 .1 .1 .1 .0 .0, few s (s .args .t) (early s))),
+        omega (arith, m .put-matches .ensures .1, matches s, edge-length s, frame-count (F₀ s), room s),
+        edges-few s,
       ),
     )
 
-abbrev n₂ : tie.After-put-edges → tie.After-states-of
-n₂ x = x .before .before .before .before
+abbrev m₂ : tie.After-put-edges → tie.After-put-matches
+m₂ x = x .before .before .before .before .before
 
 abbrev s₂ : tie.After-put-edges → tie.Start
-s₂ x = s₁ (m₁ (n₂ x))
+s₂ x = s₁ (m₂ x)
 
 -- gate numbers: of the first edge, and of the first gather
 abbrev j₂ : tie.After-put-edges → ℕ
-j₂ x = m₁ (n₂ x) .put-matches .result
+j₂ x = m₂ x .put-matches .result
 
 abbrev g₂ : tie.After-put-edges → ℕ
-g₂ x = j₂ x + n₂ x .states-of .result * s₂ x .args .target .words
+g₂ x = j₂ x + s₂ x .args .plan .edges
 
-g₂-is : (x : tie.After-put-edges) → g₂ x ≡ j₂ x + states (b₀ (s₂ x)) (s₂ x .args .t) * 2 ^ inputs (b₀ (s₂ x))
-g₂-is x = ap (λ (c : ℕ). j₂ x + c) (count-is (n₂ x))
+g₂-is : (x : tie.After-put-edges) → g₂ x ≡ j₂ x + states (b₀ (s₂ x)) (t₀ (s₂ x)) * 2 ^ inputs (b₀ (s₂ x))
+g₂-is x = ap (λ (c : ℕ). j₂ x + c) (edges-is (s₂ x))
 
 abbrev r₂ : tie.After-put-edges → List ℕ
 r₂ x = x .put-edges .last .1 .1 .1 .1 .1 .0
 
-stored₂ : (x : tie.After-put-edges) → r₂ x ≡ gatesStored (s₂ x .args .target .gates) (j₂ x) (r₁ (m₁ (n₂ x))) (edgeGates (F₀ (s₂ x)))
+stored₂ : (x : tie.After-put-edges) → r₂ x ≡ gatesStored (s₂ x .args .target .gates) (j₂ x) (r₁ (m₂ x)) (edgeGates (F₀ (s₂ x)))
 stored₂ x =
     let s = s₂ x in
-    let m = m₁ (n₂ x) in
+    let m = m₂ x in
     x .put-edges .ensures
     ∙ ap (gatesStored (s .args .target .gates) (j₂ x) (r₁ m))
-    (edges-are (b₀ s) (head s) (s .args .t) (early s) (s .args .target) (aim s) (d₀ s) (s .args .k) (s .pre .1 .1 .1 .0 .1) (j₂ x) (m .put-matches .ensures .1)
-    (head s .sized .inputs-from) (now (s .args .states)) (states-count (b₀ s) (head s .one-first) (s .args .t) (early s)) (s .pre .1 .1 .1 .1 .0 .1) _ (count-is (n₂ x)))
+    (edges-are (b₀ s) (head s) (t₀ s) (early s) (s .args .target) (aim s) (d₀ s) (s .args .plan .first) (first-is s) (j₂ x) (m .put-matches .ensures .1)
+    (head s .sized .inputs-from) (now (s .args .states)) (states-count (b₀ s) (head s .one-first) (t₀ s) (early s)) (s .pre .1 .1 .1 .0 .kept) _ (edges-is s))
 
 fits₂ : (x : tie.After-put-edges) → Fits (s₂ x .args .target) (r₂ x)
 fits₂ x =
     let s = s₂ x in
-    let m = m₁ (n₂ x) in
+    let m = m₂ x in
     fits-still (s .args .target) (r₁ m) (r₂ x) (j₂ x) (edgeGates (F₀ s)) (fits₁ m) (stored₂ x) (omega (arith, m .put-matches .ensures .1, matches s, frame-count (F₀ s), room s))
 
-add-drawn-states : tie.Need-add-drawn-states
-add-drawn-states c = search needs
+-- the edges are among the gates, and so are those of the next states
+edges-in : (x : tie.After-put-edges) → g₂ x ≤ s₂ x .args .target .gates
+edges-in x = let s = s₂ x in omega (arith, m₂ x .put-matches .ensures .1, matches s, edge-length s, frame-count (F₀ s), room s)
 
-drawn-states-requires : tie.Need-drawn-states-requires
-drawn-states-requires c κs = let s = c .before .before .before .before .before .before .before .before .before .before .before .before .before .before .before in (head s, (s .pre .1 .0, omega (arith, early s)))
+nexts-in : (x : tie.After-put-edges) → g₂ x + length (nextGates (F₀ (s₂ x))) ≤ s₂ x .args .target .gates
+nexts-in x = let s = s₂ x in omega (arith, m₂ x .put-matches .ensures .1, matches s, edge-length s, frame-count (F₀ s), room s)
 
 -- ---- after the next states
 
-abbrev x₃ : tie.After-drawn-states → tie.After-put-edges
+entries-from-requires : tie.Need-entries-from-requires
+entries-from-requires c κs = let s = s₂ (c .before .before) in nexts-part (b₀ s) (head s) (t₀ s) (early s) _ _ (planned s) .0
+
+abbrev x₃ : tie.After-entries-from → tie.After-put-edges
 x₃ n = n .before .before .before
 
-abbrev s₃ : tie.After-drawn-states → tie.Start
+abbrev s₃ : tie.After-entries-from → tie.Start
 s₃ n = s₂ (x₃ n)
 
-nexts-is : (n : tie.After-drawn-states) → n .drawn-states .result ≡ F₀ (s₃ n) .nexts
-unfolding tableFrame
-nexts-is n = let s = s₃ n in n .drawn-states .ensures ∙ ap (λ (t : ℕ). cond (ltb t (frames (b₀ s))) (states (b₀ s) t) 0) (add-one (s .args .t))
+-- the layer's next states
+abbrev p₃ : tie.After-entries-from → List ℕ
+p₃ n = now (n .entries-from .result)
 
-nexts-few : (n : tie.After-drawn-states) → n .drawn-states .result ≤ 2048
-nexts-few n = rw (n .drawn-states .ensures) (few-drawn (b₀ (s₃ n)) (s₃ n .args .t + 1) (few (s₃ n) (s₃ n .args .t + 1)))
+p₃-is : (n : tie.After-entries-from) → p₃ n ≡ layerPart (b₀ (s₃ n)) (nextsAt (b₀ (s₃ n))) (t₀ (s₃ n))
+p₃-is n = let s = s₃ n in n .entries-from .ensures ∙ nexts-part (b₀ s) (head s) (t₀ s) (early s) _ _ (planned s) .1
 
-abbrev chains₃ : tie.After-drawn-states → ℕ → List (ℕ × ℕ)
-chains₃ n start =
-    let a = s₃ n .args in
-    chainsFrom (a .target .base + g₂ (x₃ n)) (gathering (a .target .base + j₂ (x₃ n)) (layerPart (now (a .table)) start (a .t)) true) (n .drawn-states .result)
+-- the places for their literals
+drawn-few : (s : tie.Start) → s .args .plan .drawn ≤ length (now (s .args .states))
+drawn-few s = omega (arith, s .pre .1 .1 .1 .0 .long, ap (λ (p : Plan). p .drawn) (planned s), few-drawn (b₀ s) (suc (t₀ s)) (few s (suc (t₀ s))))
 
-chains₃-are : (n : tie.After-drawn-states) → chains₃ n (s₃ n .args .layout .nexts) ≡ nextGates (F₀ (s₃ n))
+abbrev count₃ : tie.Start → ℕ
+count₃ s = length (take (s .args .plan .drawn) (now (s .args .states)))
+
+count₃-is : (s : tie.Start) → count₃ s ≡ F₀ s .nexts
+count₃-is s = length-take-le (s .args .plan .drawn) (now (s .args .states)) (drawn-few s) ∙ drawn-is s
+
+abbrev nexts₃ : tie.After-entries-from → Gathering
+nexts₃ n = record { key = NextState; edges = j₂ (x₃ n) }
+
+chains₃-are : (n : tie.After-entries-from) → gatherGates (s₃ n .args .target) (nexts₃ n) (p₃ n) (g₂ (x₃ n)) (count₃ (s₃ n)) ≡ nextGates (F₀ (s₃ n))
 chains₃-are n =
     let s = s₃ n in
     let x = x₃ n in
-    ap (chains₃ n) (laid (b₀ s) (s .args .layout) (head s) (s .pre .1 .0) .nexts-is)
-    ∙ nexts-are (b₀ s) (head s) (s .args .t) (early s) (s .args .target) (aim s) (d₀ s) (s .args .k) (s .pre .1 .1 .1 .0 .1) (j₂ x) (m₁ (n₂ x) .put-matches .ensures .1) (g₂ x) (g₂-is x)
-    (n .drawn-states .result) (nexts-is n)
+    nexts-are (b₀ s) (head s) (t₀ s) (early s) (s .args .target) (aim s) (d₀ s) (s .args .plan .first) (first-is s) (j₂ x) (m₂ x .put-matches .ensures .1) (g₂ x) (g₂-is x) (p₃ n) (p₃-is n)
+    (count₃ s) (count₃-is s)
 
-abbrev kept₃ : tie.After-drawn-states → ℕ → List ℕ
-kept₃ n start =
-    let a = s₃ n .args in
-    listed [] (λ i. inverted (ending (a .target .base + g₂ (x₃ n)) (gathering (a .target .base + j₂ (x₃ n)) (layerPart (now (a .table)) start (a .t)) true) i)) (n .drawn-states .result)
-
-kept₃-are : (n : tie.After-drawn-states) → kept₃ n (s₃ n .args .layout .nexts) ≡ drawing (b₀ (s₃ n)) (suc (s₃ n .args .t)) .states
+kept₃-are : (n : tie.After-entries-from) → gatherLiterals (s₃ n .args .target) (nexts₃ n) (p₃ n) (g₂ (x₃ n)) (count₃ (s₃ n)) ≡ drawing (b₀ (s₃ n)) (suc (t₀ (s₃ n))) .states
 kept₃-are n =
     let s = s₃ n in
     let x = x₃ n in
-    ap (kept₃ n) (laid (b₀ s) (s .args .layout) (head s) (s .pre .1 .0) .nexts-is)
-    ∙ next-literals (b₀ s) (head s) (s .args .t) (early s) (s .args .target) (aim s) (d₀ s) (s .args .k) (s .pre .1 .1 .1 .0 .1) (j₂ x) (m₁ (n₂ x) .put-matches .ensures .1) (g₂ x) (g₂-is x)
-    (n .drawn-states .result) (nexts-is n)
-    ∙ sym (states-next (b₀ s) (s .args .t))
+    next-literals (b₀ s) (head s) (t₀ s) (early s) (s .args .target) (aim s) (d₀ s) (s .args .plan .first) (first-is s) (j₂ x) (m₂ x .put-matches .ensures .1) (g₂ x) (g₂-is x) (p₃ n) (p₃-is n)
+    (count₃ s) (count₃-is s)
+    ∙ sym (states-next (b₀ s) (t₀ s))
 
--- the edges are among the gates
-edges-in : (x : tie.After-put-edges) → j₂ x + states (b₀ (s₂ x)) (s₂ x .args .t) * 2 ^ inputs (b₀ (s₂ x)) ≤ s₂ x .args .target .gates
-edges-in x = let s = s₂ x in omega (arith, m₁ (n₂ x) .put-matches .ensures .1, matches s, edge-length s, frame-count (F₀ s), room s)
+add-put-gathers : tie.Need-add-put-gathers
+add-put-gathers c = let x = x₃ (c .before) in omega (arith, edges-in x, fits₂ x .gates-to)
 
-nexts-in : (n : tie.After-drawn-states) → g₂ (x₃ n) + length (nextGates (F₀ (s₃ n))) ≤ s₃ n .args .target .gates
-nexts-in n =
-    let s = s₃ n in
-    omega (arith, g₂-is (x₃ n), m₁ (n₂ (x₃ n)) .put-matches .ensures .1, matches s, edge-length s, frame-count (F₀ s), room s)
+slice-relend-prefix-put-gathers : tie.Need-slice-relend-prefix-put-gathers
+slice-relend-prefix-put-gathers c = drawn-few (s₃ (c .before))
 
-add-put-layer : tie.Need-add-put-layer
-add-put-layer c = omega (arith, nexts-in c, s₃ c .pre .1 .1 .0 .1 .gates-to)
+slice-aggregate-put-gathers : tie.Need-slice-aggregate-put-gathers
+slice-aggregate-put-gathers c = let s = s₃ (c .before .before) in sym (length-take-le (s .args .plan .drawn) (now (s .args .states)) (drawn-few s))
 
-put-layer-requires : tie.Need-put-layer-requires
-put-layer-requires c κs =
-    let n = c .before .before in
+-- the edges are those of the entries
+entries-in : (x : tie.After-put-edges) (p : List ℕ) (start : ℕ) → p ≡ layerPart (b₀ (s₂ x)) start (t₀ (s₂ x)) → start + 2 * entryCount (b₀ (s₂ x)) ≤ length (b₀ (s₂ x))
+    → j₂ x + length p / 2 ≤ s₂ x .args .target .gates
+entries-in x p start e h = let s = s₂ x in omega (arith, ap length e, part-length (b₀ s) start (t₀ s) h (early s), edges-is s, edges-in x)
+
+put-gathers-requires : tie.Need-put-gathers-requires
+put-gathers-requires c κs =
+    let n = c .before .before .before in
     let x = x₃ n in
     let s = s₃ n in
-    let l = laid (b₀ s) (s .args .layout) (head s) (s .pre .1 .0) in (
-      head s,
-      (
-        (omega arith, early s, ap (λ (target : Target). target .words) (aim s)),
-        (fits₂ x, ((λ e. absurd (true≢false e)), ((edges-in x, omega (arith, nexts-few n, s .pre .1 .1 .1 .1 .0 .0)), omega (arith, ap length (chains₃-are n), nexts-in n)))),
-      ),
-    )
+    let b : List ℕ = b₀ s in
+    (fits₂ x, ((λ e. absurd (next-is-not-output e)), (entries-in x (p₃ n) (nextsAt b) (p₃-is n) (nexts-stand b (head s)), omega (arith, ap length (chains₃-are n), nexts-in x))))
 
-abbrev n₄ : tie.After-put-layer → tie.After-drawn-states
-n₄ l = l .before .before .before
+abbrev n₄ : tie.After-put-gathers → tie.After-entries-from
+n₄ g = g .before .before .before .before
 
-abbrev s₄ : tie.After-put-layer → tie.Start
-s₄ l = s₃ (n₄ l)
+abbrev s₄ : tie.After-put-gathers → tie.Start
+s₄ g = s₃ (n₄ g)
 
-abbrev r₃ : tie.After-put-layer → List ℕ
-r₃ l = l .put-layer .last .1 .1 .1 .1 .1 .1 .1 .1 .1 .1 .0
+abbrev r₃ : tie.After-put-gathers → List ℕ
+r₃ g = g .put-gathers .last .1 .1 .1 .1 .1 .0
 
-stored₃ : (l : tie.After-put-layer) → r₃ l ≡ gatesStored (s₄ l .args .target .gates) (g₂ (x₃ (n₄ l))) (r₂ (x₃ (n₄ l))) (nextGates (F₀ (s₄ l)))
-stored₃ l = l .put-layer .ensures .0 ∙ ap (gatesStored (s₄ l .args .target .gates) (g₂ (x₃ (n₄ l))) (r₂ (x₃ (n₄ l)))) (chains₃-are (n₄ l))
+stored₃ : (g : tie.After-put-gathers) → r₃ g ≡ gatesStored (s₄ g .args .target .gates) (g₂ (x₃ (n₄ g))) (r₂ (x₃ (n₄ g))) (nextGates (F₀ (s₄ g)))
+stored₃ g = g .put-gathers .ensures .0 ∙ ap (gatesStored (s₄ g .args .target .gates) (g₂ (x₃ (n₄ g))) (r₂ (x₃ (n₄ g)))) (chains₃-are (n₄ g))
 
-fits₃ : (l : tie.After-put-layer) → Fits (s₄ l .args .target) (r₃ l)
-fits₃ l = let x = x₃ (n₄ l) in fits-still (s₄ l .args .target) (r₂ x) (r₃ l) (g₂ x) (nextGates (F₀ (s₄ l))) (fits₂ x) (stored₃ l) (nexts-in (n₄ l))
+fits₃ : (g : tie.After-put-gathers) → Fits (s₄ g .args .target) (r₃ g)
+fits₃ g = let x = x₃ (n₄ g) in fits-still (s₄ g .args .target) (r₂ x) (r₃ g) (g₂ x) (nextGates (F₀ (s₄ g))) (fits₂ x) (stored₃ g) (nexts-in x)
+
+states₃ : (g : tie.After-put-gathers) → StatesKept (b₀ (s₄ g)) (suc (t₀ (s₄ g))) (g .put-gathers .last .1 .1 .1 .1 .0 ++ drop (s₄ g .args .plan .drawn) (now (s₄ g .args .states)))
+states₃ g =
+    let s = s₄ g in
+    let e = g .put-gathers .ensures .1 .0 ∙ kept₃-are (n₄ g) in
+    states-left (b₀ s) (now (s .args .states)) _ (t₀ s) (s .args .plan .drawn) e
+    (drawn-is s ∙ sym (ap length (e ∙ states-next (b₀ s) (t₀ s)) ∙ listed-length _ (F₀ s .nexts))) (drawn-few s) (s .pre .1 .1 .1 .0 .long)
 
 -- ---- after the outputs
 
-o₄-is : (l : tie.After-put-layer) → l .put-layer .result ≡ g₂ (x₃ (n₄ l)) + length (nextGates (F₀ (s₄ l)))
-o₄-is l = l .put-layer .ensures .1 .1 ∙ ap (λ (gs : List (ℕ × ℕ)). g₂ (x₃ (n₄ l)) + length gs) (chains₃-are (n₄ l))
+o₄-is : (g : tie.After-put-gathers) → g .put-gathers .result ≡ g₂ (x₃ (n₄ g)) + length (nextGates (F₀ (s₄ g)))
+o₄-is g = g .put-gathers .ensures .1 .1 ∙ ap (λ (gs : List (ℕ × ℕ)). g₂ (x₃ (n₄ g)) + length gs) (chains₃-are (n₄ g))
 
-abbrev chains₄ : tie.After-put-layer → ℕ → List (ℕ × ℕ)
-chains₄ l start =
-    let a = s₄ l .args in
-    chainsFrom (a .target .base + l .put-layer .result) (gathering (a .target .base + j₂ (x₃ (n₄ l))) (layerPart (now (a .table)) start (a .t)) false) (a .target .outputs)
+entries-from-requires-2 : tie.Need-entries-from-requires-2
+entries-from-requires-2 c κs = let s = s₄ (c .before .before .before .before) in outputs-part (b₀ s) (head s) (t₀ s) (early s) _ _ (planned s) .0
 
-chains₄-are : (l : tie.After-put-layer) → chains₄ l (s₄ l .args .layout .outputs) ≡ outGates (F₀ (s₄ l))
-chains₄-are l =
-    let s = s₄ l in
-    let x = x₃ (n₄ l) in
-    ap (chains₄ l) (laid (b₀ s) (s .args .layout) (head s) (s .pre .1 .0) .outputs-is)
-    ∙ outs-are (b₀ s) (head s) (s .args .t) (early s) (s .args .target) (aim s) (d₀ s) (s .args .k) (s .pre .1 .1 .1 .0 .1) (j₂ x) (m₁ (n₂ x) .put-matches .ensures .1) (g₂ x) (g₂-is x)
-    (l .put-layer .result) (o₄-is l)
+abbrev l₅ : tie.After-entries-from2 → tie.After-put-gathers
+l₅ e = e .before .before .before .before .before
 
-abbrev kept₄ : tie.After-put-layer → ℕ → List ℕ
-kept₄ l start =
-    let a = s₄ l .args in
-    listed [] (λ i. inverted (ending (a .target .base + l .put-layer .result) (gathering (a .target .base + j₂ (x₃ (n₄ l))) (layerPart (now (a .table)) start (a .t)) false) i)) (a .target .outputs)
+abbrev s₅ : tie.After-entries-from2 → tie.Start
+s₅ e = s₄ (l₅ e)
 
-kept₄-are : (l : tie.After-put-layer) → kept₄ l (s₄ l .args .layout .outputs) ≡ listed [] (outLiteral (F₀ (s₄ l))) (s₄ l .args .target .outputs)
-kept₄-are l =
-    let s = s₄ l in
-    let x = x₃ (n₄ l) in
-    ap (kept₄ l) (laid (b₀ s) (s .args .layout) (head s) (s .pre .1 .0) .outputs-is)
-    ∙ out-literals (b₀ s) (head s) (s .args .t) (early s) (s .args .target) (aim s) (d₀ s) (s .args .k) (s .pre .1 .1 .1 .0 .1) (j₂ x) (m₁ (n₂ x) .put-matches .ensures .1) (g₂ x) (g₂-is x)
-    (l .put-layer .result) (o₄-is l)
+abbrev x₅ : tie.After-entries-from2 → tie.After-put-edges
+x₅ e = x₃ (n₄ (l₅ e))
 
-outs-end : (l : tie.After-put-layer) → l .put-layer .result + length (outGates (F₀ (s₄ l))) ≡ s₄ l .args .k + length (frameGates (F₀ (s₄ l)))
-outs-end l =
-    let s = s₄ l in
-    let x = x₃ (n₄ l) in
-    omega (arith, o₄-is l, g₂-is x, m₁ (n₂ x) .put-matches .ensures .1, matches s, edge-length s, frame-count (F₀ s))
+-- the layer's outputs
+abbrev p₅ : tie.After-entries-from2 → List ℕ
+p₅ e = now (e .entries-from2 .result)
 
--- there is a place for each output
-seen-in : (s : tie.Start) → s .args .target .outputs * s .args .t + s .args .target .outputs ≤ 256
-seen-in s =
-    let m : ℕ = s .args .target .outputs in
-    omega (arith, mul-suc m (s .args .t), mul-le-mul (s .pre .1 .1 .0 .1 .outputs-to) (le-trans (early s) (head s .sized .frames-to)))
+p₅-is : (e : tie.After-entries-from2) → p₅ e ≡ layerPart (b₀ (s₅ e)) (outputsAt (b₀ (s₅ e))) (t₀ (s₅ e))
+p₅-is e = let s = s₅ e in e .entries-from2 .ensures ∙ outputs-part (b₀ s) (head s) (t₀ s) (early s) _ _ (planned s) .1
 
-mul-seen : tie.Need-mul-seen
-mul-seen c = let s = c .before .before .before .before .before .before .before .before .before .before .before .before .before .before .before .before .before .before .before .before .before .before .before .before in omega (arith, seen-in s)
+count₅-is : (s : tie.Start) → length (now (s .args .outputs)) ≡ F₀ s .outputs
+count₅-is s = s .pre .1 .1 .1 .1 ∙ outs-count (b₀ s) (head s) (t₀ s) (early s) (s .args .target) (aim s) (d₀ s)
 
-put-layer-requires-2 : tie.Need-put-layer-requires-2
-put-layer-requires-2 c κs =
-    let l = c .before .before .before .before .before .before .before in
-    let s = s₄ l in
-    let x = x₃ (n₄ l) in
-    let a = laid (b₀ s) (s .args .layout) (head s) (s .pre .1 .0) in (
-      head s,
-      (
-        (omega arith, early s, ap (λ (target : Target). target .words) (aim s)),
-        (fits₃ l, ((λ e. s .pre .1 .1 .0 .1 .outputs-to), ((edges-in x, omega (arith, seen-in s, s .pre .1 .1 .1 .1 .1)), omega (arith, ap length (chains₄-are l), outs-end l, room s)))),
-      ),
+abbrev outs₅ : tie.After-entries-from2 → Gathering
+outs₅ e = record { key = OutputBit; edges = j₂ (x₅ e) }
+
+chains₅-are : (e : tie.After-entries-from2) → gatherGates (s₅ e .args .target) (outs₅ e) (p₅ e) (l₅ e .put-gathers .result) (length (now (s₅ e .args .outputs))) ≡ outGates (F₀ (s₅ e))
+chains₅-are e =
+    let s = s₅ e in
+    let x = x₅ e in
+    outs-are (b₀ s) (head s) (t₀ s) (early s) (s .args .target) (aim s) (d₀ s) (s .args .plan .first) (first-is s) (j₂ x) (m₂ x .put-matches .ensures .1) (g₂ x) (g₂-is x)
+    (l₅ e .put-gathers .result) (o₄-is (l₅ e)) (p₅ e) (p₅-is e) _ (count₅-is s)
+
+kept₅-are : (e : tie.After-entries-from2) → gatherLiterals (s₅ e .args .target) (outs₅ e) (p₅ e) (l₅ e .put-gathers .result) (length (now (s₅ e .args .outputs))) ≡ listed [] (outLiteral (F₀ (s₅ e))) (s₅ e .args .target .outputs)
+kept₅-are e =
+    let s = s₅ e in
+    let x = x₅ e in
+    out-literals (b₀ s) (head s) (t₀ s) (early s) (s .args .target) (aim s) (d₀ s) (s .args .plan .first) (first-is s) (j₂ x) (m₂ x .put-matches .ensures .1) (g₂ x) (g₂-is x)
+    (l₅ e .put-gathers .result) (o₄-is (l₅ e)) (p₅ e) (p₅-is e) _ (count₅-is s)
+    ∙ ap (listed [] (outLiteral (F₀ s))) (sym (count₅-is s) ∙ s .pre .1 .1 .1 .1)
+
+outs-end : (g : tie.After-put-gathers) → g .put-gathers .result + length (outGates (F₀ (s₄ g))) ≡ s₄ g .args .plan .first + length (frameGates (F₀ (s₄ g)))
+outs-end g =
+    let s = s₄ g in
+    let x = x₃ (n₄ g) in
+    omega (arith, o₄-is g, m₂ x .put-matches .ensures .1, matches s, edge-length s, frame-count (F₀ s))
+
+put-gathers-requires-2 : tie.Need-put-gathers-requires-2
+put-gathers-requires-2 c κs =
+    let e = c .before .before in
+    let g = l₅ e in
+    let s = s₅ e in
+    let b : List ℕ = b₀ s in (
+      fits₃ g,
+      ((λ _. omega (arith, s .pre .1 .1 .1 .1, fits₀ s .outputs-to)), (entries-in (x₅ e) (p₅ e) (outputsAt b) (p₅-is e) (outputs-stand b (head s)), omega (arith, ap length (chains₅-are e), outs-end g, room s))),
     )
 
-abbrev l₅ : tie.After-put-layer2 → tie.After-put-layer
-l₅ o = o .before .before .before .before .before .before .before .before
+abbrev e₆ : tie.After-put-gathers2 → tie.After-entries-from2
+e₆ o = o .before .before .before
 
-abbrev s₅ : tie.After-put-layer2 → tie.Start
-s₅ o = s₄ (l₅ o)
+abbrev s₆ : tie.After-put-gathers2 → tie.Start
+s₆ o = s₅ (e₆ o)
 
-abbrev r₄ : tie.After-put-layer2 → List ℕ
-r₄ o = o .put-layer2 .last .1 .1 .1 .1 .1 .1 .1 .1 .1 .1 .0
-
-stored₄ : (o : tie.After-put-layer2) → r₄ o ≡ gatesStored (s₅ o .args .target .gates) (s₅ o .args .k) (now (s₅ o .args .result)) (frameGates (F₀ (s₅ o)))
-stored₄ o =
-    let l = l₅ o in
-    let x = x₃ (n₄ l) in
-    let m = m₁ (n₂ x) in
-    let s = s₄ l in
-    parts-stored (s .args .target .gates) (s .args .k) (now (s .args .result)) (r₁ m) (r₂ x) (r₃ l) (r₄ o) (F₀ s) (j₂ x) (g₂ x) (l .put-layer .result)
-    (stored₁ m) (stored₂ x) (stored₃ l) (o .put-layer2 .ensures .0 ∙ ap (gatesStored (s .args .target .gates) (l .put-layer .result) (r₃ l)) (chains₄-are l))
-    (omega (arith, m .put-matches .ensures .1, matches s)) (omega (arith, g₂-is x, edge-length s)) (o₄-is l) (room s) (s .pre .1 .1 .0 .1 .room)
+stored₆ : (o : tie.After-put-gathers2) → o .put-gathers2 .last .1 .1 .1 .1 .1 .0 ≡ gatesStored (s₆ o .args .target .gates) (s₆ o .args .plan .first) (now (s₆ o .args .result)) (frameGates (F₀ (s₆ o)))
+stored₆ o =
+    let g = l₅ (e₆ o) in
+    let x = x₅ (e₆ o) in
+    let m = m₂ x in
+    let s = s₆ o in
+    parts-stored (s .args .target .gates) (s .args .plan .first) (now (s .args .result)) (r₁ m) (r₂ x) (r₃ g) _ (F₀ s) (j₂ x) (g₂ x) (g .put-gathers .result)
+    (stored₁ m) (stored₂ x) (stored₃ g) (o .put-gathers2 .ensures .0 ∙ ap (gatesStored (s .args .target .gates) (g .put-gathers .result) (r₃ g)) (chains₅-are (e₆ o)))
+    (omega (arith, m .put-matches .ensures .1, matches s)) (omega (arith, edge-length s)) (o₄-is g) (room s) (fits₀ s .room)
 
 same-length : tie.Need-same-length
-same-length c = search needs
+same-length c = let g = l₅ (e₆ (c .before .before .before .before)) in states₃ g .long ∙ sym (s₄ g .pre .1 .1 .1 .0 .long)
 
 same-length-2 : tie.Need-same-length-2
-same-length-2 c = search needs
+same-length-2 c =
+    let o = c .before .before .before .before in
+    let s = s₆ o in
+    ap length (o .put-gathers2 .ensures .1 .0 ∙ kept₅-are (e₆ o)) ∙ listed-length _ (s .args .target .outputs) ∙ sym (s .pre .1 .1 .1 .1)
 
 same-length-3 : tie.Need-same-length-3
-same-length-3 c = let o = c .before .before .before .before in let s = s₅ o in ap length (stored₄ o) ∙ gates-length _ _ _ _ (room s) (s .pre .1 .1 .0 .1 .room)
+same-length-3 c = let o = c .before .before .before .before in let s = s₆ o in ap length (stored₆ o) ∙ gates-length _ _ _ _ (room s) (fits₀ s .room)
 
 returns : tie.Need-returns
 returns c =
     let o = c .before .before .before .before in
-    let l = l₅ o in
-    let s = s₄ l in (
-      stored₄ o,
+    let e = e₆ o in
+    let g = l₅ e in
+    let s = s₆ o in (
+      stored₆ o,
       (
-        l .put-layer .ensures .1 .0 ∙ ap (sets (now (s .args .states)) 0) (kept₃-are (n₄ l)),
+        states₃ g,
         (
-          o .put-layer2 .ensures .1 .0 ∙ ap (sets (now (s .args .outputs)) (s .args .target .outputs * s .args .t)) (kept₄-are l),
-          o .put-layer2 .ensures .1 .1 ∙ ap (λ (gs : List (ℕ × ℕ)). l .put-layer .result + length gs) (chains₄-are l) ∙ outs-end l
-              ∙ omega (arith, s .pre .1 .1 .1 .0 .1, frame-ends (b₀ s) (s .args .t)),
+          o .put-gathers2 .ensures .1 .0 ∙ kept₅-are e,
+          o .put-gathers2 .ensures .1 .1 ∙ ap (λ (gs : List (ℕ × ℕ)). g .put-gathers .result + length gs) (chains₅-are e) ∙ outs-end g ∙ omega (arith, first-is s, frame-ends (b₀ s) (t₀ s)),
         ),
       ),
     )
@@ -342,15 +364,14 @@ put-frame-spec =
     tie.close
     (tie.spec
     put-matches-requires
-    states-of-requires
-    mul-count
     put-edges-requires
-    add-drawn-states
-    drawn-states-requires
-    add-put-layer
-    put-layer-requires
-    mul-seen
-    put-layer-requires-2
+    entries-from-requires
+    add-put-gathers
+    slice-relend-prefix-put-gathers
+    slice-aggregate-put-gathers
+    put-gathers-requires
+    entries-from-requires-2
+    put-gathers-requires-2
     same-length
     same-length-2
     same-length-3

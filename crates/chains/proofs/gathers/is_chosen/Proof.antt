@@ -1,25 +1,28 @@
 -- `chains::gathers::is_chosen` meets its contract.
 -- Assumes nothing.
 use mathlib.Core.Path.{sym, ap, _∙_}
-use mathlib.Core.Bool.{Bool, cond}
-use lib.Dec.{eqb}
-use Rattle.circuit.specs.Lists.{bit}
+use borrow.Author.Needs.{needs}
 use Rattle.chains.specs.Chains.{chosen}
+use Rattle.chains.specs.declared.gathers.Key.{Key}
 use Rattle.chains.proofs.gathers.is_chosen.Statement.{statement}
 use Rattle.chains.proofs.gathers.is_chosen.Tie as tie
 
-returns : tie.Need-returns
-unfolding chosen
-returns c = let a = c .before .args in ap (λ (t : Bool). cond t (eqb (a .x) (a .which)) (bit (a .x) (a .which))) (sym (c .if1 .taken))
+enum-told : tie.Need-enum-told
+enum-told c = search needs
+
+enum-told-2 : tie.Need-enum-told-2
+enum-told-2 c = search needs
 
 is-set-requires : tie.Need-is-set-requires
-is-set-requires c κs = c .before .pre (c .if1 .left)
+is-set-requires c κs = c .before .before .pre (c .enum-told2 .given .1)
+
+returns : tie.Need-returns
+unfolding chosen
+returns c = let a = c .before .before .args in ap (λ (key : Key). chosen key (a .i) (a .x)) (sym (c .enum-told .given .1))
 
 returns-2 : tie.Need-returns-2
 unfolding chosen
-returns-2 c =
-    let a = c .before .before .args in
-    c .is-set .ensures ∙ ap (λ (t : Bool). cond t (eqb (a .x) (a .which)) (bit (a .x) (a .which))) (sym (c .before .if1 .left))
+returns-2 c = let a = c .before .before .before .args in c .is-set .ensures ∙ ap (λ (key : Key). chosen key (a .i) (a .x)) (sym (c .before .enum-told2 .given .1))
 
 pub is-chosen-spec : {M : Type 1} → statement M
-is-chosen-spec = tie.close (tie.spec returns is-set-requires returns-2)
+is-chosen-spec = tie.close (tie.spec enum-told enum-told-2 is-set-requires returns returns-2)

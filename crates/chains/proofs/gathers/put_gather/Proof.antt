@@ -10,40 +10,49 @@ use denote.Ref.{now}
 use lib.ListN.{length}
 use Rattle.unfolded.specs.Unfolded.{chain, invertedEdges}
 use Rattle.unfolded.proofs.Gates.{chain-length}
-use Rattle.chains.specs.Chains.{gatesStored, chosen, gathering}
-use Rattle.chains.proofs.Edges.{gathered, edge-taken, edge-passed, taken-length, edges-most, edge-room, gathering-is}
+use Rattle.chains.specs.Chains.{gatesStored, chosen, gatherEdges}
+use Rattle.chains.proofs.Edges.{belongs, edge-taken, edge-passed, taken-length, edges-most, edge-room, all-edges}
 use Rattle.chains.proofs.Stored.{gates-none, gates-length, fits-still, chain-more}
 use Rattle.chains.proofs.gathers.put_gather.Statement.{statement}
 use Rattle.chains.proofs.gathers.put_gather.Tie as tie
 
 abbrev Inv-loop : tie.InvT-loop
-Inv-loop target entries edges nexts which k result₀ count end₀ e₀ result end e =
-    (e ≤ count) × (end ≡ k + length (invertedEdges (target .base + edges) (gathered entries nexts which) e))
-    × (result ≡ gatesStored (target .gates) k result₀ (chain (target .base + k) 1 (invertedEdges (target .base + edges) (gathered entries nexts which) e)))
+Inv-loop target entries i k result₀ key edges count end₀ e₀ result end e =
+    (e ≤ count) × (end ≡ k + length (invertedEdges edges (belongs key entries i) e))
+    × (result ≡ gatesStored (target .gates) k result₀ (chain (target .base + k) 1 (invertedEdges edges (belongs key entries i) e)))
 
 abbrev μ-loop : tie.MeasureT-loop
-μ-loop target entries edges nexts which k result₀ count end₀ e₀ result end e = count - e
+μ-loop target entries i k result₀ key edges count end₀ e₀ result end e = count - e
+
+add-edges : tie.Need-add-edges Inv-loop μ-loop
+add-edges c = let a = c .before .before .before .before in omega (arith, a .pre .0, a .pre .1 .1 .0)
 
 loop-holds : tie.Need-loop-holds Inv-loop μ-loop
 unfolding invertedEdges chain
 loop-holds c = (omega arith, omega arith, sym (gates-none _ _ _))
 
--- at the loop's head: the entry of the function, the edges so far, and all
+-- at the loop's head: the entry of the function, which edges are gathered, the edges so far, and all
 abbrev start : tie.At-loop Inv-loop μ-loop → tie.Start Inv-loop μ-loop
-start l = l .before .before .before
+start l = l .before .before .before .before .before
+
+abbrev first : tie.At-loop Inv-loop μ-loop → ℕ
+first l = start l .args .target .base + start l .args .gathering .edges
+
+abbrev test : tie.At-loop Inv-loop μ-loop → ℕ → Bool
+test l = let a = start l .args in belongs (a .gathering .key) (now (a .entries)) (a .i)
 
 abbrev sofar : tie.At-loop Inv-loop μ-loop → ℕ → List ℕ
-sofar l = let a = start l .args in invertedEdges (a .target .base + a .edges) (gathered (now (a .entries)) (a .nexts) (a .which))
+sofar l = invertedEdges (first l) (test l)
 
 all-are : (l : tie.At-loop Inv-loop μ-loop) → sofar l (length (now (start l .args .entries)) / 2)
-    ≡ gathering (start l .args .target .base + start l .args .edges) (now (start l .args .entries)) (start l .args .nexts) (start l .args .which)
-all-are l = gathering-is _ _ _ _ _ refl
+    ≡ gatherEdges (start l .args .target) (start l .args .gathering) (now (start l .args .entries)) (start l .args .i)
+all-are l = all-edges (start l .args .target) (start l .args .gathering) _ _ _ refl
 
 all-fit : (l : tie.At-loop Inv-loop μ-loop) → start l .args .k + length (sofar l (length (now (start l .args .entries)) / 2)) ≤ start l .args .target .gates
 all-fit l = omega (arith, ap length (all-are l), start l .pre .1 .1 .1)
 
 within : (l : tie.At-loop Inv-loop μ-loop) → start l .args .k + length (sofar l (l .loop .e)) ≤ start l .args .target .gates
-within l = let a = start l .args in omega (arith, all-fit l, edges-most (a .target .base + a .edges) (gathered (now (a .entries)) (a .nexts) (a .which)) _ _ (l .loop .inv .0))
+within l = omega (arith, all-fit l, edges-most (first l) (test l) _ _ (l .loop .inv .0))
 
 chain-within : (l : tie.At-loop Inv-loop μ-loop) → start l .args .k + length (chain (start l .args .target .base + start l .args .k) 1 (sofar l (l .loop .e))) ≤ start l .args .target .gates
 chain-within l = omega (arith, within l, chain-length (start l .args .target .base + start l .args .k) 1 (sofar l (l .loop .e)))
@@ -57,12 +66,9 @@ read-requires c κs = omega (arith, c .loop-test .taken)
 is-chosen-requires : tie.Need-is-chosen-requires Inv-loop μ-loop
 is-chosen-requires c κs = start (c .before .before) .pre .1 .0
 
--- in a turn: which edges are gathered, and what is found of this one
-abbrev test : tie.At-loop Inv-loop μ-loop → ℕ → Bool
-test l = let a = start l .args in gathered (now (a .entries)) (a .nexts) (a .which)
-
+-- in a turn: what is found of this edge
 found : (p : tie.After-is-chosen Inv-loop μ-loop) → test (p .before .before .before) (p .before .before .before .loop .e) ≡ p .is-chosen .result
-found p = let a = start (p .before .before .before) .args in sym (p .is-chosen .ensures ∙ ap (chosen (a .nexts) (a .which)) (p .before .read .ensures .0))
+found p = let a = start (p .before .before .before) .args in sym (p .is-chosen .ensures ∙ ap (chosen (a .gathering .key) (a .i)) (p .before .read .ensures .0))
 
 chain-end-requires : tie.Need-chain-end-requires Inv-loop μ-loop
 chain-end-requires c κs =
@@ -71,33 +77,30 @@ chain-end-requires c κs =
     (a .pre .0 .base-to, omega (arith, l .loop .inv .1), omega (arith, l .loop .inv .1, within l, a .pre .0))
 
 add-put-gate : tie.Need-add-put-gate Inv-loop μ-loop
-add-put-gate c = let a = start (c .before .before .before .before .before .before) in omega (arith, a .pre .0, a .pre .1 .1 .0)
-
-add-put-gate-2 : tie.Need-add-put-gate-2 Inv-loop μ-loop
-add-put-gate-2 c = let i = c .before .before .before .before .before in let a = start (i .before) in omega (arith, i .loop-test .taken, a .pre .0, a .pre .1 .1 .0)
+add-put-gate c = let i = c .before .before .before .before in let a = start (i .before) in omega (arith, i .loop-test .taken, a .pre .0, a .pre .1 .1 .0)
 
 mul-put-gate : tie.Need-mul-put-gate Inv-loop μ-loop
-mul-put-gate c = let i = c .before .before .before .before .before in let a = start (i .before) in omega (arith, i .loop-test .taken, a .pre .0, a .pre .1 .1 .0)
+mul-put-gate c = let i = c .before .before .before .before in let a = start (i .before) in omega (arith, i .loop-test .taken, a .pre .0, a .pre .1 .1 .0)
 
-add-put-gate-3 : tie.Need-add-put-gate-3 Inv-loop μ-loop
-add-put-gate-3 c = let i = c .before .before .before .before .before in let a = start (i .before) in omega (arith, i .loop-test .taken, a .pre .0, a .pre .1 .1 .0)
+add-put-gate-2 : tie.Need-add-put-gate-2 Inv-loop μ-loop
+add-put-gate-2 c = let i = c .before .before .before .before in let a = start (i .before) in omega (arith, i .loop-test .taken, a .pre .0, a .pre .1 .1 .0)
 
 put-gate-requires : tie.Need-put-gate-requires Inv-loop μ-loop
 put-gate-requires c κs =
-    let t = c .before .before .before in
+    let t = c .before .before in
     let i = t .before .before .before in
     let l = i .before in
     let a = start l in (
       fits-still _ (now (a .args .result)) _ _ _ (a .pre .0) (l .loop .inv .2) (chain-within l),
       (
-        omega (arith, l .loop .inv .1, all-fit l, edge-room (a .args .target .base + a .args .edges) (test l) (l .loop .e) (length (now (a .args .entries)) / 2) (i .loop-test .taken) (found (t .before) ∙ t .if1 .taken)),
-        omega (arith, c .before .before .chain-end .ensures .1),
+        omega (arith, l .loop .inv .1, all-fit l, edge-room (first l) (test l) (l .loop .e) (length (now (a .args .entries)) / 2) (i .loop-test .taken) (found (t .before) ∙ t .if1 .taken)),
+        omega (arith, c .before .chain-end .ensures .1),
         omega (arith, i .loop-test .taken, a .pre .0, a .pre .1 .1 .0),
       ),
     )
 
 add-end : tie.Need-add-end Inv-loop μ-loop
-add-end c = let l = c .before .before .before .before .before .before .before .before .before .before in omega (arith, l .loop .inv .1, within l, start l .pre .0)
+add-end c = let l = c .before .before .before .before .before .before .before .before .before in omega (arith, l .loop .inv .1, within l, start l .pre .0)
 
 add-e : tie.Need-add-e Inv-loop μ-loop
 add-e c = let i = c .before .before .before in let a = start (i .before) in omega (arith, i .loop-test .taken, a .pre .0, a .pre .1 .1 .0)
@@ -110,21 +113,20 @@ loop-again c =
     let i = c .before .before .before in
     let l = i .before in
     let a = start l in
-    let at : ℕ = a .args .target .base + a .args .edges in
     let e : ℕ = l .loop .e in
     ⊎-elim
     (λ w.
     let t : test l e ≡ true = found (c .before) ∙ w .0 .taken in (
       omega arith,
-      w .8 ∙ omega (arith, l .loop .inv .1, taken-length at (test l) e t),
-      w .7
-          ∙ w .4 .ensures
+      w .7 ∙ omega (arith, l .loop .inv .1, taken-length (first l) (test l) e t),
+      w .6
+          ∙ w .3 .ensures
           ∙ chain-more (a .args .target .gates) (a .args .target .base) (a .args .k) (now (a .args .result)) (l .loop .result) (sofar l e) (sofar l (e + 1)) (l .loop .end)
-          _ (2 * (at + e) + 1) (l .loop .inv .2) (l .loop .inv .1) (w .1 .ensures .0) (edge-taken at (test l) e t)
-          (omega (arith, l .loop .inv .1, all-fit l, edge-room at (test l) e (length (now (a .args .entries)) / 2) (i .loop-test .taken) t)) (a .pre .0 .room),
+          _ (2 * (first l + e) + 1) (l .loop .inv .2) (l .loop .inv .1) (w .1 .ensures .0) (edge-taken (first l) (test l) e t)
+          (omega (arith, l .loop .inv .1, all-fit l, edge-room (first l) (test l) e (length (now (a .args .entries)) / 2) (i .loop-test .taken) t)) (a .pre .0 .room),
     ))
     (λ w.
-    let q = edge-passed at (test l) e (found (c .before) ∙ w .0 .left) in (
+    let q = edge-passed (first l) (test l) e (found (c .before) ∙ w .0 .left) in (
       omega arith,
       w .2 ∙ l .loop .inv .1 ∙ ap (λ (rs : List ℕ). a .args .k + length rs) q,
       w .1 ∙ l .loop .inv .2 ∙ ap (λ (rs : List ℕ). gatesStored (a .args .target .gates) (a .args .k) (now (a .args .result)) (chain (a .args .target .base + a .args .k) 1 rs)) q,
@@ -150,15 +152,15 @@ put-gather-spec =
     (tie.spec
     Inv-loop
     μ-loop
+    add-edges
     loop-holds
     mul-read
     read-requires
     is-chosen-requires
     chain-end-requires
     add-put-gate
-    add-put-gate-2
     mul-put-gate
-    add-put-gate-3
+    add-put-gate-2
     put-gate-requires
     add-end
     add-e

@@ -5,56 +5,53 @@ use mathlib.Core.List.{List, []}
 use Prim.Native.Nat.{ℕ, _+_, _-_, _≤_, _<_}
 use native.Mathlib.Omega.{arith}
 use denote.Ref.{now}
-use lib.ListN.{length}
-use lib.Seq.{sets, length-sets}
+use lib.ListN.{length, take, length-set}
+use lib.Seq.{take-all}
 use Rattle.circuit.specs.Lists.{grown, listed}
+use Rattle.circuit.proofs.Laws.{fill-grown}
 use Rattle.unfolded.specs.Unfolded.{inverted, chainsFrom, ending}
-use Rattle.chains.specs.Chains.{gatesStored, gathering}
-use Rattle.chains.proofs.Stored.{gates-none, gates-length, fits-still, chains-next, chains-longer, chains-room, chains-most, ending-is, kept-more}
+use Rattle.chains.specs.Chains.{gatesStored, gatherEdges, gatherGates, gatherLiterals}
+use Rattle.chains.proofs.Stored.{gates-none, gates-length, fits-still, chains-next, chains-longer, chains-room, chains-most, ending-is}
 use Rattle.chains.proofs.gathers.put_gathers.Statement.{statement}
 use Rattle.chains.proofs.gathers.put_gathers.Tie as tie
 
 abbrev Inv-loop : tie.InvT-loop
-Inv-loop target entries edges nexts count k literals₀ at result₀ end₀ i₀ literals result end i =
-    (i ≤ count) × (end ≡ k + length (chainsFrom (target .base + k) (gathering (target .base + edges) entries nexts) i))
-    × (result ≡ gatesStored (target .gates) k result₀ (chainsFrom (target .base + k) (gathering (target .base + edges) entries nexts) i))
-    × (literals ≡ sets literals₀ at (listed [] (λ i. inverted (ending (target .base + k) (gathering (target .base + edges) entries nexts) i)) i))
+Inv-loop target entries gathering k literals₀ result₀ count end₀ i₀ literals result end i =
+    (i ≤ count) × (end ≡ k + length (gatherGates target gathering entries k i)) × (result ≡ gatesStored (target .gates) k result₀ (gatherGates target gathering entries k i))
+    × (length literals ≡ count) × (take i literals ≡ gatherLiterals target gathering entries k i)
 
 abbrev μ-loop : tie.MeasureT-loop
-μ-loop target entries edges nexts count k literals₀ at result₀ end₀ i₀ literals result end i = count - i
+μ-loop target entries gathering k literals₀ result₀ count end₀ i₀ literals result end i = count - i
 
 loop-holds : tie.Need-loop-holds Inv-loop μ-loop
 unfolding chainsFrom grown
-loop-holds c = (omega arith, omega arith, sym (gates-none _ _ _), refl)
+loop-holds c = (omega arith, omega arith, sym (gates-none _ _ _), refl, refl)
 
 -- at the loop's head: the entry of the function, its chains, and what they end with
 abbrev start : tie.At-loop Inv-loop μ-loop → tie.Start Inv-loop μ-loop
 start l = l .before .before .before .before
 
 abbrev f₀ : tie.At-loop Inv-loop μ-loop → ℕ → List ℕ
-f₀ l = let a = start l .args in gathering (a .target .base + a .edges) (now (a .entries)) (a .nexts)
+f₀ l = let a = start l .args in gatherEdges (a .target) (a .gathering) (now (a .entries))
 
 abbrev first : tie.At-loop Inv-loop μ-loop → ℕ
 first l = start l .args .target .base + start l .args .k
 
 within : (l : tie.At-loop Inv-loop μ-loop) → start l .args .k + length (chainsFrom (first l) (f₀ l) (l .loop .i)) ≤ start l .args .target .gates
-within l = omega (arith, chains-most (first l) (f₀ l) (l .loop .i) (start l .args .count) (l .loop .inv .0), start l .pre .1 .1 .1)
-
-kept-length : (l : tie.At-loop Inv-loop μ-loop) → length (l .loop .literals) ≡ length (now (start l .args .literals))
-kept-length l = let a = start l .args in ap length (l .loop .inv .3) ∙ length-sets (now (a .literals)) (a .at) (listed [] (λ i. inverted (ending (first l) (f₀ l) i)) (l .loop .i))
+within l = omega (arith, chains-most (first l) (f₀ l) (l .loop .i) (length (now (start l .args .literals))) (l .loop .inv .0), start l .pre .1 .1 .1)
 
 -- in a turn: there is room for one chain more
 next : (i : tie.In-loop Inv-loop μ-loop) → i .before .loop .end + length (f₀ (i .before) (i .before .loop .i)) ≤ start (i .before) .args .target .gates
 next i =
     let l = i .before in
-    omega (arith, l .loop .inv .1, chains-room (first l) (f₀ l) (l .loop .i) (start l .args .count) (i .loop-test .taken), start l .pre .1 .1 .1)
+    omega (arith, l .loop .inv .1, chains-room (first l) (f₀ l) (l .loop .i) (length (now (start l .args .literals))) (i .loop-test .taken), start l .pre .1 .1 .1)
 
 put-gather-requires : tie.Need-put-gather-requires Inv-loop μ-loop
 put-gather-requires c κs =
     let i = c .before in
     let l = i .before in
     let a = start l in
-    (fits-still _ (now (a .args .result)) _ _ _ (a .pre .0) (l .loop .inv .2) (within l), ((λ e. omega (arith, i .loop-test .taken, a .pre .1 .0 e)), (a .pre .1 .1 .0 .0, next i)))
+    (fits-still _ (now (a .args .result)) _ _ _ (a .pre .0) (l .loop .inv .2) (within l), ((λ e. omega (arith, i .loop-test .taken, a .pre .1 .0 e)), (a .pre .1 .1 .0, next i)))
 
 chain-end-requires : tie.Need-chain-end-requires Inv-loop μ-loop
 chain-end-requires c κs =
@@ -73,17 +70,14 @@ cast-literals c = omega (arith, c .invert .ensures .1)
 abbrev turn : tie.After-invert Inv-loop μ-loop → tie.In-loop Inv-loop μ-loop
 turn c = c .before .before .before .before .before .before
 
-has-place : (c : tie.After-invert Inv-loop μ-loop) → start (turn c .before) .args .at + turn c .before .loop .i < length (now (start (turn c .before) .args .literals))
-has-place c = omega (arith, turn c .loop-test .taken, start (turn c .before) .pre .1 .1 .0 .1)
-
-add-literals : tie.Need-add-literals Inv-loop μ-loop
-add-literals c = omega (arith, has-place c, start (turn c .before) .good)
+has-place : (c : tie.After-invert Inv-loop μ-loop) → turn c .before .loop .i < length (now (start (turn c .before) .args .literals))
+has-place c = turn c .loop-test .taken
 
 mul-literals : tie.Need-mul-literals Inv-loop μ-loop
 mul-literals c = omega (arith, has-place c, start (turn c .before) .good)
 
 slice-write-literals : tie.Need-slice-write-literals Inv-loop μ-loop
-slice-write-literals c = omega (arith, has-place c, kept-length (turn c .before))
+slice-write-literals c = omega (arith, has-place c, turn c .before .loop .inv .3)
 
 add-i : tie.Need-add-i Inv-loop μ-loop
 add-i c = omega (arith, has-place c, start (turn c .before) .good)
@@ -104,12 +98,14 @@ loop-again c =
       p .put-gather .ensures .0
           ∙ chains-next (a .args .target .gates) (a .args .target .base) (a .args .k) (now (a .args .result)) (l .loop .result) (f₀ l) n (l .loop .end) (l .loop .inv .2) (l .loop .inv .1)
           (next i) (a .pre .0 .room),
-      kept-more (l .loop .literals) (now (a .args .literals)) (a .args .at) (λ i. inverted (ending (first l) (f₀ l) i)) n _ _ (l .loop .inv .3) refl
-          (c .invert .ensures .0 ∙ ap inverted (c .before .chain-end .ensures .0 ∙ ending-is (a .args .target .base) (a .args .k) (f₀ l) n (l .loop .end) _ (l .loop .inv .1) e)),
+      length-set (l .loop .literals) n _ ∙ l .loop .inv .3,
+      fill-grown [] (λ _ i. inverted (ending (first l) (f₀ l) i)) (l .loop .literals) n n (c .invert .result) (omega (arith, has-place c, l .loop .inv .3)) (l .loop .inv .4)
+          (c .invert .ensures .0 ∙ ap inverted (c .before .chain-end .ensures .0 ∙ ending-is (a .args .target .base) (a .args .k) (f₀ l) n (l .loop .end) _ (l .loop .inv .1) e))
+          (n + 1) (n + 1) refl refl,
     )
 
 same-length : tie.Need-same-length Inv-loop μ-loop
-same-length c = kept-length (c .before)
+same-length c = c .before .loop .inv .3
 
 same-length-2 : tie.Need-same-length-2 Inv-loop μ-loop
 same-length-2 c = let l = c .before in ap length (l .loop .inv .2) ∙ gates-length _ _ _ _ (within l) (start l .pre .0 .room)
@@ -118,10 +114,10 @@ returns : tie.Need-returns Inv-loop μ-loop
 returns c =
     let l = c .before in
     let a = start l in
-    let e : l .loop .i ≡ a .args .count = omega (arith, c .loop-test .left) in (
+    let e : l .loop .i ≡ length (now (a .args .literals)) = omega (arith, c .loop-test .left) in (
       l .loop .inv .2 ∙ ap (λ (i : ℕ). gatesStored (a .args .target .gates) (a .args .k) (now (a .args .result)) (chainsFrom (first l) (f₀ l) i)) e,
       (
-        l .loop .inv .3 ∙ ap (λ (i : ℕ). sets (now (a .args .literals)) (a .args .at) (listed [] (λ i. inverted (ending (first l) (f₀ l) i)) i)) e,
+        sym (take-all (l .loop .i) (l .loop .literals) (omega (arith, l .loop .inv .3))) ∙ l .loop .inv .4 ∙ ap (listed [] (λ i. inverted (ending (first l) (f₀ l) i))) e,
         l .loop .inv .1 ∙ ap (λ (i : ℕ). a .args .k + length (chainsFrom (first l) (f₀ l) i)) e,
       ),
     )
@@ -137,7 +133,6 @@ put-gathers-spec =
     chain-end-requires
     invert-requires
     cast-literals
-    add-literals
     mul-literals
     slice-write-literals
     add-i
