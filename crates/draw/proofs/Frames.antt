@@ -251,8 +251,8 @@ module _ (b : List ℕ) where
 pub part-size : (v : List ℕ) (a k : ℕ) → a + k ≤ length v → length (take (a + k - a) (drop a v)) ≡ k
 part-size v a k h = length-take-le (a + k - a) (drop a v) (simp length-drop (omega arith)) ∙ omega arith
 
-pub part-back : (v w : List ℕ) (a k : ℕ) → length w ≡ k → a + k ≤ length v → length (take a v ++ (w ++ drop (a + k - a) (drop a v))) ≡ length v
-part-back v w a k e h = simp (length-append, length-drop) (omega (arith, length-take-le a v (omega arith)))
+pub part-back : (v w : List ℕ) (a k n : ℕ) → length w ≡ k → a + k ≤ length v → length v ≡ n → length (take a v ++ (w ++ drop (a + k - a) (drop a v))) ≡ n
+part-back v w a k n e h l = simp (length-append, length-drop) (omega (arith, length-take-le a v (omega arith)))
 
 -- one frame more, behind those that are stored
 pub drawn-more : (b : List ℕ) (G : ℕ) (v w w′ : List ℕ) (t k : ℕ) → w ≡ gatesStored G 0 v (drawing b t .gates) → k ≡ length (drawing b t .gates)

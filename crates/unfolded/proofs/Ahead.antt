@@ -20,13 +20,13 @@ use Rattle.table.specs.Table.{states}
 use Rattle.unfolded.specs.Unfolded.{ending, inverted, Frame, inputLiteral, matching, edgesAt, invertedEdges, entering, nextLiteral, withBit, outLiteral, nextGatesAt, outGatesAt, Drawing, tableFrame, drawing, drawn}
 use Rattle.circuit.proofs.Lists.{listed-at, listed-cons}
 use Rattle.unfolded.proofs.Gates.{Reads, Admitted, run, together, together-append}
-use Rattle.unfolded.proofs.Frames.{Placed, crossed, edge-reads, next-reads, out-reads}
+use Rattle.unfolded.proofs.Frames.{input-half, Placed, crossed, edge-reads, next-reads, out-reads}
 use Rattle.unfolded.proofs.Drawings.{base, behind, input-low, HandsOn, Step, outputs-read}
 use Rattle.unfolded.proofs.Written.{frameRead, circuitBytes, frames-run, outputs-back, output-at}
 
 -- ---- latest frames as they are read
 
-pub inverted-half : (l : ℕ) → inverted l / 2 ≡ l / 2
+inverted-half : (l : ℕ) → inverted l / 2 ≡ l / 2
 unfolding inverted
 inverted-half l = go (eqb (l % 2) 1) refl
   where
@@ -74,16 +74,11 @@ module _ (b : List ℕ) where
   true-read = ap (λ l. getD l 0 0) start-is
 
   input-read : (t w i : ℕ) → t < frames b → i < inputs b → frameRead start (inputLiteral (inputs b) t w i) ≡ suc t
-  unfolding frameRead inputLiteral frameOf
+  unfolding frameRead frameOf
   input-read t w i h l =
       let n : ℕ = inputs b in
-      let q : (2 * (1 + (t * n + i)) + cond (bit w i) 0 1) / 2 ≡ suc (t * n + i) = half (bit w i) (t * n + i) in
       let k : t * n + i < n * frames b = omega (arith, mul-comm t n, mul-suc n t, mul-le-mul-left n h) in
-      ap₂ (λ l i. getD l i 0) start-is q ∙ listed-at (frameOf n) 0 (n * frames b) (t * n + i) k ∙ ap suc (digits-div t l)
-    where
-      half : (t : Bool) (x : ℕ) → (2 * (1 + x) + cond t 0 1) / 2 ≡ suc x
-      half true x = omega arith
-      half false x = omega arith
+      ap₂ (λ l i. getD l i 0) start-is (input-half n t w i) ∙ listed-at (frameOf n) 0 (n * frames b) (t * n + i) k ∙ ap suc (digits-div t l)
 
   abbrev OfState : ℕ → ℕ → ℕ → Type 0
   OfState t s a = a ≤ t

@@ -1,6 +1,6 @@
 -- All frames: literals are of earlier signals, and whatever each frame hands on of what its literals read as holds at the end.
 use mathlib.Core.Path.{_≡_, refl, sym, ap, ap₂, _∙_}
-use mathlib.Core.Bool.{Bool, true, false, cond}
+use mathlib.Core.Bool.{cond}
 use mathlib.Core.Logic.{⊎-elim}
 use mathlib.Core.List.{List, [], _++_}
 use Prim.Native.Nat.{ℕ, zero, suc, _+_, _*_, _/_, _^_, _≤_, _<_}
@@ -9,15 +9,15 @@ use native.Mathlib.Omega.{arith}
 use lib.Pow.{pow-pos}
 use lib.ListN.{length, getD, length-append, List·getD-append}
 use lib.Seq.{getD-append-add}
-use borrow.Author.Tests.{lt-ltb, le-ltb}
+use borrow.Author.Tests.{lt-ltb}
 use Rattle.sizes.specs.Sizes.{inputs, outputs, frames}
-use Rattle.circuit.specs.Lists.{listed, bit}
+use Rattle.circuit.specs.Lists.{listed}
 use Rattle.table.specs.Table.{states}
 use Rattle.unfolded.specs.Unfolded.{Frame, inputLiteral, frameGates, nextLiteral, outLiteral, Drawing, tableFrame, withFrame, drawing, outputGate, drawn}
 use Rattle.circuit.proofs.Lists.{listed-length, listed-at}
 use Rattle.unfolded.proofs.Lists.{Under, none, under-more, under-widen, under-listed, under-at}
 use Rattle.unfolded.proofs.Gates.{Admitted, no-gate, admitted-append, each-admitted, Reads, run, run-append, run-length, run-read, each-reads}
-use Rattle.unfolded.proofs.Frames.{Placed, frame-admitted, next-below, out-below}
+use Rattle.unfolded.proofs.Frames.{input-half, Placed, frame-admitted, next-below, out-below}
 
 -- ---- literals are of earlier signals
 
@@ -30,7 +30,7 @@ unfoldable pub behind : List ℕ → Drawing → ℕ
 unfolding base
 behind b d = base b + length (d .gates)
 
-pub base-from : (b : List ℕ) → 1 ≤ base b
+base-from : (b : List ℕ) → 1 ≤ base b
 unfolding base
 base-from b = omega arith
 
@@ -40,42 +40,33 @@ one-before b d k e = omega (arith, base-from b)
 
 -- an input's literal is below the gates
 pub input-low : (b : List ℕ) (t w i : ℕ) → t < frames b → i < inputs b → inputLiteral (inputs b) t w i < 2 * base b
-unfolding inputLiteral base
-input-low b t w i h l = go (bit w i)
-  where
-    go : (a : Bool) → 2 * (1 + (t * inputs b + i)) + cond a 0 1 < 2 * (1 + inputs b * frames b)
-    go true = omega (arith, mul-comm t (inputs b), mul-suc (inputs b) t, mul-le-mul-left (inputs b) h)
-    go false = omega (arith, mul-comm t (inputs b), mul-suc (inputs b) t, mul-le-mul-left (inputs b) h)
+unfolding base
+input-low b t w i h l = omega (arith, input-half (inputs b) t w i, mul-comm t (inputs b), mul-suc (inputs b) t, mul-le-mul-left (inputs b) h)
 
 -- what holds of the drawing of t frames
-pub record Drawn (b : List ℕ) (t : ℕ) (d : Drawing) : Type 0 where
-  pub admitted : Admitted (base b) (d .gates)
-  pub states-before : t < frames b → (s : ℕ) → s < states b t → getD (d .states) s 0 < 2 * behind b d
-  pub outputs-count : length (d .outputs) ≡ outputs b * t
-  pub outputs-before : Under (2 * behind b d) (d .outputs)
+record Drawn (b : List ℕ) (t : ℕ) (d : Drawing) : Type 0 where
+  admitted : Admitted (base b) (d .gates)
+  states-before : t < frames b → (s : ℕ) → s < states b t → getD (d .states) s 0 < 2 * behind b d
+  outputs-count : length (d .outputs) ≡ outputs b * t
+  outputs-before : Under (2 * behind b d) (d .outputs)
 
 module _ (b : List ℕ) (t : ℕ) (d : Drawing) where
-  pub frame-at : tableFrame b t d .at ≡ behind b d
+  frame-at : tableFrame b t d .at ≡ behind b d
   unfolding tableFrame behind base
   frame-at = refl
-
-  -- how many next states are drawn: in the last frame none
-  pub last-nexts : frames b ≤ suc t → tableFrame b t d .nexts ≡ 0
-  unfolding tableFrame
-  last-nexts h = ap (λ t′. cond t′ (states b (suc t)) 0) (le-ltb (suc t) (frames b) h)
 
   pub frame-nexts : suc t < frames b → tableFrame b t d .nexts ≡ states b (suc t)
   unfolding tableFrame
   frame-nexts h = ap (λ t′. cond t′ (states b (suc t)) 0) (lt-ltb (suc t) (frames b) h)
 
-  pub frame-placed : t < frames b → Drawn b t d → Placed (tableFrame b t d)
+  frame-placed : t < frames b → Drawn b t d → Placed (tableFrame b t d)
   unfolding tableFrame behind base
   frame-placed h D = record {
     inputs-before = omega (arith, mul-suc (inputs b) t, mul-comm t (inputs b), mul-le-mul-left (inputs b) h);
     states-before = λ e l. D .states-before h (e / 2 ^ inputs b) (div-lt-iff-lt-mul (pow-pos (inputs b)) .1 l);
   }
 
-  pub behind-more : behind b (withFrame d (tableFrame b t d)) ≡ tableFrame b t d .at + length (frameGates (tableFrame b t d))
+  behind-more : behind b (withFrame d (tableFrame b t d)) ≡ tableFrame b t d .at + length (frameGates (tableFrame b t d))
   unfolding behind withFrame tableFrame base
   behind-more = omega (arith, length-append (d .gates) (frameGates (tableFrame b t d)))
 
@@ -97,7 +88,7 @@ module _ (b : List ℕ) (t : ℕ) (d : Drawing) where
       }
 
 module _ (b : List ℕ) (one : states b 0 ≡ 1) where
-  pub drawing-drawn : (t : ℕ) → t ≤ frames b → Drawn b t (drawing b t)
+  drawing-drawn : (t : ℕ) → t ≤ frames b → Drawn b t (drawing b t)
   unfolding drawing behind base
   drawing-drawn zero h = record {
     admitted = no-gate;
@@ -143,8 +134,8 @@ module _
 
     -- what is known after t frames
     pub record Known (t : ℕ) (d : Drawing) : Type 0 where
-      pub of-states : t < frames b → (s : ℕ) → s < states b t → OfState t s (read (run meet read start (d .gates)) (getD (d .states) s 0))
-      pub of-outputs : (u j : ℕ) → u < t → j < outputs b → OfOutput u j (read (run meet read start (d .gates)) (getD (d .outputs) (outputs b * u + j) 0))
+      of-states : t < frames b → (s : ℕ) → s < states b t → OfState t s (read (run meet read start (d .gates)) (getD (d .states) s 0))
+      of-outputs : (u j : ℕ) → u < t → j < outputs b → OfOutput u j (read (run meet read start (d .gates)) (getD (d .outputs) (outputs b * u + j) 0))
 
     module _ (one : states b 0 ≡ 1) (S : Step) where
       run-behind : (d : Drawing) → length (run meet read start (d .gates)) ≡ behind b d

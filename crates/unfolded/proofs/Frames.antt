@@ -17,7 +17,7 @@ use Rattle.unfolded.proofs.Gates.{Admitted, admitted-append, chains-adm
 
 -- ---- where literals are
 
-pub inverted-below : (l x : ℕ) → l < 2 * x → inverted l < 2 * x
+inverted-below : (l x : ℕ) → l < 2 * x → inverted l < 2 * x
 unfolding inverted
 inverted-below l x h = go (eqb (l % 2) 1) refl
   where
@@ -25,9 +25,14 @@ inverted-below l x h = go (eqb (l % 2) 1) refl
     go true e = omega arith
     go false e = let n : l % 2 ≡ 1 → ⊥ = eqb-false (l % 2) 1 e in omega (arith, n)
 
-one-or-none : (t : Bool) → cond t 0 1 < 2
-one-or-none true = omega arith
-one-or-none false = omega arith
+-- an input's literal, inverted or not, is one of its signal
+pub input-half : (n t w i : ℕ) → inputLiteral n t w i / 2 ≡ suc (t * n + i)
+unfolding inputLiteral
+input-half n t w i = either (λ (c : ℕ). (2 * (1 + (t * n + i)) + c) / 2 ≡ suc (t * n + i)) (bit w i) (omega arith) (omega arith)
+  where
+    either : (P : ℕ → Type 0) {x y : ℕ} (v : Bool) → P x → P y → P (cond v x y)
+    either P true p q = p
+    either P false p q = q
 
 -- the frame's inputs and the states that its edges leave are signals before it
 pub record Placed (F : Frame) : Type 0 where
@@ -55,16 +60,16 @@ module _ (F : Frame) where
       go true = more {l = 2 * (edgesAt F + k) + 1} (omega (arith, nexts-at)) none
       go false = none
 
-  pub entering-under : (s : ℕ) → Under (2 * nextGatesAt F) (entering F s)
+  entering-under : (s : ℕ) → Under (2 * nextGatesAt F) (entering F s)
   unfolding entering
   entering-under s = inverted-under _ (F .edges) (le-refl (F .edges))
 
-  pub with-bit-under : (j : ℕ) → Under (2 * nextGatesAt F) (withBit F j)
+  with-bit-under : (j : ℕ) → Under (2 * nextGatesAt F) (withBit F j)
   unfolding withBit
   with-bit-under j = inverted-under _ (F .edges) (le-refl (F .edges))
 
   module _ (P : Placed F) where
-    pub first-signal : 1 ≤ F .at
+    first-signal : 1 ≤ F .at
     first-signal = omega (arith, P .inputs-before)
 
     nexts-from : F .at ≤ nextGatesAt F
@@ -76,10 +81,9 @@ module _ (F : Frame) where
     outs-from = omega arith
 
     input-before : (w i : ℕ) → i < F .inputs → inputLiteral (F .inputs) (F .frame) w i < 2 * F .at
-    unfolding inputLiteral
-    input-before w i h = omega (arith, one-or-none (bit w i), P .inputs-before)
+    input-before w i h = omega (arith, input-half (F .inputs) (F .frame) w i, P .inputs-before)
 
-    pub match-under : (w : ℕ) → Under (2 * F .at) (matching (F .inputs) (F .frame) w)
+    match-under : (w : ℕ) → Under (2 * F .at) (matching (F .inputs) (F .frame) w)
     unfolding matching
     match-under w = under-listed _ (inputLiteral (F .inputs) (F .frame) w) (F .inputs) (input-before w)
 
@@ -155,7 +159,7 @@ module _ (F : Frame) where
       unfolding matched
       old-matched l h = run-read meet read R vs (matchGates F) l (omega arith)
 
-      pub old-crossed : (l : ℕ) → l < 2 * F .at → read crossed l ≡ read vs l
+      old-crossed : (l : ℕ) → l < 2 * F .at → read crossed l ≡ read vs l
       unfolding crossed edgesAt
       old-crossed l h = run-read meet read R matched (edgeGates F) l (omega (arith, matched-length)) ∙ old-matched l h
 

@@ -2,22 +2,15 @@
 -- together, and literals are of earlier signals.
 use mathlib.Core.Path.{_≡_, refl, sym, ap, ap₂, _∙_}
 use mathlib.Core.Logic.{⊎-elim}
-use mathlib.Core.Bool.{true}
 use mathlib.Core.List.{List, [], _∷_, _++_}
 use Prim.Native.Nat.{ℕ, zero, suc, _+_, _*_, _≤_, _<_}
 use native.Mathlib.Nat.{le-of-suc-le-suc, eq-or-lt-of-le, le-suc, le-trans, le-refl}
 use native.Mathlib.Omega.{arith}
 use lib.ListN.{length, length-append}
 use Rattle.circuit.specs.Lists.{grown, listed}
-use Rattle.unfolded.specs.Unfolded.{chain, lastOf, chainsFrom, ending, invertedEdges}
+use Rattle.unfolded.specs.Unfolded.{chain, lastOf, chainsFrom, ending}
 use Rattle.circuit.proofs.Lists.{listed-length}
 use Rattle.unfolded.proofs.Lists.{Under, none, more, under-widen}
-
--- ---- the edges of a chain ascend
-
-pub edges-ascend : (at : ℕ) → invertedEdges at (λ _. true) 2 ≡ (2 * (at + 0) + 1) ∷ (2 * (at + 1) + 1) ∷ []
-unfolding invertedEdges
-edges-ascend at = refl
 
 -- ---- literals are of earlier signals
 
@@ -35,19 +28,19 @@ unfolding chain
 chain-length at left [] = refl
 chain-length at left (r ∷ rs) = ap suc (chain-length (suc at) (2 * at) rs)
 
-pub last-below : (at left : ℕ) (rs : List ℕ) → left < 2 * at → lastOf at left rs < 2 * (at + length rs)
+last-below : (at left : ℕ) (rs : List ℕ) → left < 2 * at → lastOf at left rs < 2 * (at + length rs)
 unfolding lastOf
 last-below at left [] h = omega arith
 last-below at left (r ∷ rs) h = omega (arith, last-below (suc at) (2 * at) rs (omega arith))
 
-pub chain-admitted : (at left : ℕ) (rs : List ℕ) → left < 2 * at → Under (2 * at) rs → Admitted at (chain at left rs)
+chain-admitted : (at left : ℕ) (rs : List ℕ) → left < 2 * at → Under (2 * at) rs → Admitted at (chain at left rs)
 unfolding chain
 chain-admitted at left [] h none = no-gate
 chain-admitted at left (r ∷ rs) h (more l U) = gate h l (chain-admitted (suc at) (2 * at) rs (omega arith) (under-widen (omega arith) U))
 
 pub chains-more : (at : ℕ) (f : ℕ → List ℕ) (k : ℕ) → length (chainsFrom at f (suc k)) ≡ length (chainsFrom at f k) + length (f k)
 unfolding chainsFrom
-chains-more at f k = length-append (chainsFrom at f k) _ ∙ omega (arith, chain-length (at + length (chainsFrom at f k)) 1 (f k))
+chains-more at f k = length-append (chainsFrom at f k) _ ∙ ap (λ (n : ℕ). length (chainsFrom at f k) + n) (chain-length _ _ (f k))
 
 module _ (at : ℕ) (f : ℕ → List ℕ) (p : 1 ≤ at) where
   pub chains-admitted : (k : ℕ) → ((i : ℕ) → i < k → Under (2 * at) (f i)) → Admitted at (chainsFrom at f k)
@@ -55,7 +48,7 @@ module _ (at : ℕ) (f : ℕ → List ℕ) (p : 1 ≤ at) where
   chains-admitted zero U = no-gate
   chains-admitted (suc k) U =
       admitted-append (chains-admitted k (λ i l. U i (le-trans l (le-suc k))))
-      (chain-admitted (at + length (chainsFrom at f k)) 1 (f k) (omega arith) (under-widen (omega arith) (U k (le-refl (suc k)))))
+      (chain-admitted _ _ (f k) (omega arith) (under-widen (omega arith) (U k (le-refl (suc k)))))
 
   pub ending-below : (k i : ℕ) → i < k → ending at f i < 2 * (at + length (chainsFrom at f k))
   unfolding ending
@@ -114,7 +107,7 @@ module _ {A : Type 0} (meet : A → A → A) (read : List A → ℕ → A) (R : 
       let x : A = meet (read vs (g .0)) (read vs (g .1)) in
       run-read (vs ++ (x ∷ [])) gs l (omega (arith, length-append vs (x ∷ []))) ∙ R .kept vs (x ∷ []) l h
 
-  pub chain-reads : (vs : List A) (at left : ℕ) (rs : List ℕ) → length vs ≡ at → left < 2 * at → Under (2 * at) rs
+  chain-reads : (vs : List A) (at left : ℕ) (rs : List ℕ) → length vs ≡ at → left < 2 * at → Under (2 * at) rs
       → read (run meet read vs (chain at left rs)) (lastOf at left rs) ≡ together meet (read vs) (read vs left) rs
   unfolding run chain lastOf together
   chain-reads vs at left [] e h none = refl

@@ -1,15 +1,10 @@
 -- Lists that are made one element at a time, and lists of literals below a bound.
-use mathlib.Core.Path.{_≡_, refl, ap, ap₂, _∙_}
-use mathlib.Core.Logic.{⊎-elim}
 use mathlib.Core.List.{List, [], _∷_, _++_}
 use Prim.Native.Nat.{ℕ, zero, suc, _+_, _≤_, _<_}
-use native.Mathlib.Nat.{le-of-suc-le-suc, eq-or-lt-of-le, le-suc, le-trans, le-refl}
-use native.Mathlib.Numerals.{add-one}
+use native.Mathlib.Nat.{le-suc, le-trans, le-refl}
 use native.Mathlib.Omega.{arith}
-use lib.ListN.{length, getD, List·getD-append}
-use lib.Seq.{getD-at}
+use lib.ListN.{length, getD}
 use Rattle.circuit.specs.Lists.{grown, listed}
-use Rattle.circuit.proofs.Laws.{length-grown}
 
 -- ---- lists of literals below a bound
 

@@ -1,8 +1,8 @@
 -- The statements of specs/Theorems.
-use mathlib.Core.Path.{_≡_, refl, sym, ap, _∙_}
+use mathlib.Core.Path.{_≡_, sym, ap, _∙_}
 use mathlib.Core.Bool.{Bool, false, _&&_}
 use mathlib.Core.List.{List, [], _∷_}
-use Prim.Native.Nat.{ℕ, suc, _+_, _*_, _/_, _%_, _^_, _≤_, _<_}
+use Prim.Native.Nat.{ℕ, _+_, _*_, _/_, _%_, _^_, _≤_, _<_}
 use native.Mathlib.Nat.{mul-suc, mul-le-mul-left}
 use native.Mathlib.Omega.{arith}
 use lib.ListN.{length, getD, take, drop, length-take, length-drop}
@@ -12,7 +12,7 @@ use Rattle.verdict.proofs.Laws.{both-accept}
 use Rattle.sizes.specs.Sizes.{inputs, outputs, frames}
 use Rattle.sizes.specs.Sized.{Sized}
 use Rattle.layered.specs.States.{Words}
-use Rattle.layered.specs.Machines.{Machine, feed, Gives}
+use Rattle.layered.specs.Machines.{feed, Gives}
 use Rattle.circuit.specs.Lists.{listed, bit}
 use Rattle.circuit.specs.Circuit.{allInputs, inputValues, literalValue, outputWord, outputWords, checked as circuitChecked}
 use Rattle.circuit.specs.Theorems.{AcceptedCausal}

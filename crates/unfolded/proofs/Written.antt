@@ -76,7 +76,7 @@ module _
         ∙ sym (run-append meet read start (take k gs) (g ∷ []))
         ∙ ap (run meet read start) (sym (take-suc gs k (0, 0) h))
 
-    pub grown-run : (k : ℕ) → k ≡ length gs → grown start next k ≡ run meet read start gs
+    grown-run : (k : ℕ) → k ≡ length gs → grown start next k ≡ run meet read start gs
     grown-run k q = grown-runs k (omega arith) ∙ ap (λ k. run meet read start (take k gs)) q ∙ ap (run meet read start) (take-length gs)
 
 -- what is read of a literal's latest frame
@@ -121,15 +121,15 @@ module _ (n m T : ℕ) (gs : List (ℕ × ℕ)) where
     unfolding frames circuitWords
     frames-back = word-at 2 4 refl (omega arith)
 
-    pub gates-back : gates circuitBytes ≡ length gs
+    gates-back : gates circuitBytes ≡ length gs
     unfolding gates circuitWords
     gates-back = word-at 3 6 refl (omega arith)
 
-    pub all-inputs-back : allInputs circuitBytes ≡ n * T
+    all-inputs-back : allInputs circuitBytes ≡ n * T
     unfolding allInputs
     all-inputs-back = ap₂ _*_ inputs-back frames-back
 
-    pub all-outputs-back : allOutputs circuitBytes ≡ m * T
+    all-outputs-back : allOutputs circuitBytes ≡ m * T
     unfolding allOutputs
     all-outputs-back = ap₂ _*_ outputs-back frames-back
 

@@ -29,7 +29,7 @@ use Rattle.draw.proofs.draw.Tie as tie
 abbrev Inv-loop : tie.InvT-loop
 Inv-loop table layout target result₀ states₀ outputs₀ frames count k₀ t₀ result states outputs k t =
     (t ≤ frames) × (k ≡ length (drawing table t .gates)) × (result ≡ gatesStored (target .gates) 0 result₀ (drawing table t .gates)) × StatesKept table t states
-    × (length outputs ≡ mostLiterals) × (take (count * t) outputs ≡ drawing table t .outputs)
+    × (take (count * t) outputs ≡ drawing table t .outputs) × (length outputs ≡ mostLiterals)
 
 abbrev μ-loop : tie.MeasureT-loop
 μ-loop table layout target result₀ states₀ outputs₀ frames count k₀ t₀ result states outputs k t = frames - t
@@ -48,8 +48,8 @@ loop-holds c =
       refl,
       sym (gates-none _ _ _),
       record { long = search needs; kept = c .before .start-states .ensures },
-      search needs,
       rw (mul-zero m) refl,
+      search needs,
     )
 
 -- at the loop's head: the entry of the function, and its circuit's gates, which have room
@@ -123,7 +123,7 @@ part-outputs-start : tie.Need-part-outputs-start Inv-loop μ-loop
 part-outputs-start c = omega arith
 
 part-outputs-end : tie.Need-part-outputs-end Inv-loop μ-loop
-part-outputs-end c = omega (arith, places (c .before .before), c .before .before .before .loop .inv .4)
+part-outputs-end c = omega (arith, places (c .before .before), c .before .before .before .loop .inv .5)
 
 put-frame-requires : tie.Need-put-frame-requires Inv-loop μ-loop
 put-frame-requires c κs =
@@ -131,13 +131,13 @@ put-frame-requires c κs =
     let i = r .before in
     let l = i .before in
     let s = start l in
-    let few = part-size (l .loop .outputs) (s .args .target .outputs * l .loop .t) (s .args .target .outputs) (omega (arith, places i, l .loop .inv .4)) in (
+    let few : s .args .target .outputs * l .loop .t + s .args .target .outputs ≤ length (l .loop .outputs) = omega (arith, places i, l .loop .inv .5) in (
       s .pre .0,
       (
         (aim l, still l),
         (
           (omega (arith, frame-of r, early i), plan-again (b₀ l) (l .loop .t) (l .loop .k) _ (r .read .ensures) (l .loop .inv .1)),
-          (subst (λ (t : ℕ). StatesKept (b₀ l) t (l .loop .states)) (sym (frame-of r)) (l .loop .inv .3), few),
+          (subst (λ (t : ℕ). StatesKept (b₀ l) t (l .loop .states)) (sym (frame-of r)) (l .loop .inv .3), part-size (l .loop .outputs) _ (s .args .target .outputs) (omega arith)),
         ),
       ),
     )
@@ -161,7 +161,7 @@ loop-again c =
     let f = p .put-frame in
     let next : suc (r .read .result .frame) ≡ t + 1 = omega (arith, frame-of r) in
     let outs = f .ensures .1 .1 .0 ∙ ap (λ (t : ℕ). listed [] (outLiteral (frameAt b t)) (a .outputs)) (frame-of r) in
-    let room : a .outputs * t + a .outputs ≤ length (l .loop .outputs) = omega (arith, places i, l .loop .inv .4) in (
+    let room : a .outputs * t + a .outputs ≤ length (l .loop .outputs) = omega (arith, places i, l .loop .inv .5) in (
       omega (arith, i .loop-test .taken),
       f .ensures .1 .1 .1 ∙ ap (λ (t : ℕ). length (drawing b t .gates)) next,
       drawn-more b (a .gates) (now (s .args .result)) (l .loop .result) _ t (l .loop .k) (l .loop .inv .2) (l .loop .inv .1)
@@ -169,8 +169,8 @@ loop-again c =
           (omega (arith, gates-are l, frame-ends b t, frame-room b t (early i))) (fit l .room)
           ∙ ap (λ (t : ℕ). gatesStored (a .gates) 0 (now (s .args .result)) (drawing b t .gates)) (sym (add-one t)),
       subst (λ (t : ℕ). StatesKept b t (p .put-frame .last .1 .1 .1 .0)) next (f .ensures .1 .0),
-      part-back (l .loop .outputs) (f .last .1 .1 .1 .1 .0) (a .outputs * t) (a .outputs) (ap length outs ∙ listed-length _ (a .outputs)) room ∙ l .loop .inv .4,
-      outputs-left b (l .loop .outputs) _ _ t (a .outputs) (outputs-are l) (l .loop .inv .5) (omega arith) outs ∙ ap (λ (t : ℕ). drawing b t .outputs) (sym (add-one t)),
+      outputs-left b (l .loop .outputs) _ _ t (a .outputs) (outputs-are l) (l .loop .inv .4) (omega arith) outs ∙ ap (λ (t : ℕ). drawing b t .outputs) (sym (add-one t)),
+      part-back (l .loop .outputs) (f .last .1 .1 .1 .1 .0) (a .outputs * t) (a .outputs) mostLiterals (ap length outs ∙ listed-length _ (a .outputs)) room (l .loop .inv .5),
     )
 
 -- ---- the output gates
@@ -190,7 +190,7 @@ room : (x : tie.After-loop Inv-loop μ-loop)
 room x = let l = x .before in omega (arith, all-gates l, total-is l, l .loop .inv .1, ap (λ (t : ℕ). length (drawing (b₀ l) t .gates)) (ended x))
 
 slice-aggregate-put-outputs : tie.Need-slice-aggregate-put-outputs Inv-loop μ-loop
-slice-aggregate-put-outputs c = sym (c .before .before .loop .inv .4)
+slice-aggregate-put-outputs c = sym (c .before .before .loop .inv .5)
 
 mul-put-outputs : tie.Need-mul-put-outputs Inv-loop μ-loop
 mul-put-outputs c = omega (arith, few-outputs (c .before .before))
@@ -199,7 +199,7 @@ put-outputs-requires : tie.Need-put-outputs-requires Inv-loop μ-loop
 put-outputs-requires c κs =
     let x = c .before .before in
     let l = x .before in
-    (still l, (room x, omega (arith, few-outputs l, l .loop .inv .4)))
+    (still l, (room x, omega (arith, few-outputs l, l .loop .inv .5)))
 
 drawn-all : (p : tie.After-put-outputs Inv-loop μ-loop) → let l = p .before .before .before .before in p .put-outputs .last .1 .1 .1 .1 .0
     ≡ gatesStored (start l .args .target .gates) 0 (now (start l .args .result)) (drawn (b₀ l))
@@ -210,7 +210,7 @@ drawn-all p =
     outputs-drawn (b₀ l) (s .args .target .gates) (now (s .args .result)) (l .loop .result) _ (l .loop .k) (s .args .target .outputs * s .args .layout .frames) (l .loop .outputs)
     (l .loop .inv .2 ∙ ap (λ (t : ℕ). gatesStored (s .args .target .gates) 0 (now (s .args .result)) (drawing (b₀ l) t .gates)) (ended x))
     (l .loop .inv .1 ∙ ap (λ (t : ℕ). length (drawing (b₀ l) t .gates)) (ended x))
-    (ap (λ (t : ℕ). take (s .args .target .outputs * t) (l .loop .outputs)) (frames-are l ∙ sym (ended x)) ∙ l .loop .inv .5 ∙ ap (λ (t : ℕ). drawing (b₀ l) t .outputs) (ended x))
+    (ap (λ (t : ℕ). take (s .args .target .outputs * t) (l .loop .outputs)) (frames-are l ∙ sym (ended x)) ∙ l .loop .inv .4 ∙ ap (λ (t : ℕ). drawing (b₀ l) t .outputs) (ended x))
     (total-is l) (p .put-outputs .ensures) (room x) (fit l .room)
 
 same-length : tie.Need-same-length Inv-loop μ-loop

@@ -86,6 +86,11 @@ edges-few s =
     let l : states (b₀ s) (t₀ s) ≤ length (now (s .args .states)) = omega (arith, s .pre .1 .1 .1 .0 .long, few s (t₀ s) (early s)) in
     omega (arith, w, mul-le-mul-right (s .args .target .words) l)
 
+-- the entries stand in the table
+entries-stand : (s : tie.Start)
+    → (s .args .plan .nexts + 2 * s .args .plan .edges ≤ length (b₀ s)) × (s .args .plan .outputs + 2 * s .args .plan .edges ≤ length (b₀ s))
+entries-stand s = (nexts-part (b₀ s) (head s) (t₀ s) (early s) _ _ (planned s) .0, outputs-part (b₀ s) (head s) (t₀ s) (early s) _ _ (planned s) .0)
+
 -- ---- after the match chains
 
 put-matches-requires : tie.Need-put-matches-requires
@@ -167,7 +172,7 @@ nexts-in x = let s = s₂ x in omega (arith, m₂ x .put-matches .ensures .1, ma
 -- ---- after the next states
 
 entries-from-requires : tie.Need-entries-from-requires
-entries-from-requires c κs = let s = s₂ (c .before .before) in nexts-part (b₀ s) (head s) (t₀ s) (early s) _ _ (planned s) .0
+entries-from-requires c κs = omega (arith, entries-stand (s₂ (c .before .before)))
 
 abbrev x₃ : tie.After-entries-from → tie.After-put-edges
 x₃ n = n .before .before .before
@@ -260,7 +265,7 @@ o₄-is : (g : tie.After-put-gathers) → g .put-gathers .result ≡ g₂ (x₃ 
 o₄-is g = g .put-gathers .ensures .1 .1 ∙ ap (λ (gs : List (ℕ × ℕ)). g₂ (x₃ (n₄ g)) + length gs) (chains₃-are (n₄ g))
 
 entries-from-requires-2 : tie.Need-entries-from-requires-2
-entries-from-requires-2 c κs = let s = s₄ (c .before .before .before .before) in outputs-part (b₀ s) (head s) (t₀ s) (early s) _ _ (planned s) .0
+entries-from-requires-2 c κs = omega (arith, entries-stand (s₄ (c .before .before .before .before)))
 
 abbrev l₅ : tie.After-entries-from2 → tie.After-put-gathers
 l₅ e = e .before .before .before .before .before
