@@ -6,7 +6,9 @@ use mathlib.Core.List.{List, [], map}
 use lib.Dec.{eqb}
 use lib.ListN.{length, getD}
 use Rattle.words.specs.Words.{wordAt, stored}
+use Rattle.sizes.specs.Limits.{mostInputs, mostOutputs, mostBits}
 use Rattle.sizes.specs.Sizes.{inputs, outputs, frames}
+use Rattle.circuit.specs.Limits.{circuitHead, mostGates}
 use Rattle.circuit.specs.Lists.{listed, bit}
 use Rattle.unfolded.specs.Unfolded.{inverted, chainsFrom, ending, invertedEdges, gatesNeeded}
 use Rattle.chains.specs.declared.Target.{Target}
@@ -19,12 +21,12 @@ use Rattle.chains.specs.declared.gathers.Gathering.{Gathering}
 -- the circuit is within the limits, and the result v has room for it
 pub record Fits (target : Target) (v : List ℕ) : Type 0 where
   pub inputs-from : 1 ≤ target .inputs
-  pub inputs-to : target .inputs ≤ 8
+  pub inputs-to : target .inputs ≤ mostInputs
   pub words-are : target .words ≡ 2 ^ target .inputs
-  pub outputs-to : target .outputs ≤ 16
-  pub base-to : target .base ≤ 17
-  pub gates-to : target .gates ≤ 4096
-  pub room : 8 + 4 * target .gates ≤ length v
+  pub outputs-to : target .outputs ≤ mostOutputs
+  pub base-to : target .base ≤ 1 + mostBits
+  pub gates-to : target .gates ≤ mostGates
+  pub room : circuitHead + 4 * target .gates ≤ length v
 
 -- it is the circuit that the table b is drawn as
 abbrev pub targetOf : List ℕ → Target
@@ -32,7 +34,7 @@ targetOf b = record { inputs = inputs b; words = 2 ^ inputs b; outputs = outputs
 
 -- the result v after gates were stored from gate k on, in a circuit of G gates: left literals in the first array, right ones in the second
 unfoldable pub gatesStored : (G k : ℕ) → List ℕ → List (ℕ × ℕ) → List ℕ
-gatesStored G k v gs = stored 2 (stored 2 v (8 + 2 * k) (map (λ g. g .0) gs)) (8 + 2 * (G + k)) (map (λ g. g .1) gs)
+gatesStored G k v gs = stored 2 (stored 2 v (circuitHead + 2 * k) (map (λ g. g .0) gs)) (circuitHead + 2 * (G + k)) (map (λ g. g .1) gs)
 
 -- ---- literals
 

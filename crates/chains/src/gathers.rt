@@ -7,6 +7,7 @@ use words::read;
 ghost use mathlib.Core.Path.{_≡_};
 ghost use Prim.Native.Nat.{_+_, _/_, _≤_, _<_};
 ghost use lib.ListN.{length};
+ghost use Rattle.sizes.specs.Limits.{mostOutputs};
 ghost use Rattle.unfolded.specs.Unfolded.{inverted, chain};
 ghost use Rattle.chains.specs.Chains.{Fits, gatesStored, chosen, gatherEdges, gatherGates, gatherLiterals};
 
@@ -24,7 +25,7 @@ pub struct Gathering {
 
 // Whether an edge with the next state or output x belongs to chain i.
 fn is_chosen(key: Key, i: usize, x: usize) -> bool
-    requires { ⌜ (key ≡ Key.OutputBit → i < 16) ⌝ }
+    requires { ⌜ (key ≡ Key.OutputBit → i < mostOutputs) ⌝ }
     ensures { λ r. ⌜ r ≡ chosen key i x ⌝ }
 {
     match key {
@@ -55,7 +56,7 @@ fn put_gather(
     result: &mut [u8],
 ) -> usize
     requires { ⌜ Fits target (now result) ⌝ }
-    requires { ⌜ (gathering .key ≡ Key.OutputBit → i < 16) ⌝ }
+    requires { ⌜ (gathering .key ≡ Key.OutputBit → i < mostOutputs) ⌝ }
     requires { ⌜ gathering .edges + length (now entries) / 2 ≤ target .gates ⌝ }
     requires { ⌜ k + length (gatherEdges target gathering (now entries) i) ≤ target .gates ⌝ }
     ensures gates { λ _. ⌜ now (result .exit) ≡ gatesStored (target .gates) k (now (result .entry)) (chain (target .base + k) 1 (gatherEdges target gathering (now (entries .entry)) i)) ⌝ }
@@ -85,7 +86,7 @@ pub fn put_gathers(
     result: &mut [u8],
 ) -> usize
     requires { ⌜ Fits target (now result) ⌝ }
-    requires { ⌜ (gathering .key ≡ Key.OutputBit → length (now literals) ≤ 16) ⌝ }
+    requires { ⌜ (gathering .key ≡ Key.OutputBit → length (now literals) ≤ mostOutputs) ⌝ }
     requires { ⌜ gathering .edges + length (now entries) / 2 ≤ target .gates ⌝ }
     requires { ⌜ k + length (gatherGates target gathering (now entries) k (length (now literals))) ≤ target .gates ⌝ }
     ensures gates { λ _. ⌜ now (result .exit) ≡ gatesStored (target .gates) k (now (result .entry)) (gatherGates target gathering (now (entries .entry)) k (length (now (literals .entry)))) ⌝ }

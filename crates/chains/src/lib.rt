@@ -8,8 +8,10 @@ use gates::chain_end;
 use gates::put_gate;
 ghost use mathlib.Core.Path.{_≡_};
 ghost use mathlib.Core.List.{[]};
-ghost use Prim.Native.Nat.{_+_, _*_, _≤_, _<_};
+ghost use Prim.Native.Nat.{_+_, _*_, _^_, _≤_, _<_};
 ghost use lib.ListN.{length};
+ghost use Rattle.sizes.specs.Limits.{mostInputs, mostFrames, mostBits};
+ghost use Rattle.circuit.specs.Limits.{mostGates};
 ghost use Rattle.circuit.specs.Lists.{listed};
 ghost use Rattle.unfolded.specs.Unfolded.{chain, chainsFrom, inputLiteral, matching};
 ghost use Rattle.chains.specs.Chains.{Fits, gatesStored, matchOf, edgeOf};
@@ -26,7 +28,7 @@ pub struct Target {
 
 // Input i of frame t, inverted where that bit of the word w is 0.
 fn input_literal(inputs: usize, t: usize, w: usize, i: usize) -> usize
-    requires { ⌜ (inputs ≤ 8) × (t < 16) × (i < inputs) ⌝ }
+    requires { ⌜ (inputs ≤ mostInputs) × (t < mostFrames) × (i < inputs) ⌝ }
     ensures { λ r. ⌜ (r ≡ inputLiteral inputs t w i) × (r < 65536) ⌝ }
 {
     let literal = 2 * (1 + (t * inputs + i));
@@ -36,7 +38,7 @@ fn input_literal(inputs: usize, t: usize, w: usize, i: usize) -> usize
 // Match: the chain of word w in frame t, from gate k on.
 fn put_match(target: Target, t: usize, w: usize, k: usize, result: &mut [u8])
     requires { ⌜ Fits target (now result) ⌝ }
-    requires { ⌜ (t < 16) × (k + target .inputs ≤ target .gates) ⌝ }
+    requires { ⌜ (t < mostFrames) × (k + target .inputs ≤ target .gates) ⌝ }
     ensures { λ _. ⌜ now (result .exit) ≡ gatesStored (target .gates) k (now (result .entry)) (chain (target .base + k) 1 (matching (target .inputs) t w)) ⌝ }
 {
     let inputs = target.inputs;
@@ -50,7 +52,7 @@ fn put_match(target: Target, t: usize, w: usize, k: usize, result: &mut [u8])
 // The match chains of all words in frame t, from gate k on; answers where they end.
 pub fn put_matches(target: Target, t: usize, k: usize, result: &mut [u8]) -> usize
     requires { ⌜ Fits target (now result) ⌝ }
-    requires { ⌜ (t < 16) × (k + target .words * target .inputs ≤ target .gates) ⌝ }
+    requires { ⌜ (t < mostFrames) × (k + target .words * target .inputs ≤ target .gates) ⌝ }
     ensures gates { λ _. ⌜ now (result .exit) ≡ gatesStored (target .gates) k (now (result .entry)) (chainsFrom (target .base + k) (matching (target .inputs) t) (target .words)) ⌝ }
     ensures end { λ r. ⌜ r ≡ k + target .words * target .inputs ⌝ }
 {
@@ -63,7 +65,7 @@ pub fn put_matches(target: Target, t: usize, k: usize, result: &mut [u8]) -> usi
 
 // The literal of the match of word w, where gate k is the first of all matches.
 fn match_literal(target: Target, k: usize, w: usize) -> usize
-    requires { ⌜ (target .base ≤ 17) × (1 ≤ target .inputs) × (target .inputs ≤ 8) × (k ≤ 4096) × (w < 256) ⌝ }
+    requires { ⌜ (target .base ≤ 1 + mostBits) × (1 ≤ target .inputs) × (target .inputs ≤ mostInputs) × (k ≤ mostGates) × (w < 2 ^ mostInputs) ⌝ }
     ensures { λ r. ⌜ (r ≡ matchOf (target .inputs) (target .base + k) w) × (r < 65536) ⌝ }
 {
     2 * (target.base + k + (w * target.inputs + (target.inputs - 1)))

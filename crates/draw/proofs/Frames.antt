@@ -14,6 +14,7 @@ use lib.Seq.{getD-take, take-at, take-append-seam, length-take-le}
 use borrow.Author.Tests.{ne-eqb, ltb-true}
 use Rattle.words.specs.Words.{wordAt}
 use Rattle.sizes.specs.Sizes.{inputs, outputs, frames}
+use Rattle.circuit.specs.Limits.{mostGates}
 use Rattle.circuit.specs.Lists.{listed}
 use Rattle.table.specs.Table.{states, entryCount, outputsAt, nextsAt, entryAt, layerPart}
 use Rattle.table.specs.Sound.{TableHeaded}
@@ -221,16 +222,16 @@ module _ (b : List ℕ) where
   unfolding tableFrame
   frame-edges t d = refl
 
-  pub few-states : (t : ℕ) → t < frames b → 1 ≤ inputs b → gatesNeeded b ≤ 4096 → states b t ≤ 2048
+  pub few-states : (t : ℕ) → t < frames b → 1 ≤ inputs b → gatesNeeded b ≤ mostGates → states b t ≤ mostDrawnStates
   few-states t h n l =
       let F : Frame = tableFrame b t (drawing b t) in
       let p : 2 ≤ 2 ^ inputs b = pow-mono {i = 1} n in
       omega (arith, frame-room t h, frame-count F, edge-count F, frame-edges t (drawing b t), mul-le-mul-left (states b t) p)
 
-  pub few-drawn : (t : ℕ) → (t < frames b → states b t ≤ 2048) → cond (ltb t (frames b)) (states b t) 0 ≤ 2048
+  pub few-drawn : (t : ℕ) → (t < frames b → states b t ≤ mostDrawnStates) → cond (ltb t (frames b)) (states b t) 0 ≤ mostDrawnStates
   few-drawn t h = go (ltb t (frames b)) refl
     where
-      go : (a : Bool) → ltb t (frames b) ≡ a → cond a (states b t) 0 ≤ 2048
+      go : (a : Bool) → ltb t (frames b) ≡ a → cond a (states b t) 0 ≤ mostDrawnStates
       go true e = h (ltb-true t (frames b) e)
       go false e = omega arith
 

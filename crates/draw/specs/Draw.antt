@@ -15,6 +15,10 @@ use Rattle.draw.specs.declared.Plan.{Plan}
 abbrev pub frameAt : List ℕ → (t : ℕ) → Frame
 frameAt b t = tableFrame b t (drawing b t)
 
+-- how many gates are drawn before it
+abbrev pub gatesBefore : List ℕ → (t : ℕ) → ℕ
+gatesBefore b t = length (drawing b t .gates)
+
 -- its plan, where its gates begin with gate `first`
 abbrev pub planOf : List ℕ → (t first : ℕ) → Plan
 planOf b t first = record {

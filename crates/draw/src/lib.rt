@@ -19,18 +19,18 @@ ghost use Rattle.sizes.specs.Sizes.{frames};
 ghost use Rattle.circuit.specs.Lists.{listed};
 ghost use Rattle.table.specs.Table.{states};
 ghost use Rattle.table.specs.Sound.{TableHeaded, Sound, layoutOf};
-ghost use Rattle.unfolded.specs.Unfolded.{outLiteral, frameGates, drawing, drawn};
+ghost use Rattle.unfolded.specs.Unfolded.{outLiteral, frameGates, drawn};
 ghost use Rattle.chains.specs.Chains.{Fits, targetOf, gatesStored};
 ghost use Rattle.draw.specs.Limits.{mostLiterals};
-ghost use Rattle.draw.specs.Draw.{frameAt, planOf, StatesKept};
+ghost use Rattle.draw.specs.Draw.{frameAt, gatesBefore, planOf, StatesKept};
 
 // The most states of a layer that are drawn, as each has two edges or more, and the most outputs over all frames.
-pub struct Limits;
+struct Limits;
 
 impl Limits {
-    pub const STATES: usize = 2048;
+    const STATES: usize = circuit::Limits::GATES / 2;
 
-    pub const OUTPUTS: usize = 256;
+    const OUTPUTS: usize = sizes::Limits::OUTPUTS * sizes::Limits::FRAMES;
 }
 
 // How many states of layer t are drawn: none of the last layer.
@@ -99,13 +99,13 @@ fn put_frame(
 ) -> usize
     requires { ⌜ Sound (now table) ⌝ }
     requires { ⌜ (target ≡ targetOf (now table)) × Fits target (now result) ⌝ }
-    requires { ⌜ (plan .frame < frames (now table)) × (plan ≡ planOf (now table) (plan .frame) (length (drawing (now table) (plan .frame) .gates))) ⌝ }
+    requires { ⌜ (plan .frame < frames (now table)) × (plan ≡ planOf (now table) (plan .frame) (gatesBefore (now table) (plan .frame))) ⌝ }
     requires { ⌜ StatesKept (now table) (plan .frame) (now states) ⌝ }
     requires { ⌜ length (now outputs) ≡ target .outputs ⌝ }
     ensures gates { λ _. ⌜ now (result .exit) ≡ gatesStored (target .gates) (plan .first) (now (result .entry)) (frameGates (frameAt (now (table .entry)) (plan .frame))) ⌝ }
     ensures states { λ _. ⌜ StatesKept (now (table .entry)) (suc (plan .frame)) (now (states .exit)) ⌝ }
     ensures outputs { λ _. ⌜ now (outputs .exit) ≡ listed [] (outLiteral (frameAt (now (table .entry)) (plan .frame))) (target .outputs) ⌝ }
-    ensures end { λ r. ⌜ r ≡ length (drawing (now (table .entry)) (suc (plan .frame)) .gates) ⌝ }
+    ensures end { λ r. ⌜ r ≡ gatesBefore (now (table .entry)) (suc (plan .frame)) ⌝ }
 {
     let edges = put_matches(target, plan.frame, plan.first, result);
     put_edges(target, states, plan.first, plan.edges, edges, result);

@@ -19,8 +19,10 @@ ghost use lib.Dec.{ltb};
 ghost use lib.ListN.{length};
 ghost use Rattle.words.specs.Words.{wordAt, stored};
 ghost use Rattle.verdict.specs.Judgements.{figures};
+ghost use Rattle.sizes.specs.Limits.{mostOutputs};
 ghost use Rattle.sizes.specs.Sizes.{inputs, outputs, frames};
 ghost use Rattle.sizes.specs.Sized.{sizesOf};
+ghost use Rattle.circuit.specs.Limits.{circuitHead, mostGates};
 ghost use Rattle.circuit.specs.Lists.{bit};
 ghost use Rattle.layered.specs.Search.{tally, total};
 ghost use Rattle.table.specs.Sound.{TableHeaded, Sound, layoutOf};
@@ -30,8 +32,8 @@ ghost use Rattle.unfold.specs.Unfold.{Promised};
 
 // How many of the lowest `count` bits of a word are 1.
 fn ones_of(word: usize, count: usize) -> usize
-    requires { ⌜ count ≤ 16 ⌝ }
-    ensures { λ r. ⌜ (r ≡ tally count (bit word)) × (r ≤ 16) ⌝ }
+    requires { ⌜ count ≤ mostOutputs ⌝ }
+    ensures { λ r. ⌜ (r ≡ tally count (bit word)) × (r ≤ mostOutputs) ⌝ }
 {
     let mut ones = 0;
     for j in 0..count {
@@ -44,7 +46,7 @@ fn ones_of(word: usize, count: usize) -> usize
 
 // How many they are in all words of a part.
 fn ones_in(part: &[u8], count: usize) -> usize
-    requires { ⌜ (count ≤ 16) × (length (now part) ≤ 33554432) ⌝ }
+    requires { ⌜ (count ≤ mostOutputs) × (length (now part) ≤ 33554432) ⌝ }
     ensures { λ r. ⌜ (r ≡ total (length (now (part .entry)) / 2) (λ e. tally count (bit (wordAt (now (part .entry)) (2 * e))))) × (r ≤ 268435456) ⌝ }
 {
     let entries = part.len() / 2;
@@ -95,7 +97,7 @@ fn gates_needed(table: &[u8], layout: Layout, sizes: Sizes) -> usize
 fn write_circuit(table: &[u8], layout: Layout, sizes: Sizes, gates: usize, result: &mut [u8])
     requires { ⌜ Sound (now table) ⌝ }
     requires { ⌜ (layout ≡ layoutOf (now table)) × (sizes ≡ sizesOf (now table)) × (gates ≡ gatesNeeded (now table)) ⌝ }
-    requires { ⌜ (gates ≤ 4096) × (8 + 4 * gates ≤ length (now result)) ⌝ }
+    requires { ⌜ (gates ≤ mostGates) × (circuitHead + 4 * gates ≤ length (now result)) ⌝ }
     ensures { λ _. ⌜ now (result .exit) ≡ stored 2 (now (result .entry)) 0 (circuitWords (inputs (now (table .entry))) (outputs (now (table .entry))) (frames (now (table .entry))) (drawn (now (table .entry)))) ⌝ }
 {
     let head = [

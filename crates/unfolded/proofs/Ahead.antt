@@ -11,8 +11,10 @@ use lib.Pow.{pow-pos}
 use lib.ListN.{length, getD, List·getD-append}
 use lib.Seq.{getD-at}
 use borrow.Author.Tests.{le-ltb, eqb-false, eqb-true}
+use Rattle.sizes.specs.Limits.{mostInputs}
 use Rattle.sizes.specs.Sizes.{inputs, outputs, frames}
 use Rattle.sizes.specs.Sized.{Sized}
+use Rattle.circuit.specs.Limits.{mostGates}
 use Rattle.circuit.specs.Lists.{grown, listed, bit}
 use Rattle.circuit.specs.Circuit.{frameOf, inputFrames, looksAhead}
 use Rattle.circuit.proofs.Laws.{length-grown}
@@ -135,7 +137,7 @@ module _ (b : List ℕ) where
 
   -- ---- the drawn circuit
 
-  module _ (one : states b 0 ≡ 1) (Z : Sized 8 (inputs b) (outputs b) (frames b)) (D : Admitted (base b) (drawn b)) (G : length (drawn b) ≤ 4096) where
+  module _ (one : states b 0 ≡ 1) (Z : Sized mostInputs (inputs b) (outputs b) (frames b)) (D : Admitted (base b) (drawn b)) (G : length (drawn b) ≤ mostGates) where
     pub none-ahead : (q : ℕ) → q < outputs b * frames b → looksAhead (circuitBytes (inputs b) (outputs b) (frames b) (drawn b)) q ≡ false
     unfolding looksAhead frameOf base frameRead start
     none-ahead q h =

@@ -12,6 +12,7 @@ use Rattle.verdict.specs.declared.Verdict.{Verdict}
 use Rattle.verdict.specs.declared.Verdict.the-variants.{Refused}
 use Rattle.verdict.specs.declared.Refusal.{Refusal}
 use Rattle.verdict.proofs.Laws.{stop, kept, both-accept, passed}
+use Rattle.circuit.specs.Limits.{mostGates}
 use Rattle.table.specs.Table.{checked}
 use Rattle.table.specs.Sound.{Sound}
 use Rattle.table.proofs.Accepted.{sound}
@@ -21,7 +22,7 @@ use Rattle.unfolded.specs.Unfolded.{gatesNeeded, unfoldedBytes, unfoldCh
 
 pub record Accepted (b : List ℕ) (room p : ℕ) : Type 0 where
   pub table-sound : Sound b
-  pub gates-to : gatesNeeded b ≤ 4096
+  pub gates-to : gatesNeeded b ≤ mostGates
   pub room-enough : length (unfoldedBytes b) ≤ room
   pub place-is : p ≡ length (unfoldedBytes b)
 
@@ -29,11 +30,11 @@ pub accepted : (b : List ℕ) (room p : ℕ) → unfoldChecked b room ≡ answer
 unfolding unfoldChecked
 accepted b room p e =
     let e₁ = both-accept (checked b) _ p e in
-    let e₂ = passed (ltb 4096 (gatesNeeded b)) 8 _ _ p refl (e₁ .2) in
+    let e₂ = passed (ltb mostGates (gatesNeeded b)) 8 _ _ p refl (e₁ .2) in
     let e₃ = passed (ltb room (length (unfoldedBytes b))) 7 _ _ p refl (e₂ .1) in
     record {
       table-sound = sound b (e₁ .0) (e₁ .1);
-      gates-to = ltb-false 4096 _ (e₂ .0);
+      gates-to = ltb-false mostGates _ (e₂ .0);
       room-enough = ltb-false room _ (e₃ .0);
       place-is = sym (ap (λ (f : Figures). f .place) (e₃ .1));
     }
@@ -64,19 +65,19 @@ table-refused b result x r e q =
 
 module _ (b result : List ℕ) (p : ℕ) (C : checked b ≡ answer 0 p) where
   -- 8: nothing changes
-  gates-answer : 4096 < gatesNeeded b → answer 8 (gatesNeeded b) ≡ unfoldChecked b (length result)
+  gates-answer : mostGates < gatesNeeded b → answer 8 (gatesNeeded b) ≡ unfoldChecked b (length result)
   unfolding unfoldChecked
-  gates-answer l = rw (C, lt-ltb 4096 (gatesNeeded b) l)
+  gates-answer l = rw (C, lt-ltb mostGates (gatesNeeded b) l)
 
-  pub gates-refused : 4096 < gatesNeeded b → Outcome b result (answer 8 (gatesNeeded b)) result
+  pub gates-refused : mostGates < gatesNeeded b → Outcome b result (answer 8 (gatesNeeded b)) result
   unfolding unfoldResult
   gates-refused l = let a = gates-answer l in record { answered = a; result-left = rw (← a) }
 
-  module _ (G : gatesNeeded b ≤ 4096) where
+  module _ (G : gatesNeeded b ≤ mostGates) where
     -- 7: nothing changes
     room-answer : length result < length (unfoldedBytes b) → answer 7 (length (unfoldedBytes b)) ≡ unfoldChecked b (length result)
     unfolding unfoldChecked
-    room-answer l = rw (C, le-ltb 4096 (gatesNeeded b) G, lt-ltb (length result) (length (unfoldedBytes b)) l)
+    room-answer l = rw (C, le-ltb mostGates (gatesNeeded b) G, lt-ltb (length result) (length (unfoldedBytes b)) l)
 
     pub room-refused : length result < length (unfoldedBytes b) → Outcome b result (answer 7 (length (unfoldedBytes b))) result
     unfolding unfoldResult
@@ -85,7 +86,7 @@ module _ (b result : List ℕ) (p : ℕ) (C : checked b ≡ answer 0 p) where
     -- accepted: the bytes are written, and the rest is as before
     unfolded-answer : length (unfoldedBytes b) ≤ length result → answer 0 (length (unfoldedBytes b)) ≡ unfoldChecked b (length result)
     unfolding unfoldChecked
-    unfolded-answer l = rw (C, le-ltb 4096 (gatesNeeded b) G, le-ltb (length result) (length (unfoldedBytes b)) l)
+    unfolded-answer l = rw (C, le-ltb mostGates (gatesNeeded b) G, le-ltb (length result) (length (unfoldedBytes b)) l)
 
     pub unfolded-accepted : length (unfoldedBytes b) ≤ length result
         → Outcome b result (answer 0 (length (unfoldedBytes b))) (unfoldedBytes b ++ drop (length (unfoldedBytes b)) result)

@@ -9,10 +9,12 @@ use lib.ListN.{length, getD, take, drop, length-take, length-drop}
 use lib.Seq.{ext-getD, getD-take, getD-drop}
 use Rattle.verdict.specs.Judgements.{answer}
 use Rattle.verdict.proofs.Laws.{both-accept}
+use Rattle.sizes.specs.Limits.{mostInputs}
 use Rattle.sizes.specs.Sizes.{inputs, outputs, frames}
 use Rattle.sizes.specs.Sized.{Sized}
 use Rattle.layered.specs.States.{Words}
 use Rattle.layered.specs.Machines.{feed, Gives}
+use Rattle.circuit.specs.Limits.{mostGates}
 use Rattle.circuit.specs.Lists.{listed, bit}
 use Rattle.circuit.specs.Circuit.{allInputs, inputValues, literalValue, outputWord, outputWords, checked as circuitChecked}
 use Rattle.circuit.specs.Theorems.{AcceptedCausal}
@@ -38,11 +40,11 @@ use Rattle.unfolded.proofs.Values.{feed-at, words-at, stateAfter, state
 
 -- ---- the circuit of a legal table
 
-module _ (b : List ℕ) (S : Sound b) (G : length (drawn b) ≤ 4096) where
+module _ (b : List ℕ) (S : Sound b) (G : length (drawn b) ≤ mostGates) where
   circuit : List ℕ
   circuit = circuitBytes (inputs b) (outputs b) (frames b) (drawn b)
 
-  sizes : Sized 8 (inputs b) (outputs b) (frames b)
+  sizes : Sized mostInputs (inputs b) (outputs b) (frames b)
   sizes = S .headed .sized
 
   all-admitted : Admitted (1 + inputs b * frames b) (drawn b)
@@ -113,7 +115,7 @@ unfolding foldChecked scratchNeeded allInputs
 alike d t room rest p q i f e c a = rw (c, i, f, e) (both-accept (circuitChecked d) _ p a .2)
 
 -- a table that folding d wrote
-module _ (b : List ℕ) (S : Sound b) (G : length (drawn b) ≤ 4096) (d : List ℕ) (q : ℕ) (C : circuitChecked d ≡ answer 0 q) (e : b ≡ foldedBytes d) where
+module _ (b : List ℕ) (S : Sound b) (G : length (drawn b) ≤ mostGates) (d : List ℕ) (q : ℕ) (C : circuitChecked d ≡ answer 0 q) (e : b ≡ foldedBytes d) where
   same-folded : (inputs b ≡ inputs d) × (frames b ≡ frames d) × (foldedBytes (circuit b S G) ≡ foldedBytes d)
   unfolding AcceptedCausal Gives circuit base
   same-folded =
@@ -142,7 +144,7 @@ module _ (b : List ℕ) (S : Sound b) (G : length (drawn b) ≤ 4096) (d : List 
 
 -- ---- whatever unfolding accepts
 
-module _ (b : List ℕ) (S : Sound b) (G : length (drawn b) ≤ 4096) where
+module _ (b : List ℕ) (S : Sound b) (G : length (drawn b) ≤ mostGates) where
   unfolding-of : Unfolding b (unfoldedBytes b)
   unfolding unfoldedBytes circuit circuitBytes base
   unfolding-of =

@@ -10,8 +10,10 @@ use borrow.Author.Tests.{lt-ltb, le-ltb, eq-eqb}
 use Rattle.words.specs.Words.{wordAt, wordBytes, Fit, none, more}
 use Rattle.words.proofs.Laws.{allBytes-length, fit-append, word-back}
 use Rattle.verdict.specs.Judgements.{answer}
+use Rattle.sizes.specs.Limits.{mostInputs}
 use Rattle.sizes.specs.Sizes.{inputs, outputs, frames}
 use Rattle.sizes.specs.Sized.{Sized}
+use Rattle.circuit.specs.Limits.{mostGates}
 use Rattle.circuit.specs.Lists.{grown}
 use Rattle.circuit.specs.Circuit.{gates, leftsAt, rightsAt, circuitLength, literalAt, allInputs, allOutputs, gateSignal, outputSignal, admissible, headChecked, literalsChecked, lookAheadChecked, inputFrames, laterFrame, latestFrames, looksAhead, inputValues, literalValue, gateValue, signalValues, checked}
 use Rattle.verdict.proofs.Laws.{finds-none}
@@ -97,7 +99,7 @@ module _ (n m T : ℕ) (gs : List (ℕ × ℕ)) where
   unfolding circuitBytes wordBytes
   bytes-length = allBytes-length 2 (circuitWords n m T gs) ∙ omega (arith, words-length)
 
-  module _ (Z : Sized 8 n m T) (D : Admitted (1 + n * T) gs) (G : length gs ≤ 4096) where
+  module _ (Z : Sized mostInputs n m T) (D : Admitted (1 + n * T) gs) (G : length gs ≤ mostGates) where
     words-fit : Fit 2 (circuitWords n m T gs)
     unfolding circuitWords lefts rights
     words-fit =
@@ -189,7 +191,7 @@ module _ (n m T : ℕ) (gs : List (ℕ × ℕ)) where
             sizes-pass 8 n m T Z,
             all-outputs-back,
             gates-back,
-            not-outside (m * T) 4096 (length gs) enough G,
+            not-outside (m * T) mostGates (length gs) enough G,
             bytes-length,
             eq-eqb (8 + 4 * length gs) (8 + 4 * length gs) refl,
           )
@@ -205,7 +207,7 @@ module _ (n m T : ℕ) (gs : List (ℕ × ℕ)) where
 -- ---- the drawn circuit
 
 -- the signal of output q
-pub output-at : (b : List ℕ) (Z : Sized 8 (inputs b) (outputs b) (frames b)) (D : Admitted (base b) (drawn b)) (G : length (drawn b) ≤ 4096) (q : ℕ)
+pub output-at : (b : List ℕ) (Z : Sized mostInputs (inputs b) (outputs b) (frames b)) (D : Admitted (base b) (drawn b)) (G : length (drawn b) ≤ mostGates) (q : ℕ)
     → outputSignal (circuitBytes (inputs b) (outputs b) (frames b) (drawn b)) q ≡ behind b (drawing b (frames b)) + q
 unfolding outputSignal gateSignal behind base
 output-at b Z D G q =

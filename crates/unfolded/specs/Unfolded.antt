@@ -10,6 +10,7 @@ use Rattle.words.specs.Words.{wordBytes}
 use Rattle.verdict.specs.Judgements.{answer, refuse, andThen, resultAfter}
 use Rattle.verdict.specs.declared.Figures.{Figures}
 use Rattle.sizes.specs.Sizes.{inputs, outputs, frames}
+use Rattle.circuit.specs.Limits.{mostGates}
 use Rattle.circuit.specs.Lists.{grown, listed, bit}
 use Rattle.table.specs.Table.{states, machine, checked, entryAt, outputsAt, nextsAt}
 
@@ -197,7 +198,7 @@ unfoldable pub unfoldChecked : List ℕ → (room : ℕ) → Figures
 unfolding checked gatesNeeded unfoldedBytes
 unfoldChecked b room =
     andThen (checked b)
-    (refuse (ltb 4096 (gatesNeeded b)) 8 (gatesNeeded b)
+    (refuse (ltb mostGates (gatesNeeded b)) 8 (gatesNeeded b)
     (refuse (ltb room (length (unfoldedBytes b))) 7 (length (unfoldedBytes b))
     (answer 0 (length (unfoldedBytes b)))))
 

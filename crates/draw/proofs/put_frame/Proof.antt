@@ -21,6 +21,7 @@ use Rattle.chains.specs.declared.Target.{Target}
 use Rattle.chains.specs.declared.gathers.Key.the-variants.{NextState, OutputBit}
 use Rattle.chains.specs.declared.gathers.Gathering.{Gathering}
 use Rattle.chains.proofs.Stored.{gates-length, fits-still}
+use Rattle.draw.specs.Limits.{mostDrawnStates}
 use Rattle.draw.specs.Draw.{frameAt, planOf, StatesKept}
 use Rattle.draw.specs.declared.Plan.{Plan}
 use Rattle.draw.proofs.Frames.{matches-are, matches-count, edges-are, nexts-are, next-literals, outs-are, out-literals, outs-count, next-is-not-output, nexts-stand, outputs-stand, nexts-part, outputs-part, parts-stored, frame-ends, frame-room, frame-edges, few-states, few-drawn, states-count, states-next, states-left}
@@ -71,7 +72,7 @@ drawn-is s = ap (λ (p : Plan). p .drawn) (planned s)
 room : (s : tie.Start) → s .args .plan .first + length (frameGates (F₀ s)) ≤ s .args .target .gates
 room s = omega (arith, first-is s, frame-room (b₀ s) (t₀ s) (early s), ap (λ (target : Target). target .gates) (aim s))
 
-few : (s : tie.Start) (t : ℕ) → t < frames (b₀ s) → states (b₀ s) t ≤ 2048
+few : (s : tie.Start) (t : ℕ) → t < frames (b₀ s) → states (b₀ s) t ≤ mostDrawnStates
 few s t h = few-states (b₀ s) t h (head s .sized .inputs-from) (omega (arith, fits₀ s .gates-to, ap (λ (target : Target). target .gates) (aim s)))
 
 matches : (s : tie.Start) → length (matchGates (F₀ s)) ≡ s .args .target .words * s .args .target .inputs

@@ -9,6 +9,7 @@ use denote.Ref.{now}
 use lib.ListN.{length}
 use Rattle.verdict.specs.Judgements.{answer}
 use Rattle.verdict.proofs.Laws.{accepts}
+use Rattle.circuit.specs.Limits.{mostGates}
 use Rattle.table.specs.Table.{checked}
 use Rattle.table.specs.Sound.{Sound}
 use Rattle.table.proofs.Accepted.{sound}
@@ -84,7 +85,7 @@ add-bytes : tie.Need-add-bytes
 add-bytes c = search needs
 
 -- the gates are within the limit
-within : (c : tie.Else1) → gatesNeeded (b₀ (e₁ (c .before))) ≤ 4096
+within : (c : tie.Else1) → gatesNeeded (b₀ (e₁ (c .before))) ≤ mostGates
 within c = omega (arith, gates-are (c .before), c .if1 .left)
 
 returns-3 : tie.Need-returns-3
