@@ -1,12 +1,10 @@
--- Lists that are made one element at a time, and lists of literals below a bound.
+-- Lists of literals below a bound.
 use mathlib.Core.List.{List, [], _∷_, _++_}
 use Prim.Native.Nat.{ℕ, zero, suc, _+_, _≤_, _<_}
 use native.Mathlib.Nat.{le-suc, le-trans, le-refl}
 use native.Mathlib.Omega.{arith}
 use lib.ListN.{length, getD}
 use Rattle.circuit.specs.Lists.{grown, listed}
-
--- ---- lists of literals below a bound
 
 pub data Under (x : ℕ) : List ℕ → Type 0 where
   none : Under x []
