@@ -32,8 +32,8 @@ use Rattle.chains.proofs.Laws.{match-length}
 use Rattle.chains.proofs.Stored.{gates-append, end-is}
 use Rattle.table.proofs.Parts.{part-in, part-length, part-entry}
 use Rattle.draw.specs.Limits.{mostDrawnStates}
-use Rattle.draw.specs.Draw.{planOf, StatesKept}
-use Rattle.draw.specs.declared.Plan.{Plan}
+use Rattle.draw.specs.Draw.{sourceOf, StatesKept}
+use Rattle.draw.specs.declared.Source.{Source}
 
 -- ---- parts of a frame
 
@@ -83,19 +83,19 @@ module _ (b : List ℕ) (H : TableHeaded b) (t : ℕ) (h : t < frames b) where
       ∙ ap (invertedEdges at (λ e. chosen (g .key) i (wordAt (layerPart b start t) (2 * e)))) c
       ∙ edges-cong at _ _ E (λ e l. ap (chosen (g .key) i) (part-entry b start t e l))
 
-  -- a plan's entries stand in the table, and are the layer's
-  module _ (first : ℕ) (p : Plan) (e : p ≡ planOf b t first) where
+  -- a source's entries stand in the table, and are the layer's
+  module _ (first : ℕ) (p : Source) (e : p ≡ sourceOf b t first) where
     pub nexts-part : (p .nexts + 2 * p .edges ≤ length b) × (take (2 * p .edges) (drop (p .nexts) b) ≡ layerPart b (nextsAt b) t)
     unfolding layerPart
     nexts-part =
         let room = part-in b (nextsAt b) t (nexts-stand b H) h in
-        (omega (arith, ap (λ (p : Plan). p .nexts) e, ap (λ (p : Plan). p .edges) e), λ i. take (2 * e i .edges) (drop (e i .nexts) b))
+        (omega (arith, ap (λ (p : Source). p .nexts) e, ap (λ (p : Source). p .edges) e), λ i. take (2 * e i .edges) (drop (e i .nexts) b))
 
     pub outputs-part : (p .outputs + 2 * p .edges ≤ length b) × (take (2 * p .edges) (drop (p .outputs) b) ≡ layerPart b (outputsAt b) t)
     unfolding layerPart
     outputs-part =
         let room = part-in b (outputsAt b) t (outputs-stand b H) h in
-        (omega (arith, ap (λ (p : Plan). p .outputs) e, ap (λ (p : Plan). p .edges) e), λ i. take (2 * e i .edges) (drop (e i .outputs) b))
+        (omega (arith, ap (λ (p : Source). p .outputs) e, ap (λ (p : Source). p .edges) e), λ i. take (2 * e i .edges) (drop (e i .outputs) b))
 
   module _ (target : Target) (e : target ≡ targetOf b) (d : Drawing) where
     abbrev F : Frame
@@ -270,12 +270,12 @@ module _ (b : List ℕ) where
   states-left v w t k ew ek h l =
       record { long = simp (length-append, length-drop) (omega arith); kept = ap (λ (u : List ℕ). take (length u) (w ++ drop k v)) (sym ew) ∙ take-append-seam w (drop k v) ∙ ew }
 
-  -- a plan that was read at t is that of its own frame
-  pub plan-again : (t k : ℕ) (p : Plan) → p ≡ planOf b t k → k ≡ length (drawing b t .gates) → p ≡ planOf b (p .frame) (length (drawing b (p .frame) .gates))
-  plan-again t k p e ek =
-      let f : t ≡ p .frame = sym (ap (λ (p : Plan). p .frame) e) in
+  -- a source that was read at t is that of its own frame
+  pub source-again : (t k : ℕ) (p : Source) → p ≡ sourceOf b t k → k ≡ length (drawing b t .gates) → p ≡ sourceOf b (p .frame) (length (drawing b (p .frame) .gates))
+  source-again t k p e ek =
+      let f : t ≡ p .frame = sym (ap (λ (p : Source). p .frame) e) in
       let g : k ≡ length (drawing b (p .frame) .gates) = ek ∙ ap (λ (t : ℕ). length (drawing b t .gates)) f in
-      e ∙ (λ i. planOf b (f i) (g i))
+      e ∙ (λ i. sourceOf b (f i) (g i))
 
   -- the literals of a frame's outputs stand behind those of earlier frames in the list v
   pub outputs-left : (v w rest : List ℕ) (t m : ℕ) → m ≡ outputs b → take (m * t) v ≡ drawing b t .outputs → m * t ≤ length v → w ≡ listed [] (outLiteral (tableFrame b t (drawing b t))) m

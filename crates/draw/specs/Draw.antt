@@ -9,7 +9,7 @@ use Rattle.sizes.specs.Sizes.{inputs, frames}
 use Rattle.table.specs.Table.{states, entriesBelow, outputsAt, nextsAt}
 use Rattle.unfolded.specs.Unfolded.{Frame, tableFrame, drawing}
 use Rattle.draw.specs.Limits.{mostDrawnStates}
-use Rattle.draw.specs.declared.Plan.{Plan}
+use Rattle.draw.specs.declared.Source.{Source}
 
 -- the frame from layer t, behind all that is drawn before it
 abbrev pub frameAt : List ℕ → (t : ℕ) → Frame
@@ -19,9 +19,9 @@ frameAt b t = tableFrame b t (drawing b t)
 abbrev pub gatesBefore : List ℕ → (t : ℕ) → ℕ
 gatesBefore b t = length (drawing b t .gates)
 
--- its plan, where its gates begin with gate `first`
-abbrev pub planOf : List ℕ → (t first : ℕ) → Plan
-planOf b t first = record {
+-- its source, where its gates begin with gate `first`
+abbrev pub sourceOf : List ℕ → (t first : ℕ) → Source
+sourceOf b t first = record {
   frame = t;
   first = first;
   edges = states b t * 2 ^ inputs b;

@@ -22,7 +22,7 @@ ghost use Rattle.table.specs.Sound.{TableHeaded, Sound, layoutOf};
 ghost use Rattle.unfolded.specs.Unfolded.{outLiteral, frameGates, drawn};
 ghost use Rattle.chains.specs.Chains.{Fits, targetOf, gatesStored};
 ghost use Rattle.draw.specs.Limits.{mostLiterals};
-ghost use Rattle.draw.specs.Draw.{frameAt, gatesBefore, planOf, StatesKept};
+ghost use Rattle.draw.specs.Draw.{frameAt, gatesBefore, sourceOf, StatesKept};
 
 // The most states of a layer that are drawn, as each has two edges or more, and the most outputs over all frames.
 struct Limits;
@@ -48,7 +48,7 @@ fn drawn_states(table: &[u8], layout: Layout, t: usize) -> usize
 
 // What a frame is drawn from: its number, its first gate, how many edges it has and how many next states are drawn, and the byte offsets of
 // the edges' next states and outputs.
-struct Plan {
+struct Source {
     frame: usize,
     first: usize,
     edges: usize,
@@ -57,16 +57,16 @@ struct Plan {
     outputs: usize,
 }
 
-impl Plan {
-    fn read(table: &[u8], layout: Layout, t: usize, first: usize) -> Plan
+impl Source {
+    fn read(table: &[u8], layout: Layout, t: usize, first: usize) -> Source
         requires { ⌜ TableHeaded (now table) ⌝ }
         requires { ⌜ (layout ≡ layoutOf (now table)) × (t < frames (now table)) ⌝ }
-        ensures { λ r. ⌜ r ≡ planOf (now (table .entry)) t first ⌝ }
+        ensures { λ r. ⌜ r ≡ sourceOf (now (table .entry)) t first ⌝ }
     {
         let edges = states_of(table, t) * layout.words;
         let drawn = drawn_states(table, layout, t + 1);
         let below = 2 * entries_below(table, layout.words, t);
-        Plan {
+        Source {
             frame: t,
             first,
             edges,
@@ -92,25 +92,25 @@ fn entries_from(table: &[u8], from: usize, edges: usize) -> &[u8]
 fn put_frame(
     table: &[u8],
     target: Target,
-    plan: Plan,
+    source: Source,
     states: &mut [u16],
     outputs: &mut [u16],
     result: &mut [u8],
 ) -> usize
     requires { ⌜ Sound (now table) ⌝ }
     requires { ⌜ (target ≡ targetOf (now table)) × Fits target (now result) ⌝ }
-    requires { ⌜ (plan .frame < frames (now table)) × (plan ≡ planOf (now table) (plan .frame) (gatesBefore (now table) (plan .frame))) ⌝ }
-    requires { ⌜ StatesKept (now table) (plan .frame) (now states) ⌝ }
+    requires { ⌜ (source .frame < frames (now table)) × (source ≡ sourceOf (now table) (source .frame) (gatesBefore (now table) (source .frame))) ⌝ }
+    requires { ⌜ StatesKept (now table) (source .frame) (now states) ⌝ }
     requires { ⌜ length (now outputs) ≡ target .outputs ⌝ }
-    ensures gates { λ _. ⌜ now (result .exit) ≡ gatesStored (target .gates) (plan .first) (now (result .entry)) (frameGates (frameAt (now (table .entry)) (plan .frame))) ⌝ }
-    ensures states { λ _. ⌜ StatesKept (now (table .entry)) (suc (plan .frame)) (now (states .exit)) ⌝ }
-    ensures outputs { λ _. ⌜ now (outputs .exit) ≡ listed [] (outLiteral (frameAt (now (table .entry)) (plan .frame))) (target .outputs) ⌝ }
-    ensures end { λ r. ⌜ r ≡ gatesBefore (now (table .entry)) (suc (plan .frame)) ⌝ }
+    ensures gates { λ _. ⌜ now (result .exit) ≡ gatesStored (target .gates) (source .first) (now (result .entry)) (frameGates (frameAt (now (table .entry)) (source .frame))) ⌝ }
+    ensures states { λ _. ⌜ StatesKept (now (table .entry)) (suc (source .frame)) (now (states .exit)) ⌝ }
+    ensures outputs { λ _. ⌜ now (outputs .exit) ≡ listed [] (outLiteral (frameAt (now (table .entry)) (source .frame))) (target .outputs) ⌝ }
+    ensures end { λ r. ⌜ r ≡ gatesBefore (now (table .entry)) (suc (source .frame)) ⌝ }
 {
-    let edges = put_matches(target, plan.frame, plan.first, result);
-    put_edges(target, states, plan.first, plan.edges, edges, result);
-    let nexts = entries_from(table, plan.nexts, plan.edges);
-    let drawn = plan.drawn;
+    let edges = put_matches(target, source.frame, source.first, result);
+    put_edges(target, states, source.first, source.edges, edges, result);
+    let nexts = entries_from(table, source.nexts, source.edges);
+    let drawn = source.drawn;
     let gathers = put_gathers(
         target,
         nexts,
@@ -118,11 +118,11 @@ fn put_frame(
             key: Key::NextState,
             edges,
         },
-        edges + plan.edges,
+        edges + source.edges,
         &mut states[..drawn],
         result,
     );
-    let words = entries_from(table, plan.outputs, plan.edges);
+    let words = entries_from(table, source.outputs, source.edges);
     put_gathers(
         target,
         words,
@@ -177,13 +177,13 @@ pub fn draw(table: &[u8], layout: Layout, target: Target, result: &mut [u8])
     let count = target.outputs;
     let mut k = 0;
     for t in 0..frames {
-        let plan = Plan::read(table, layout, t, k);
+        let source = Source::read(table, layout, t, k);
         let from = count * t;
         let to = from + count;
         k = put_frame(
             table,
             target,
-            plan,
+            source,
             &mut states,
             &mut outputs[from..to],
             result,

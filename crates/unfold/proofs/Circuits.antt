@@ -51,4 +51,4 @@ bytes-stored b v =
 -- what unfolding promises, of an outcome
 pub promises : (b r : List ℕ) (f : Figures) (r′ : List ℕ) → Outcome b r f r′ → (f ≡ unfoldChecked b (length r)) × ((r′ ≡ unfoldResult b r) × Promised b f r′)
 unfolding Promised Unfoldings
-promises b r f r′ O = (O .answered, (O .result-left, λ p e. rw (O .result-left) (unfoldings b r p (sym (O .answered) ∙ e))))
+promises b r f r′ O = (O .figures-are, (O .result-left, λ p e. rw (O .result-left) (unfoldings b r p (sym (O .figures-are) ∙ e))))

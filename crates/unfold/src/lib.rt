@@ -26,7 +26,7 @@ ghost use Rattle.circuit.specs.Limits.{circuitHead, mostGates};
 ghost use Rattle.circuit.specs.Lists.{bit};
 ghost use Rattle.layered.specs.Search.{tally, total};
 ghost use Rattle.table.specs.Sound.{TableHeaded, Sound, layoutOf};
-ghost use Rattle.unfolded.specs.Unfolded.{drawn, gatesNeeded, circuitWords, unfoldChecked, unfoldResult};
+ghost use Rattle.unfolded.specs.Unfolded.{drawn, gatesNeeded, circuitWords, drawnChecked, unfoldChecked, unfoldResult};
 ghost use Rattle.unfolded.specs.Counted.{frameNeeds};
 ghost use Rattle.unfold.specs.Unfold.{Promised};
 
@@ -117,6 +117,17 @@ fn write_circuit(table: &[u8], layout: Layout, sizes: Sizes, gates: usize, resul
     draw(table, layout, target, result);
 }
 
+// Numbers 8 and 7, of a circuit of so many gates and a result with room for so many bytes.
+fn check_drawn(gates: usize, room: usize) -> Verdict
+    requires { ⌜ gates ≤ 17179869184 ⌝ }
+    ensures { λ r. ⌜ figures r ≡ drawnChecked gates (circuitHead + 4 * gates) room ⌝ }
+{
+    let bytes = Limits::HEAD + 4 * gates;
+    let counted = Verdict::refuse_if(Limits::GATES < gates, Refusal::Gates(gates), 0);
+    let roomy = Verdict::refuse_if(room < bytes, Refusal::Room(bytes), bytes);
+    counted.and_then(roomy)
+}
+
 // Unfolds a table.
 pub fn unfold(table: &[u8], result: &mut [u8]) -> Verdict
     ensures verdict { λ r. ⌜ figures r ≡ unfoldChecked (now (table .entry)) (length (now (result .entry))) ⌝ }
@@ -130,13 +141,10 @@ pub fn unfold(table: &[u8], result: &mut [u8]) -> Verdict
     let layout = Layout::read(table);
     let sizes = Sizes::read(table);
     let gates = gates_needed(table, layout, sizes);
-    if Limits::GATES < gates {
-        return Verdict::Refused(Refusal::Gates(gates));
-    }
-    let bytes = Limits::HEAD + 4 * gates;
-    if result.len() < bytes {
-        return Verdict::Refused(Refusal::Room(bytes));
-    }
+    let drawn = check_drawn(gates, result.len());
+    let Verdict::Accepted(_) = drawn else {
+        return drawn;
+    };
     write_circuit(table, layout, sizes, gates, result);
-    Verdict::Accepted(bytes)
+    drawn
 }

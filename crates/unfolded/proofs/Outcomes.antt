@@ -1,22 +1,22 @@
 -- What unfolding answers and leaves in each case: refused by the table's check, by 8, by 7, or accepted; and what acceptance tells.
 use mathlib.Core.Path.{_≡_, refl, sym, ap, _∙_}
 use mathlib.Core.List.{List, _++_}
-use Prim.Native.Nat.{ℕ, _≤_, _<_}
+use Prim.Native.Nat.{ℕ, _≤_}
 use lib.Dec.{ltb}
 use lib.ListN.{length, take, drop}
 use lib.Seq.{take-at}
-use borrow.Author.Tests.{lt-ltb, le-ltb, ltb-false}
+use borrow.Author.Tests.{ltb-false}
 use Rattle.verdict.specs.Judgements.{answer, figures, resultAfter}
 use Rattle.verdict.specs.declared.Figures.{Figures}
 use Rattle.verdict.specs.declared.Verdict.{Verdict}
-use Rattle.verdict.specs.declared.Verdict.the-variants.{Refused}
+use Rattle.verdict.specs.declared.Verdict.the-variants.{Accepted as Passed, Refused}
 use Rattle.verdict.specs.declared.Refusal.{Refusal}
-use Rattle.verdict.proofs.Laws.{stop, kept, both-accept, passed}
+use Rattle.verdict.proofs.Laws.{stop, go-on, kept, left, both-accept, passed}
 use Rattle.circuit.specs.Limits.{mostGates}
 use Rattle.table.specs.Table.{checked}
 use Rattle.table.specs.Sound.{Sound}
 use Rattle.table.proofs.Accepted.{sound}
-use Rattle.unfolded.specs.Unfolded.{gatesNeeded, unfoldedBytes, unfoldChecked, unfoldResult}
+use Rattle.unfolded.specs.Unfolded.{gatesNeeded, unfoldedBytes, drawnChecked, unfoldChecked, unfoldResult}
 
 -- ---- what acceptance tells
 
@@ -27,7 +27,7 @@ pub record Accepted (b : List ℕ) (room p : ℕ) : Type 0 where
   pub place-is : p ≡ length (unfoldedBytes b)
 
 pub accepted : (b : List ℕ) (room p : ℕ) → unfoldChecked b room ≡ answer 0 p → Accepted b room p
-unfolding unfoldChecked
+unfolding unfoldChecked drawnChecked
 accepted b room p e =
     let e₁ = both-accept (checked b) _ p e in
     let e₂ = passed (ltb mostGates (gatesNeeded b)) 8 _ _ p refl (e₁ .2) in
@@ -47,48 +47,29 @@ written-bytes b before p e =
 
 -- ---- what is answered and left in each case
 
--- of a table b, the result before, the answer f, the result after
+-- of a table b, the result before, the figures f, the result after
 pub record Outcome (b result : List ℕ) (f : Figures) (result′ : List ℕ) : Type 0 where
-  pub answered : f ≡ unfoldChecked b (length result)
+  pub figures-are : f ≡ unfoldChecked b (length result)
   pub result-left : result′ ≡ unfoldResult b result
 
--- the table is refused: nothing changes
-table-answer : (b : List ℕ) (room : ℕ) (x : Verdict) (r : Refusal) → figures x ≡ checked b → x ≡ Refused r → figures x ≡ unfoldChecked b room
+-- the table is refused
+pub table-answer : (b : List ℕ) (room : ℕ) (x : Verdict) (r : Refusal) → figures x ≡ checked b → x ≡ Refused r → figures x ≡ unfoldChecked b room
 unfolding unfoldChecked
 table-answer b room x r e q = stop x (checked b) _ r e q
 
-pub table-refused : (b result : List ℕ) (x : Verdict) (r : Refusal) → figures x ≡ checked b → x ≡ Refused r → Outcome b result (figures x) result
-unfolding unfoldResult
-table-refused b result x r e q =
-    let a = table-answer b (length result) x r e q in
-    record { answered = a; result-left = kept _ r (unfoldedBytes b) result (sym (ap figures q) ∙ a) }
+-- it is accepted, and then 8 and 7 are judged
+pub drawn-answer : (b : List ℕ) (room p : ℕ) (x y : Verdict) → figures x ≡ checked b → x ≡ Passed p
+    → figures y ≡ drawnChecked (gatesNeeded b) (length (unfoldedBytes b)) room → figures y ≡ unfoldChecked b room
+unfolding unfoldChecked
+drawn-answer b room p x y e q h = go-on x (checked b) _ _ p e q h
 
-module _ (b result : List ℕ) (p : ℕ) (C : checked b ≡ answer 0 p) where
-  -- 8: nothing changes
-  gates-answer : mostGates < gatesNeeded b → answer 8 (gatesNeeded b) ≡ unfoldChecked b (length result)
-  unfolding unfoldChecked
-  gates-answer l = rw (C, lt-ltb mostGates (gatesNeeded b) l)
-
-  pub gates-refused : mostGates < gatesNeeded b → Outcome b result (answer 8 (gatesNeeded b)) result
+module _ (b result : List ℕ) (x : Verdict) (e : figures x ≡ unfoldChecked b (length result)) where
+  -- a refusal leaves the result as it was
+  pub refused : (r : Refusal) → x ≡ Refused r → Outcome b result (figures x) result
   unfolding unfoldResult
-  gates-refused l = let a = gates-answer l in record { answered = a; result-left = rw (← a) }
+  refused r q = record { figures-are = e; result-left = kept _ r (unfoldedBytes b) result (sym (ap figures q) ∙ e) }
 
-  module _ (G : gatesNeeded b ≤ mostGates) where
-    -- 7: nothing changes
-    room-answer : length result < length (unfoldedBytes b) → answer 7 (length (unfoldedBytes b)) ≡ unfoldChecked b (length result)
-    unfolding unfoldChecked
-    room-answer l = rw (C, le-ltb mostGates (gatesNeeded b) G, lt-ltb (length result) (length (unfoldedBytes b)) l)
-
-    pub room-refused : length result < length (unfoldedBytes b) → Outcome b result (answer 7 (length (unfoldedBytes b))) result
-    unfolding unfoldResult
-    room-refused l = let a = room-answer l in record { answered = a; result-left = rw (← a) }
-
-    -- accepted: the bytes are written, and the rest is as before
-    unfolded-answer : length (unfoldedBytes b) ≤ length result → answer 0 (length (unfoldedBytes b)) ≡ unfoldChecked b (length result)
-    unfolding unfoldChecked
-    unfolded-answer l = rw (C, le-ltb mostGates (gatesNeeded b) G, le-ltb (length result) (length (unfoldedBytes b)) l)
-
-    pub unfolded-accepted : length (unfoldedBytes b) ≤ length result
-        → Outcome b result (answer 0 (length (unfoldedBytes b))) (unfoldedBytes b ++ drop (length (unfoldedBytes b)) result)
-    unfolding unfoldResult
-    unfolded-accepted l = let a = unfolded-answer l in record { answered = a; result-left = rw (← a) }
+  -- an acceptance leaves the circuit's bytes, and the rest as it was
+  pub unfolded : (p : ℕ) (after : List ℕ) → x ≡ Passed p → after ≡ unfoldedBytes b ++ drop p result → Outcome b result (figures x) after
+  unfolding unfoldResult
+  unfolded p after q h = record { figures-are = e; result-left = left _ p (unfoldedBytes b) result after (sym (ap figures q) ∙ e) h }

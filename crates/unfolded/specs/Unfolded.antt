@@ -193,14 +193,17 @@ unfoldable pub unfoldedBytes : List ℕ → List ℕ
 unfolding circuitWords wordBytes drawn inputs outputs frames
 unfoldedBytes b = wordBytes (circuitWords (inputs b) (outputs b) (frames b) (drawn b))
 
+-- 8, then 7, of a circuit of so many gates and bytes
+unfoldable pub drawnChecked : (gates bytes room : ℕ) → Figures
+drawnChecked gates bytes room =
+    refuse (ltb mostGates gates) 8 gates
+    (refuse (ltb room bytes) 7 bytes
+    (answer 0 bytes))
+
 -- the table's checks, then 8, then 7
 unfoldable pub unfoldChecked : List ℕ → (room : ℕ) → Figures
-unfolding checked gatesNeeded unfoldedBytes
-unfoldChecked b room =
-    andThen (checked b)
-    (refuse (ltb mostGates (gatesNeeded b)) 8 (gatesNeeded b)
-    (refuse (ltb room (length (unfoldedBytes b))) 7 (length (unfoldedBytes b))
-    (answer 0 (length (unfoldedBytes b)))))
+unfolding checked drawnChecked gatesNeeded unfoldedBytes
+unfoldChecked b room = andThen (checked b) (drawnChecked (gatesNeeded b) (length (unfoldedBytes b)) room)
 
 -- what the result holds after unfolding
 unfoldable pub unfoldResult : List ℕ → (before : List ℕ) → List ℕ

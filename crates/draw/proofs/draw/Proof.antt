@@ -21,8 +21,8 @@ use Rattle.chains.specs.declared.Target.{Target}
 use Rattle.chains.proofs.Stored.{gates-none, gates-length, fits-still}
 use Rattle.draw.specs.Limits.{mostLiterals}
 use Rattle.draw.specs.Draw.{frameAt, StatesKept}
-use Rattle.draw.specs.declared.Plan.{Plan}
-use Rattle.draw.proofs.Frames.{frame-ends, frame-room, drawn-more, plan-again, part-size, part-back, outputs-left, gates-mono, outputs-drawn}
+use Rattle.draw.specs.declared.Source.{Source}
+use Rattle.draw.proofs.Frames.{frame-ends, frame-room, drawn-more, source-again, part-size, part-back, outputs-left, gates-mono, outputs-drawn}
 use Rattle.draw.proofs.draw.Statement.{statement}
 use Rattle.draw.proofs.draw.Tie as tie
 
@@ -97,12 +97,12 @@ places i =
 read-requires : tie.Need-read-requires Inv-loop μ-loop
 read-requires c κs = let s = start (c .before) in (s .pre .0 .headed, (s .pre .1 .0, early c))
 
--- the plan that is read
+-- the source that is read
 frame-of : (r : tie.After-read Inv-loop μ-loop) → r .read .result .frame ≡ r .before .before .loop .t
-frame-of r = ap (λ (p : Plan). p .frame) (r .read .ensures)
+frame-of r = ap (λ (p : Source). p .frame) (r .read .ensures)
 
 first-of : (r : tie.After-read Inv-loop μ-loop) → r .read .result .first ≡ r .before .before .loop .k
-first-of r = ap (λ (p : Plan). p .first) (r .read .ensures)
+first-of r = ap (λ (p : Source). p .first) (r .read .ensures)
 
 mul-from : tie.Need-mul-from Inv-loop μ-loop
 mul-from c = omega (arith, places (c .before))
@@ -136,7 +136,7 @@ put-frame-requires c κs =
       (
         (aim l, still l),
         (
-          (omega (arith, frame-of r, early i), plan-again (b₀ l) (l .loop .t) (l .loop .k) _ (r .read .ensures) (l .loop .inv .1)),
+          (omega (arith, frame-of r, early i), source-again (b₀ l) (l .loop .t) (l .loop .k) _ (r .read .ensures) (l .loop .inv .1)),
           (subst (λ (t : ℕ). StatesKept (b₀ l) t (l .loop .states)) (sym (frame-of r)) (l .loop .inv .3), part-size (l .loop .outputs) _ (s .args .target .outputs) (omega arith)),
         ),
       ),

@@ -22,8 +22,8 @@ use Rattle.chains.specs.declared.gathers.Key.the-variants.{NextState, OutputBit
 use Rattle.chains.specs.declared.gathers.Gathering.{Gathering}
 use Rattle.chains.proofs.Stored.{gates-length, fits-still}
 use Rattle.draw.specs.Limits.{mostDrawnStates}
-use Rattle.draw.specs.Draw.{frameAt, planOf, StatesKept}
-use Rattle.draw.specs.declared.Plan.{Plan}
+use Rattle.draw.specs.Draw.{frameAt, sourceOf, StatesKept}
+use Rattle.draw.specs.declared.Source.{Source}
 use Rattle.draw.proofs.Frames.{matches-are, matches-count, edges-are, nexts-are, next-literals, outs-are, out-literals, outs-count, next-is-not-output, nexts-stand, outputs-stand, nexts-part, outputs-part, parts-stored, frame-ends, frame-room, frame-edges, few-states, few-drawn, states-count, states-next, states-left}
 use Rattle.draw.proofs.put_frame.Statement.{statement}
 use Rattle.draw.proofs.put_frame.Tie as tie
@@ -34,7 +34,7 @@ abbrev b₀ : tie.Start → List ℕ
 b₀ s = now (s .args .table)
 
 abbrev t₀ : tie.Start → ℕ
-t₀ s = s .args .plan .frame
+t₀ s = s .args .source .frame
 
 abbrev d₀ : tie.Start → Drawing
 d₀ s = drawing (b₀ s) (t₀ s)
@@ -54,42 +54,42 @@ fits₀ s = s .pre .1 .0 .1
 early : (s : tie.Start) → t₀ s < frames (b₀ s)
 early s = s .pre .1 .1 .0 .0
 
--- the plan
-planned : (s : tie.Start) → s .args .plan ≡ planOf (b₀ s) (t₀ s) (length (d₀ s .gates))
+-- the source
+planned : (s : tie.Start) → s .args .source ≡ sourceOf (b₀ s) (t₀ s) (length (d₀ s .gates))
 planned s = s .pre .1 .1 .0 .1
 
-first-is : (s : tie.Start) → s .args .plan .first ≡ length (d₀ s .gates)
-first-is s = ap (λ (p : Plan). p .first) (planned s)
+first-is : (s : tie.Start) → s .args .source .first ≡ length (d₀ s .gates)
+first-is s = ap (λ (p : Source). p .first) (planned s)
 
-edges-is : (s : tie.Start) → s .args .plan .edges ≡ states (b₀ s) (t₀ s) * 2 ^ inputs (b₀ s)
-edges-is s = ap (λ (p : Plan). p .edges) (planned s)
+edges-is : (s : tie.Start) → s .args .source .edges ≡ states (b₀ s) (t₀ s) * 2 ^ inputs (b₀ s)
+edges-is s = ap (λ (p : Source). p .edges) (planned s)
 
-drawn-is : (s : tie.Start) → s .args .plan .drawn ≡ F₀ s .nexts
+drawn-is : (s : tie.Start) → s .args .source .drawn ≡ F₀ s .nexts
 unfolding tableFrame
-drawn-is s = ap (λ (p : Plan). p .drawn) (planned s)
+drawn-is s = ap (λ (p : Source). p .drawn) (planned s)
 
 -- the frame's gates have room
-room : (s : tie.Start) → s .args .plan .first + length (frameGates (F₀ s)) ≤ s .args .target .gates
+room : (s : tie.Start) → s .args .source .first + length (frameGates (F₀ s)) ≤ s .args .target .gates
 room s = omega (arith, first-is s, frame-room (b₀ s) (t₀ s) (early s), ap (λ (target : Target). target .gates) (aim s))
 
 few : (s : tie.Start) (t : ℕ) → t < frames (b₀ s) → states (b₀ s) t ≤ mostDrawnStates
 few s t h = few-states (b₀ s) t h (head s .sized .inputs-from) (omega (arith, fits₀ s .gates-to, ap (λ (target : Target). target .gates) (aim s)))
 
 matches : (s : tie.Start) → length (matchGates (F₀ s)) ≡ s .args .target .words * s .args .target .inputs
-matches s = matches-count (b₀ s) (head s) (t₀ s) (early s) (s .args .target) (aim s) (d₀ s) (s .args .plan .first) (first-is s)
+matches s = matches-count (b₀ s) (head s) (t₀ s) (early s) (s .args .target) (aim s) (d₀ s) (s .args .source .first) (first-is s)
 
-edge-length : (s : tie.Start) → length (edgeGates (F₀ s)) ≡ s .args .plan .edges
+edge-length : (s : tie.Start) → length (edgeGates (F₀ s)) ≡ s .args .source .edges
 edge-length s = edge-count (F₀ s) ∙ frame-edges (b₀ s) (t₀ s) (d₀ s) ∙ sym (edges-is s)
 
-edges-few : (s : tie.Start) → s .args .plan .edges ≤ length (now (s .args .states)) * s .args .target .words
+edges-few : (s : tie.Start) → s .args .source .edges ≤ length (now (s .args .states)) * s .args .target .words
 edges-few s =
-    let w : s .args .plan .edges ≡ states (b₀ s) (t₀ s) * s .args .target .words = edges-is s ∙ ap (λ (target : Target). states (b₀ s) (t₀ s) * target .words) (sym (aim s)) in
+    let w : s .args .source .edges ≡ states (b₀ s) (t₀ s) * s .args .target .words = edges-is s ∙ ap (λ (target : Target). states (b₀ s) (t₀ s) * target .words) (sym (aim s)) in
     let l : states (b₀ s) (t₀ s) ≤ length (now (s .args .states)) = omega (arith, s .pre .1 .1 .1 .0 .long, few s (t₀ s) (early s)) in
     omega (arith, w, mul-le-mul-right (s .args .target .words) l)
 
 -- the entries stand in the table
 entries-stand : (s : tie.Start)
-    → (s .args .plan .nexts + 2 * s .args .plan .edges ≤ length (b₀ s)) × (s .args .plan .outputs + 2 * s .args .plan .edges ≤ length (b₀ s))
+    → (s .args .source .nexts + 2 * s .args .source .edges ≤ length (b₀ s)) × (s .args .source .outputs + 2 * s .args .source .edges ≤ length (b₀ s))
 entries-stand s = (nexts-part (b₀ s) (head s) (t₀ s) (early s) _ _ (planned s) .0, outputs-part (b₀ s) (head s) (t₀ s) (early s) _ _ (planned s) .0)
 
 -- ---- after the match chains
@@ -105,15 +105,15 @@ s₁ m = m .before .before .before .before .before .before
 abbrev r₁ : tie.After-put-matches → List ℕ
 r₁ m = m .put-matches .last .1 .1 .1 .0
 
-stored₁ : (m : tie.After-put-matches) → r₁ m ≡ gatesStored (s₁ m .args .target .gates) (s₁ m .args .plan .first) (now (s₁ m .args .result)) (matchGates (F₀ (s₁ m)))
+stored₁ : (m : tie.After-put-matches) → r₁ m ≡ gatesStored (s₁ m .args .target .gates) (s₁ m .args .source .first) (now (s₁ m .args .result)) (matchGates (F₀ (s₁ m)))
 stored₁ m =
     let s = s₁ m in
     m .put-matches .ensures .0
-    ∙ ap (gatesStored (s .args .target .gates) (s .args .plan .first) (now (s .args .result)))
-    (matches-are (b₀ s) (head s) (t₀ s) (early s) (s .args .target) (aim s) (d₀ s) (s .args .plan .first) (first-is s))
+    ∙ ap (gatesStored (s .args .target .gates) (s .args .source .first) (now (s .args .result)))
+    (matches-are (b₀ s) (head s) (t₀ s) (early s) (s .args .target) (aim s) (d₀ s) (s .args .source .first) (first-is s))
 
 fits₁ : (m : tie.After-put-matches) → Fits (s₁ m .args .target) (r₁ m)
-fits₁ m = let s = s₁ m in fits-still (s .args .target) (now (s .args .result)) (r₁ m) (s .args .plan .first) (matchGates (F₀ s)) (fits₀ s) (stored₁ m) (omega (arith, room s, frame-count (F₀ s)))
+fits₁ m = let s = s₁ m in fits-still (s .args .target) (now (s .args .result)) (r₁ m) (s .args .source .first) (matchGates (F₀ s)) (fits₀ s) (stored₁ m) (omega (arith, room s, frame-count (F₀ s)))
 
 -- ---- after the edges
 
@@ -140,7 +140,7 @@ abbrev j₂ : tie.After-put-edges → ℕ
 j₂ x = m₂ x .put-matches .result
 
 abbrev g₂ : tie.After-put-edges → ℕ
-g₂ x = j₂ x + s₂ x .args .plan .edges
+g₂ x = j₂ x + s₂ x .args .source .edges
 
 g₂-is : (x : tie.After-put-edges) → g₂ x ≡ j₂ x + states (b₀ (s₂ x)) (t₀ (s₂ x)) * 2 ^ inputs (b₀ (s₂ x))
 g₂-is x = ap (λ (c : ℕ). j₂ x + c) (edges-is (s₂ x))
@@ -154,7 +154,7 @@ stored₂ x =
     let m = m₂ x in
     x .put-edges .ensures
     ∙ ap (gatesStored (s .args .target .gates) (j₂ x) (r₁ m))
-    (edges-are (b₀ s) (head s) (t₀ s) (early s) (s .args .target) (aim s) (d₀ s) (s .args .plan .first) (first-is s) (j₂ x) (m .put-matches .ensures .1)
+    (edges-are (b₀ s) (head s) (t₀ s) (early s) (s .args .target) (aim s) (d₀ s) (s .args .source .first) (first-is s) (j₂ x) (m .put-matches .ensures .1)
     (head s .sized .inputs-from) (now (s .args .states)) (states-count (b₀ s) (head s .one-first) (t₀ s) (early s)) (s .pre .1 .1 .1 .0 .kept) _ (edges-is s))
 
 fits₂ : (x : tie.After-put-edges) → Fits (s₂ x .args .target) (r₂ x)
@@ -189,14 +189,14 @@ p₃-is : (n : tie.After-entries-from) → p₃ n ≡ layerPart (b₀ (s₃ n)) 
 p₃-is n = let s = s₃ n in n .entries-from .ensures ∙ nexts-part (b₀ s) (head s) (t₀ s) (early s) _ _ (planned s) .1
 
 -- the places for their literals
-drawn-few : (s : tie.Start) → s .args .plan .drawn ≤ length (now (s .args .states))
-drawn-few s = omega (arith, s .pre .1 .1 .1 .0 .long, ap (λ (p : Plan). p .drawn) (planned s), few-drawn (b₀ s) (suc (t₀ s)) (few s (suc (t₀ s))))
+drawn-few : (s : tie.Start) → s .args .source .drawn ≤ length (now (s .args .states))
+drawn-few s = omega (arith, s .pre .1 .1 .1 .0 .long, ap (λ (p : Source). p .drawn) (planned s), few-drawn (b₀ s) (suc (t₀ s)) (few s (suc (t₀ s))))
 
 abbrev count₃ : tie.Start → ℕ
-count₃ s = length (take (s .args .plan .drawn) (now (s .args .states)))
+count₃ s = length (take (s .args .source .drawn) (now (s .args .states)))
 
 count₃-is : (s : tie.Start) → count₃ s ≡ F₀ s .nexts
-count₃-is s = length-take-le (s .args .plan .drawn) (now (s .args .states)) (drawn-few s) ∙ drawn-is s
+count₃-is s = length-take-le (s .args .source .drawn) (now (s .args .states)) (drawn-few s) ∙ drawn-is s
 
 abbrev nexts₃ : tie.After-entries-from → Gathering
 nexts₃ n = record { key = NextState; edges = j₂ (x₃ n) }
@@ -205,14 +205,14 @@ chains₃-are : (n : tie.After-entries-from) → gatherGates (s₃ n .args .targ
 chains₃-are n =
     let s = s₃ n in
     let x = x₃ n in
-    nexts-are (b₀ s) (head s) (t₀ s) (early s) (s .args .target) (aim s) (d₀ s) (s .args .plan .first) (first-is s) (j₂ x) (m₂ x .put-matches .ensures .1) (g₂ x) (g₂-is x) (p₃ n) (p₃-is n)
+    nexts-are (b₀ s) (head s) (t₀ s) (early s) (s .args .target) (aim s) (d₀ s) (s .args .source .first) (first-is s) (j₂ x) (m₂ x .put-matches .ensures .1) (g₂ x) (g₂-is x) (p₃ n) (p₃-is n)
     (count₃ s) (count₃-is s)
 
 kept₃-are : (n : tie.After-entries-from) → gatherLiterals (s₃ n .args .target) (nexts₃ n) (p₃ n) (g₂ (x₃ n)) (count₃ (s₃ n)) ≡ drawing (b₀ (s₃ n)) (suc (t₀ (s₃ n))) .states
 kept₃-are n =
     let s = s₃ n in
     let x = x₃ n in
-    next-literals (b₀ s) (head s) (t₀ s) (early s) (s .args .target) (aim s) (d₀ s) (s .args .plan .first) (first-is s) (j₂ x) (m₂ x .put-matches .ensures .1) (g₂ x) (g₂-is x) (p₃ n) (p₃-is n)
+    next-literals (b₀ s) (head s) (t₀ s) (early s) (s .args .target) (aim s) (d₀ s) (s .args .source .first) (first-is s) (j₂ x) (m₂ x .put-matches .ensures .1) (g₂ x) (g₂-is x) (p₃ n) (p₃-is n)
     (count₃ s) (count₃-is s)
     ∙ sym (states-next (b₀ s) (t₀ s))
 
@@ -223,7 +223,7 @@ slice-relend-prefix-put-gathers : tie.Need-slice-relend-prefix-put-gathers
 slice-relend-prefix-put-gathers c = drawn-few (s₃ (c .before))
 
 slice-aggregate-put-gathers : tie.Need-slice-aggregate-put-gathers
-slice-aggregate-put-gathers c = let s = s₃ (c .before .before) in sym (length-take-le (s .args .plan .drawn) (now (s .args .states)) (drawn-few s))
+slice-aggregate-put-gathers c = let s = s₃ (c .before .before) in sym (length-take-le (s .args .source .drawn) (now (s .args .states)) (drawn-few s))
 
 -- the edges are those of the entries
 entries-in : (x : tie.After-put-edges) (p : List ℕ) (start : ℕ) → p ≡ layerPart (b₀ (s₂ x)) start (t₀ (s₂ x)) → start + 2 * entryCount (b₀ (s₂ x)) ≤ length (b₀ (s₂ x))
@@ -253,11 +253,11 @@ stored₃ g = g .put-gathers .ensures .0 ∙ ap (gatesStored (s₄ g .args .targ
 fits₃ : (g : tie.After-put-gathers) → Fits (s₄ g .args .target) (r₃ g)
 fits₃ g = let x = x₃ (n₄ g) in fits-still (s₄ g .args .target) (r₂ x) (r₃ g) (g₂ x) (nextGates (F₀ (s₄ g))) (fits₂ x) (stored₃ g) (nexts-in x)
 
-states₃ : (g : tie.After-put-gathers) → StatesKept (b₀ (s₄ g)) (suc (t₀ (s₄ g))) (g .put-gathers .last .1 .1 .1 .1 .0 ++ drop (s₄ g .args .plan .drawn) (now (s₄ g .args .states)))
+states₃ : (g : tie.After-put-gathers) → StatesKept (b₀ (s₄ g)) (suc (t₀ (s₄ g))) (g .put-gathers .last .1 .1 .1 .1 .0 ++ drop (s₄ g .args .source .drawn) (now (s₄ g .args .states)))
 states₃ g =
     let s = s₄ g in
     let e = g .put-gathers .ensures .1 .0 ∙ kept₃-are (n₄ g) in
-    states-left (b₀ s) (now (s .args .states)) _ (t₀ s) (s .args .plan .drawn) e
+    states-left (b₀ s) (now (s .args .states)) _ (t₀ s) (s .args .source .drawn) e
     (drawn-is s ∙ sym (ap length (e ∙ states-next (b₀ s) (t₀ s)) ∙ listed-length _ (F₀ s .nexts))) (drawn-few s) (s .pre .1 .1 .1 .0 .long)
 
 -- ---- after the outputs
@@ -294,18 +294,18 @@ chains₅-are : (e : tie.After-entries-from2) → gatherGates (s₅ e .args .tar
 chains₅-are e =
     let s = s₅ e in
     let x = x₅ e in
-    outs-are (b₀ s) (head s) (t₀ s) (early s) (s .args .target) (aim s) (d₀ s) (s .args .plan .first) (first-is s) (j₂ x) (m₂ x .put-matches .ensures .1) (g₂ x) (g₂-is x)
+    outs-are (b₀ s) (head s) (t₀ s) (early s) (s .args .target) (aim s) (d₀ s) (s .args .source .first) (first-is s) (j₂ x) (m₂ x .put-matches .ensures .1) (g₂ x) (g₂-is x)
     (l₅ e .put-gathers .result) (o₄-is (l₅ e)) (p₅ e) (p₅-is e) _ (count₅-is s)
 
 kept₅-are : (e : tie.After-entries-from2) → gatherLiterals (s₅ e .args .target) (outs₅ e) (p₅ e) (l₅ e .put-gathers .result) (length (now (s₅ e .args .outputs))) ≡ listed [] (outLiteral (F₀ (s₅ e))) (s₅ e .args .target .outputs)
 kept₅-are e =
     let s = s₅ e in
     let x = x₅ e in
-    out-literals (b₀ s) (head s) (t₀ s) (early s) (s .args .target) (aim s) (d₀ s) (s .args .plan .first) (first-is s) (j₂ x) (m₂ x .put-matches .ensures .1) (g₂ x) (g₂-is x)
+    out-literals (b₀ s) (head s) (t₀ s) (early s) (s .args .target) (aim s) (d₀ s) (s .args .source .first) (first-is s) (j₂ x) (m₂ x .put-matches .ensures .1) (g₂ x) (g₂-is x)
     (l₅ e .put-gathers .result) (o₄-is (l₅ e)) (p₅ e) (p₅-is e) _ (count₅-is s)
     ∙ ap (listed [] (outLiteral (F₀ s))) (sym (count₅-is s) ∙ s .pre .1 .1 .1 .1)
 
-outs-end : (g : tie.After-put-gathers) → g .put-gathers .result + length (outGates (F₀ (s₄ g))) ≡ s₄ g .args .plan .first + length (frameGates (F₀ (s₄ g)))
+outs-end : (g : tie.After-put-gathers) → g .put-gathers .result + length (outGates (F₀ (s₄ g))) ≡ s₄ g .args .source .first + length (frameGates (F₀ (s₄ g)))
 outs-end g =
     let s = s₄ g in
     let x = x₃ (n₄ g) in
@@ -327,13 +327,13 @@ e₆ o = o .before .before .before
 abbrev s₆ : tie.After-put-gathers2 → tie.Start
 s₆ o = s₅ (e₆ o)
 
-stored₆ : (o : tie.After-put-gathers2) → o .put-gathers2 .last .1 .1 .1 .1 .1 .0 ≡ gatesStored (s₆ o .args .target .gates) (s₆ o .args .plan .first) (now (s₆ o .args .result)) (frameGates (F₀ (s₆ o)))
+stored₆ : (o : tie.After-put-gathers2) → o .put-gathers2 .last .1 .1 .1 .1 .1 .0 ≡ gatesStored (s₆ o .args .target .gates) (s₆ o .args .source .first) (now (s₆ o .args .result)) (frameGates (F₀ (s₆ o)))
 stored₆ o =
     let g = l₅ (e₆ o) in
     let x = x₅ (e₆ o) in
     let m = m₂ x in
     let s = s₆ o in
-    parts-stored (s .args .target .gates) (s .args .plan .first) (now (s .args .result)) (r₁ m) (r₂ x) (r₃ g) _ (F₀ s) (j₂ x) (g₂ x) (g .put-gathers .result)
+    parts-stored (s .args .target .gates) (s .args .source .first) (now (s .args .result)) (r₁ m) (r₂ x) (r₃ g) _ (F₀ s) (j₂ x) (g₂ x) (g .put-gathers .result)
     (stored₁ m) (stored₂ x) (stored₃ g) (o .put-gathers2 .ensures .0 ∙ ap (gatesStored (s .args .target .gates) (g .put-gathers .result) (r₃ g)) (chains₅-are (e₆ o)))
     (omega (arith, m .put-matches .ensures .1, matches s)) (omega (arith, edge-length s)) (o₄-is g) (room s) (fits₀ s .room)
 

@@ -1,4 +1,4 @@
--- `draw::Plan::read` meets its contract.
+-- `draw::Source::read` meets its contract.
 -- Assumes nothing.
 use mathlib.Core.Path.{_≡_, ap, _∙_}
 use mathlib.Core.Bool.{cond}
@@ -13,8 +13,8 @@ use Rattle.sizes.specs.Sizes.{frames}
 use Rattle.table.specs.Table.{states}
 use Rattle.table.proofs.Offsets.{Laid, laid, row-small}
 use Rattle.table.proofs.Parts.{count-in}
-use Rattle.draw.proofs.Plan.read.Statement.{statement}
-use Rattle.draw.proofs.Plan.read.Tie as tie
+use Rattle.draw.proofs.Source.read.Statement.{statement}
+use Rattle.draw.proofs.Source.read.Tie as tie
 
 abbrev b₀ : tie.Start → List ℕ
 b₀ s = now (s .args .table)
