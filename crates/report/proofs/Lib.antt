@@ -2,4 +2,3 @@
 pub mod Decimal
 pub mod Appending
 pub mod Lines
-pub mod Reports

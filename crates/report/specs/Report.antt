@@ -6,13 +6,11 @@ use Prim.Native.String as text
 use mathlib.Core.Path.{_≡_}
 use mathlib.Core.Bool.{cond}
 use mathlib.Core.List.{List, [], _∷_, _++_}
-use lib.Dec.{ltb, eqb}
+use lib.Dec.{ltb}
 use lib.ListN.{length}
 use lib.Seq.{sets}
-use Rattle.verdict.specs.Judgements.{}
-use Rattle.verdict.specs.declared.Figures.{Figures}
 use Rattle.sizes.specs.Sizes.{frames}
-use Rattle.table.specs.Table.{states, headChecked}
+use Rattle.table.specs.Table.{states}
 
 -- ---- text and numbers
 
@@ -64,16 +62,9 @@ tableLines b = ascii "layer states\n" ++ (layerLines b (suc (frames b)) ++ total
 unfoldable pub refusalLine : (number place : ℕ) → List ℕ
 refusalLine number place = ascii "refused " ++ pairLine number place
 
--- the lines of a fold that answered f and, where it accepted, wrote the table b; none where the head of that is refused
-unfoldable pub reportOf : Figures → (table : List ℕ) → List ℕ
-reportOf f b =
-    cond (eqb (f .number) 0)
-    (cond (eqb (headChecked b .number) 0) (tableLines b) [])
-    (refusalLine (f .number) (f .place))
-
--- those that go into a buffer of `room` bytes: none where it is shorter than 256 bytes, in which there is room for any
-unfoldable pub reported : Figures → (table : List ℕ) (room : ℕ) → List ℕ
-reported f b room = cond (ltb room 256) [] (reportOf f b)
+-- the length of a buffer into which the lines of every table and of every refusal fit
+abbrev pub linesRoom : ℕ
+linesRoom = 256
 
 -- ---- how the code makes them
 

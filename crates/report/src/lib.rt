@@ -1,17 +1,13 @@
 // The lines that the folding program prints, made in a buffer.
 use sizes::Sizes;
-use table::head::check_head;
 use table::head::states_of;
-use verdict::Figures;
-use verdict::Verdict;
 ghost use mathlib.Core.Path.{_≡_};
-ghost use mathlib.Core.List.{_++_};
 ghost use Prim.Native.Nat.{_+_, _*_, _≤_};
-ghost use lib.ListN.{length, drop};
+ghost use lib.ListN.{length};
 ghost use Rattle.table.specs.Sound.{TableHeaded};
-ghost use Rattle.report.specs.Report.{decimal, field, pairLine, layerLines, statesBelow, totalLine, tableLines, refusalLine, reported, Appended};
+ghost use Rattle.report.specs.Report.{decimal, field, pairLine, layerLines, statesBelow, totalLine, tableLines, refusalLine, linesRoom, Appended};
 
-// The length of a buffer into which every report fits.
+// The length of a buffer into which the lines of every table and of every refusal fit.
 pub struct Limits;
 
 impl Limits {
@@ -98,9 +94,9 @@ fn append_total(out: &mut [u8], at: usize, total: usize) -> usize
     append_field(out, end, total, b'\n')
 }
 
-// The lines of a table.
-fn append_table(out: &mut [u8], table: &[u8]) -> usize
-    requires { ⌜ 256 ≤ length (now out) ⌝ }
+// Puts the lines of a table at the start of `out`.
+pub fn append_table(out: &mut [u8], table: &[u8]) -> usize
+    requires { ⌜ linesRoom ≤ length (now out) ⌝ }
     requires { ⌜ TableHeaded (now table) ⌝ }
     ensures { λ r. ⌜ Appended (now (out .entry)) 0 (tableLines (now (table .entry))) (now (out .exit)) r ⌝ }
 {
@@ -110,30 +106,11 @@ fn append_table(out: &mut [u8], table: &[u8]) -> usize
     append_total(out, end, states_below(table, count))
 }
 
-// The line of a refusal.
-fn append_refusal(out: &mut [u8], figures: Figures) -> usize
-    requires { ⌜ 256 ≤ length (now out) ⌝ }
-    ensures { λ r. ⌜ Appended (now (out .entry)) 0 (refusalLine (figures .number) (figures .place)) (now (out .exit)) r ⌝ }
+// Puts the line of a refusal at the start of `out`.
+pub fn append_refusal(out: &mut [u8], number: usize, place: usize) -> usize
+    requires { ⌜ linesRoom ≤ length (now out) ⌝ }
+    ensures { λ r. ⌜ Appended (now (out .entry)) 0 (refusalLine number place) (now (out .exit)) r ⌝ }
 {
     let end = append(out, 0, b"refused ");
-    append_pair(out, end, figures.number, figures.place)
-}
-
-// Puts the lines of a fold at the start of `out` and answers how many bytes they are. `table` is what the fold wrote.
-pub fn report(figures: Figures, table: &[u8], out: &mut [u8]) -> usize
-    ensures count { λ r. ⌜ r ≡ length (reported figures (now (table .entry)) (length (now (out .entry)))) ⌝ }
-    ensures lines { λ r. ⌜ now (out .exit) ≡ reported figures (now (table .entry)) (length (now (out .entry))) ++ drop r (now (out .entry)) ⌝ }
-    ensures within { λ r. ⌜ r ≤ length (now (out .entry)) ⌝ }
-{
-    if out.len() < Limits::ROOM {
-        return 0;
-    }
-    if figures.number != 0 {
-        return append_refusal(out, figures);
-    }
-    let head = check_head(table);
-    let Verdict::Accepted(_) = head else {
-        return 0;
-    };
-    append_table(out, table)
+    append_pair(out, end, number, place)
 }

@@ -15,37 +15,14 @@ read-full-requires c κs = search needs
 array-share-prefix-input : tie.Need-array-share-prefix-input
 array-share-prefix-input c = search needs
 
-slice-aggregate-fold : tie.Need-slice-aggregate-fold
-slice-aggregate-fold c = search needs
+slice-aggregate-run : tie.Need-slice-aggregate-run
+slice-aggregate-run c = search needs
 
-slice-aggregate-fold-2 : tie.Need-slice-aggregate-fold-2
-slice-aggregate-fold-2 c = search needs
+slice-aggregate-run-2 : tie.Need-slice-aggregate-run-2
+slice-aggregate-run-2 c = search needs
 
-slice-aggregate-fold-3 : tie.Need-slice-aggregate-fold-3
-slice-aggregate-fold-3 c = search needs
-
-fold-requires : tie.Need-fold-requires
-fold-requires c κs = search needs
-
-figures-requires : tie.Need-figures-requires
-figures-requires c κs = search needs
-
-written-requires : tie.Need-written-requires
-written-requires c κs = search needs
-
-array-share-prefix-result : tie.Need-array-share-prefix-result
-array-share-prefix-result c = search needs
-
-slice-aggregate-report : tie.Need-slice-aggregate-report
-slice-aggregate-report c =
-    let f = c .before .before .before .before .before in
-    rw length-take (omega (arith, f .fold .kept .1 .1 .0, c .before .written .ensures))
-
-slice-aggregate-report-2 : tie.Need-slice-aggregate-report-2
-slice-aggregate-report-2 c = search needs
-
-report-requires : tie.Need-report-requires
-report-requires c κs = search needs
+run-requires : tie.Need-run-requires
+run-requires c κs = search needs
 
 array-share-prefix-lines : tie.Need-array-share-prefix-lines
 array-share-prefix-lines c = search needs
@@ -53,7 +30,7 @@ array-share-prefix-lines c = search needs
 slice-aggregate-write-all : tie.Need-slice-aggregate-write-all
 slice-aggregate-write-all c =
     let r = c .before .before in
-    rw length-take (omega (arith, r .report .kept .1 .1 .0, r .report .ensures .1 .1))
+    rw length-take (omega (arith, r .run .kept .1 .0, r .run .ensures .1 .1))
 
 write-all-requires : tie.Need-write-all-requires
 write-all-requires c κs = search needs
@@ -68,16 +45,9 @@ main-spec =
     slice-aggregate-read-full
     read-full-requires
     array-share-prefix-input
-    slice-aggregate-fold
-    slice-aggregate-fold-2
-    slice-aggregate-fold-3
-    fold-requires
-    figures-requires
-    written-requires
-    array-share-prefix-result
-    slice-aggregate-report
-    slice-aggregate-report-2
-    report-requires
+    slice-aggregate-run
+    slice-aggregate-run-2
+    run-requires
     array-share-prefix-lines
     slice-aggregate-write-all
     write-all-requires

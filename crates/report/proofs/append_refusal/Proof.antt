@@ -17,8 +17,8 @@ append-requires c κs = search needs
 
 append-pair-requires : tie.Need-append-pair-requires
 append-pair-requires c κs =
-    let f = c .before .before .before .before .before .before .before .args .figures in
-    omega (arith, pair-length (f .number) (f .place), field-most 19 (f .number) (code " ") (omega arith), field-most 19 (f .place) (code "\n") (omega arith))
+    let a = c .before .before .before .before .before .before .before .args in
+    omega (arith, pair-length (a .number) (a .place), field-most 19 (a .number) (code " ") (omega arith), field-most 19 (a .place) (code "\n") (omega arith))
 
 same-length : tie.Need-same-length
 same-length c = search needs

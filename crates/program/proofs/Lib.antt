@@ -1,0 +1,2 @@
+-- The proofs of `program`: laws by subject, lowest first.
+mod Runs
