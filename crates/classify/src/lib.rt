@@ -3,17 +3,17 @@ use circuit::Head;
 use responses::fill;
 use rows::Layer;
 use rows::number_layer;
+use sizes::Limits;
 ghost use mathlib.Core.Path.{_≡_};
 ghost use Prim.Native.Nat.{suc, _*_, _^_, _≤_, _<_};
 ghost use lib.ListN.{length};
 ghost use Rattle.sizes.specs.Sizes.{frames};
-ghost use Rattle.circuit.specs.Circuit.{allInputs};
 ghost use Rattle.circuit.specs.WellFormed.{WellFormed};
-ghost use Rattle.classify.specs.Classified.{layerAt, LayerOf, stateCount, Known, Counted};
+ghost use Rattle.classify.specs.Classified.{historyCount, layerAt, LayerOf, stateCount, Known, Counted};
 
 // What is known of a table before it is written: the counts of layers 0 to T, and 0 beyond.
 pub struct Plan {
-    pub counts: [u16; 17],
+    pub counts: [u16; Limits::FRAMES + 1],
 }
 
 // How many histories of t words there are.
@@ -57,7 +57,7 @@ pub fn layer_of(head: Head, t: usize) -> Layer
 fn classify_layer(circuit: &[u8], head: Head, scratch: &mut [u16], t: usize) -> usize
     requires { ⌜ WellFormed (now circuit) head ⌝ }
     requires { ⌜ t < frames (now circuit) ⌝ }
-    requires { ⌜ length (now scratch) ≡ 2 * 2 ^ allInputs (now circuit) ⌝ }
+    requires { ⌜ length (now scratch) ≡ 2 * historyCount (now circuit) ⌝ }
     requires { ⌜ Known (now circuit) (now scratch) (suc t) ⌝ }
     ensures { λ r. ⌜ Known (now (circuit .entry)) (now (scratch .exit)) t ⌝ }
     ensures { λ r. ⌜ r ≡ stateCount (now (circuit .entry)) t ⌝ }
@@ -71,11 +71,11 @@ fn classify_layer(circuit: &[u8], head: Head, scratch: &mut [u16], t: usize) -> 
 // Numbers the histories of all layers, and answers how many states each has.
 pub fn classify(circuit: &[u8], head: Head, scratch: &mut [u16]) -> Plan
     requires { ⌜ WellFormed (now circuit) head ⌝ }
-    requires { ⌜ length (now scratch) ≡ 2 * 2 ^ allInputs (now circuit) ⌝ }
+    requires { ⌜ length (now scratch) ≡ 2 * historyCount (now circuit) ⌝ }
     ensures { λ r. ⌜ Known (now (circuit .entry)) (now (scratch .exit)) 0 ⌝ }
     ensures { λ r. ⌜ Counted (now (circuit .entry)) r ⌝ }
 {
-    let mut counts = [0; 17];
+    let mut counts = [0; Limits::FRAMES + 1];
     let frames = head.frames;
     counts[frames] = 1;
     let mut t = frames;

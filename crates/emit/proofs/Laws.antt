@@ -83,7 +83,7 @@ module _ (b : List ℕ) (t h : ℕ) where
   first-new f = ap (λ g. tally g (smallests b t)) (eqb→eq (smallest (2 ^ inputs b) (frames b) (response b) t h) h f)
 
 -- how many words a layer has
-pub layer-length : (b : List ℕ) (nexts : Bool) (t : ℕ) → length (layerWords b nexts t ((2 ^ inputs b) ^ t)) ≡ stateCount b t * 2 ^ inputs b
+pub layer-length : (b : List ℕ) (nexts : Bool) (t : ℕ) → length (layerWords b nexts t) ≡ stateCount b t * 2 ^ inputs b
 unfolding layerWords rowWords count
 layer-length b nexts t = joined-length (smallests b t) (rowWords b nexts t) (2 ^ inputs b) (λ h. tabulate-length (2 ^ inputs b) _) ((2 ^ inputs b) ^ t)
 
@@ -91,7 +91,7 @@ layer-length b nexts t = joined-length (smallests b t) (rowWords b nexts t) (2 ^
 
 module _ (b : List ℕ) (nexts : Bool) where
   -- one layer more
-  pub array-layer : (t : ℕ) → arrayWords b nexts (t + 1) ≡ arrayWords b nexts t ++ layerWords b nexts t ((2 ^ inputs b) ^ t)
+  pub array-layer : (t : ℕ) → arrayWords b nexts (t + 1) ≡ arrayWords b nexts t ++ layerWords b nexts t
   unfolding arrayWords join
   array-layer t = rw (add-one t)
 

@@ -189,7 +189,7 @@ module _ (b : List ℕ) (t : ℕ) (bt : t < frames b) (layer : Layer) (L : Layer
         ∙ ap (λ k. join k (λ w. f (listedEntry s layer nexts (h * k + w)) ∷ [])) (L .fan-is)
         ∙ join-cong (2 ^ inputs b) _ _ (λ w k. ap (λ x. x ∷ []) (entry-is (h * 2 ^ inputs b + w) (digit-below t l k)))
 
-    pub listed-words : map f (listedLayer s layer nexts (layer .size)) ≡ layerWords b nexts t ((2 ^ inputs b) ^ t)
+    pub listed-words : map f (listedLayer s layer nexts (layer .size)) ≡ layerWords b nexts t
     unfolding listedLayer layerWords
     listed-words =
         map-join f (layer .size) _
@@ -201,14 +201,14 @@ module _ (b : List ℕ) (t : ℕ) (bt : t < frames b) (layer : Layer) (L : Layer
         go h l false = refl
 
   -- the next states are listed themselves
-  pub nexts-listed : CircuitHeaded b → (nexts : Bool) → nexts ≡ true → listedLayer s layer nexts (layer .size) ≡ layerWords b nexts t ((2 ^ inputs b) ^ t)
+  pub nexts-listed : CircuitHeaded b → (nexts : Bool) → nexts ≡ true → listedLayer s layer nexts (layer .size) ≡ layerWords b nexts t
   unfolding entryOf Known
   nexts-listed H nexts e =
       sym (map-same _)
       ∙ listed-words nexts (λ x. x) (λ i l. rw e (next-is b H t bt layer L s (λ u h lo hi k. kn u h (omega arith) hi k) i l))
 
   -- the outputs are the responses of what is listed
-  pub outputs-listed : (nexts : Bool) → nexts ≡ false → (u : ℕ) → u ≡ suc t → map (response b u) (listedLayer s layer nexts (layer .size)) ≡ layerWords b nexts t ((2 ^ inputs b) ^ t)
+  pub outputs-listed : (nexts : Bool) → nexts ≡ false → (u : ℕ) → u ≡ suc t → map (response b u) (listedLayer s layer nexts (layer .size)) ≡ layerWords b nexts t
   unfolding entryOf
   outputs-listed nexts e u eu = listed-words nexts (response b u) (λ i l. rw (e, eu))
 

@@ -16,13 +16,17 @@ entryOf b nexts t i = cond nexts (stateNumber b (suc t) i) (response b (suc t) i
 unfoldable pub rowWords : (b : List ℕ) (nexts : Bool) (t h : ℕ) → List ℕ
 rowWords b nexts t h = tabulate (2 ^ inputs b) (λ w. entryOf b nexts t (h * 2 ^ inputs b + w))
 
--- the rows of the first `size` histories of layer t that are the smallest of their class
-unfoldable pub layerWords : (b : List ℕ) (nexts : Bool) (t size : ℕ) → List ℕ
-layerWords b nexts t size = join size (λ h. cond (first (2 ^ inputs b) (frames b) (response b) t h) (rowWords b nexts t h) [])
+-- how many entries layer t has
+abbrev pub entryCount : List ℕ → (t : ℕ) → ℕ
+entryCount b t = stateCount b t * 2 ^ inputs b
+
+-- the rows of the histories of layer t that are the smallest of their class
+unfoldable pub layerWords : (b : List ℕ) (nexts : Bool) (t : ℕ) → List ℕ
+layerWords b nexts t = join ((2 ^ inputs b) ^ t) (λ h. cond (first (2 ^ inputs b) (frames b) (response b) t h) (rowWords b nexts t h) [])
 
 -- one of the two arrays: its first `layers` layers
 unfoldable pub arrayWords : (b : List ℕ) (nexts : Bool) (layers : ℕ) → List ℕ
-arrayWords b nexts layers = join layers (λ t. layerWords b nexts t ((2 ^ inputs b) ^ t))
+arrayWords b nexts layers = join layers (λ t. layerWords b nexts t)
 
 -- the head: sizes and counts
 unfoldable pub headWords : List ℕ → List ℕ

@@ -4,29 +4,19 @@ use circuit::check;
 use classify::Plan;
 use classify::classify;
 use classify::histories;
+use emit::clear;
 use emit::write_table;
+use table::head::head_length;
 use verdict::Refusal;
 use verdict::Verdict;
 ghost use mathlib.Core.Path.{_≡_};
-ghost use Prim.Native.Nat.{_*_, _^_};
 ghost use lib.ListN.{length, replicate};
-ghost use Rattle.verdict.specs.Judgements.{figures, resultAfter};
-ghost use Rattle.circuit.specs.Circuit.{allInputs};
+ghost use Rattle.verdict.specs.Judgements.{figures};
+ghost use Rattle.circuit.specs.Circuit.{checked};
 ghost use Rattle.circuit.specs.WellFormed.{WellFormed};
 ghost use Rattle.classify.specs.Classified.{Counted};
-ghost use Rattle.folded.specs.Folded.{foldedBytes, foldChecked, foldResult, foldScratch};
-ghost use Rattle.fold.specs.Fold.{roomChecked, Promised};
-
-// Sets all numbers to zero.
-fn clear(scratch: &mut [u16])
-    ensures { λ _. ⌜ now (scratch .exit) ≡ replicate (length (now (scratch .entry))) 0 ⌝ }
-{
-    let mut i = 0;
-    while i < scratch.len() {
-        scratch[i] = 0;
-        i += 1;
-    }
-}
+ghost use Rattle.folded.specs.Folded.{foldedBytes, scratchNeeded, foldChecked, foldResult, foldScratch};
+ghost use Rattle.fold.specs.Fold.{Promised};
 
 // How many bytes the table takes.
 fn bytes_needed(circuit: &[u8], head: Head, plan: Plan) -> usize
@@ -40,19 +30,23 @@ fn bytes_needed(circuit: &[u8], head: Head, plan: Plan) -> usize
     for t in 0..frames {
         states += counts[t] as usize;
     }
-    8 + 2 * frames + 4 * (states * histories(head.inputs, 1))
+    head_length(frames) + 4 * (states * histories(head.inputs, 1))
 }
 
 // Folds an accepted circuit: classifies its histories in the scratch, which is just as long as needed, and writes the table if there is room.
+// The scratch ends zero.
 fn fold_in(circuit: &[u8], head: Head, scratch: &mut [u16], result: &mut [u8]) -> Verdict
     requires { ⌜ WellFormed (now circuit) head ⌝ }
-    requires { ⌜ length (now scratch) ≡ 2 * 2 ^ allInputs (now circuit) ⌝ }
-    ensures verdict { λ r. ⌜ figures r ≡ roomChecked (now (circuit .entry)) (length (now (result .entry))) ⌝ }
-    ensures result { λ r. ⌜ now (result .exit) ≡ resultAfter (roomChecked (now (circuit .entry)) (length (now (result .entry)))) (foldedBytes (now (circuit .entry))) (now (result .entry)) ⌝ }
+    requires { ⌜ checked (now circuit) .number ≡ 0 ⌝ }
+    requires { ⌜ length (now scratch) ≡ scratchNeeded (now circuit) ⌝ }
+    ensures verdict { λ r. ⌜ figures r ≡ foldChecked (now (circuit .entry)) (length (now (scratch .entry))) (length (now (result .entry))) ⌝ }
+    ensures result { λ _. ⌜ now (result .exit) ≡ foldResult (now (circuit .entry)) (length (now (scratch .entry))) (now (result .entry)) ⌝ }
+    ensures scratch { λ _. ⌜ now (scratch .exit) ≡ replicate (length (now (scratch .entry))) 0 ⌝ }
 {
     let plan = classify(circuit, head, scratch);
     let bytes = bytes_needed(circuit, head, plan);
     if result.len() < bytes {
+        clear(scratch);
         return Verdict::Refused(Refusal::Room(bytes));
     }
     write_table(circuit, head, plan, scratch, result);
@@ -75,7 +69,5 @@ pub fn fold(circuit: &[u8], scratch: &mut [u16], result: &mut [u8]) -> Verdict
     if scratch.len() < needed {
         return Verdict::Refused(Refusal::Scratch(needed));
     }
-    let folded = fold_in(circuit, head, &mut scratch[..needed], result);
-    clear(&mut scratch[..needed]);
-    folded
+    fold_in(circuit, head, &mut scratch[..needed], result)
 }

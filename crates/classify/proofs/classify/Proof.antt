@@ -3,7 +3,7 @@
 use mathlib.Core.Path.{_≡_, refl, sym, ap, _∙_}
 use mathlib.Core.Logic.{⊎-elim}
 use mathlib.Core.List.{List}
-use Prim.Native.Nat.{ℕ, suc, _-_, _^_, _≤_, _<_}
+use Prim.Native.Nat.{ℕ, zero, suc, _-_, _^_, _≤_, _<_}
 use native.Mathlib.Nat.{eq-or-lt-of-le}
 use native.Mathlib.Omega.{arith}
 use denote.Ref.{now}
@@ -25,6 +25,7 @@ abbrev Inv-loop : tie.InvT-loop
 Inv-loop circuit head scratch₀ counts₀ frames t₀ scratch counts t =
     (t ≤ frames) × (length counts ≡ 17) × (length scratch ≡ length scratch₀) × Known circuit scratch t
     × ((u : ℕ) → t ≤ u → u ≤ framesOf circuit → getD counts u 0 ≡ stateCount circuit u)
+    × ((u : ℕ) → framesOf circuit < u → getD counts u 0 ≡ 0)
 
 abbrev μ-loop : tie.MeasureT-loop
 μ-loop circuit head scratch₀ counts₀ frames t₀ scratch counts t = t
@@ -51,6 +52,12 @@ more-counts b counts t x h room e f u lo hi = ⊎-elim here later (eq-or-lt-of-l
     later : t - 1 < u → getD (set counts (t - 1) x) u 0 ≡ stateCount b u
     later q = getD-set-other counts (t - 1) u x 0 (λ r. omega arith) ∙ f u (omega arith) hi
 
+-- where nothing was stored there is zero
+zeros : (n i : ℕ) → _≡_ {A = ℕ} (getD (replicate n 0) i 0) 0
+zeros zero i = refl
+zeros (suc n) zero = refl
+zeros (suc n) (suc i) = zeros n i
+
 -- a count fits 16 bits
 few : (c : tie.After-classify-layer Inv-loop μ-loop) → Fits w16 (c .classify-layer .result)
 few c =
@@ -70,8 +77,14 @@ unfolding Known
 loop-holds c =
     let a = c .before .before in
     let b = now (a .args .circuit) in
-    let e = a .pre .0 .head-is .frames-is in
-    (omega arith, simp length-set, refl, (λ u h lo hi l. absurd (omega arith)), λ u lo hi. first-count b (a .pre .0 .headed) (replicate 17 0) (a .args .head .frames) u e (omega (arith, a .pre .0 .headed .sizes)) lo hi)
+    let e = a .pre .0 .head-is .frames-is in (
+      omega arith,
+      simp length-set,
+      refl,
+      (λ u h lo hi l. absurd (omega arith)),
+      λ u lo hi. first-count b (a .pre .0 .headed) (replicate 17 0) (a .args .head .frames) u e (omega (arith, a .pre .0 .headed .sizes)) lo hi,
+      λ u lo. getD-set-other (replicate 17 0) (a .args .head .frames) u 1 0 (λ r. omega arith) ∙ zeros 17 u,
+    )
 
 sub-t : tie.Need-sub-t Inv-loop μ-loop
 sub-t c = omega arith
@@ -111,6 +124,7 @@ loop-again c =
       k .classify-layer .ensures .0,
       more-counts b (l .loop .counts) (l .loop .t) (k .classify-layer .result) (omega arith) (omega (arith, l .loop .inv .0, l .loop .inv .1, a .pre .0 .headed .sizes, a .pre .0 .head-is))
           (k .classify-layer .ensures .1) (l .loop .inv .4),
+      λ u lo. getD-set-other (l .loop .counts) (l .loop .t - 1) u (k .classify-layer .result) 0 (λ r. omega (arith, l .loop .inv .0, a .pre .0 .head-is)) ∙ l .loop .inv .5 u lo,
     )
 
 same-length : tie.Need-same-length Inv-loop μ-loop
@@ -120,7 +134,7 @@ returns : tie.Need-returns Inv-loop μ-loop
 returns c =
     let l = c .before in
     let z : l .loop .t ≡ 0 = omega arith in
-    (rw (← z) (l .loop .inv .3), record { places = l .loop .inv .1; counts-are = λ u h. l .loop .inv .4 u (omega arith) h })
+    (rw (← z) (l .loop .inv .3), record { places = l .loop .inv .1; counts-are = λ u h. l .loop .inv .4 u (omega arith) h; none-beyond = l .loop .inv .5 })
 
 pub classify-spec : {M : Type 1} → statement M
 classify-spec =

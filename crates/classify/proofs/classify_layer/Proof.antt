@@ -49,20 +49,19 @@ part-fill-start c = omega (arith, fits c)
 part-fill-end : tie.Need-part-fill-end
 part-fill-end c = search needs
 
--- the part behind the half has room for the responses
-room : (c : tie.After-layer-of)
-    → (2 ^ inputs (now (start c .args .circuit))) ^ (start c .args .t + 1)
+-- the part behind the half has room for the responses of any frame
+room : (c : tie.After-layer-of) (u : ℕ) → u ≤ frames (now (start c .args .circuit)) → (2 ^ inputs (now (start c .args .circuit))) ^ u
     ≤ length (take (length (now (start c .args .scratch)) - c .layer-of .result .responses) (drop (c .layer-of .result .responses) (now (start c .args .scratch))))
-room c =
+room c u h =
     let a = start c in
     let b = now (a .args .circuit) in
     let k = two-words (inputs b) (a .pre .0 .headed .sizes .inputs-from) in
-    rw (length-take, length-drop) (omega (arith, fits c, is-layer c .responses-is, power-le (2 ^ inputs b) k (a .args .t + 1) (frames b) (omega (arith, a .pre .1 .0))))
+    rw (length-take, length-drop) (omega (arith, fits c, is-layer c .responses-is, power-le (2 ^ inputs b) k u (frames b) h))
 
 fill-requires : tie.Need-fill-requires
 fill-requires c κs =
     let a = start (c .before) in
-    (a .pre .0, ((omega arith, omega (arith, a .pre .1 .0)), room (c .before)))
+    (a .pre .0, ((omega arith, omega (arith, a .pre .1 .0)), room (c .before) _ (omega (arith, a .pre .1 .0))))
 
 -- the scratch after the filling
 abbrev layer : tie.After-fill → tie.After-layer-of

@@ -15,30 +15,30 @@ use Rattle.emit.proofs.list_layer.Statement.{statement}
 use Rattle.emit.proofs.list_layer.Tie as tie
 
 abbrev Inv-loop : tie.InvT-loop
-Inv-loop scratch₀ layer nexts own size fan half count₀ fresh₀ h₀ scratch count fresh h =
-    (h ≤ size) × (fresh ≡ newNumbers scratch₀ (layer .at) h) × (count ≡ length (listedLayer scratch₀ layer nexts h)) × (length scratch ≡ length scratch₀)
-    × (take (layer .responses + count) scratch ≡ take (layer .responses) scratch₀ ++ listedLayer scratch₀ layer nexts h)
+Inv-loop scratch₀ column own size fan half count₀ fresh₀ h₀ scratch count fresh h =
+    (h ≤ size) × (fresh ≡ newNumbers scratch₀ (column .layer .at) h) × (count ≡ length (listedLayer scratch₀ (column .layer) (column .nexts) h)) × (length scratch ≡ length scratch₀)
+    × (take (column .layer .responses + count) scratch ≡ take (column .layer .responses) scratch₀ ++ listedLayer scratch₀ (column .layer) (column .nexts) h)
 
 abbrev μ-loop : tie.MeasureT-loop
-μ-loop scratch₀ layer nexts own size fan half count₀ fresh₀ h₀ scratch count fresh h = size - h
+μ-loop scratch₀ column own size fan half count₀ fresh₀ h₀ scratch count fresh h = size - h
 
 loop-holds : tie.Need-loop-holds Inv-loop μ-loop
 unfolding newNumbers listedLayer join
 loop-holds c =
     let a = c .before .args in
     let s = now (a .scratch) in
-    (omega arith, refl, refl, refl, ap (λ (n : ℕ). take n s) (add-zero (a .layer .responses)) ∙ sym (append-nil (take (a .layer .responses) s)))
+    (omega arith, refl, refl, refl, ap (λ (n : ℕ). take n s) (add-zero (a .column .layer .responses)) ∙ sym (append-nil (take (a .column .layer .responses) s)))
 
 -- at the loop's head: the entry of the function
 abbrev start : tie.At-loop Inv-loop μ-loop → tie.Start Inv-loop μ-loop
 start l = l .before .before
 
 -- in a turn: there is room for one row more
-room : (i : tie.In-loop Inv-loop μ-loop) → i .before .loop .count + start (i .before) .args .layer .fan ≤ start (i .before) .args .layer .size * start (i .before) .args .layer .fan
+room : (i : tie.In-loop Inv-loop μ-loop) → i .before .loop .count + start (i .before) .args .column .layer .fan ≤ start (i .before) .args .column .layer .size * start (i .before) .args .column .layer .fan
 room i =
     let l = i .before in
     let a = start l .args in
-    omega (arith, l .loop .inv .2, row-room (now (a .scratch)) (a .layer) (a .nexts) (l .loop .h) (i .loop-test .taken))
+    omega (arith, l .loop .inv .2, row-room (now (a .scratch)) (a .column .layer) (a .column .nexts) (l .loop .h) (i .loop-test .taken))
 
 add-if1 : tie.Need-add-if1 Inv-loop μ-loop
 add-if1 c = omega (arith, start (c .before) .pre .0, start (c .before) .good)
@@ -59,7 +59,7 @@ list-row-requires c κs =
     let i = c .before .before .before in
     let l = i .before in
     let a = start l in
-    (placed-kept (a .args .layer) (now (a .args .scratch)) (l .loop .scratch) (a .pre .0) (l .loop .inv .3), (i .loop-test .taken, a .pre .1, omega arith, omega (arith, room i, a .pre .0, l .loop .inv .3)))
+    (placed-kept (a .args .column .layer) (now (a .args .scratch)) (l .loop .scratch) (a .pre .0) (l .loop .inv .3), (i .loop-test .taken, a .pre .1, omega arith, omega (arith, room i, a .pre .0, l .loop .inv .3)))
 
 add-count : tie.Need-add-count Inv-loop μ-loop
 add-count c =
@@ -71,7 +71,7 @@ add-fresh c =
     let i = c .before .before .before .before .before .before in
     let l = i .before in
     let a = start l in
-    omega (arith, l .loop .inv .1, new-most (now (a .args .scratch)) (a .args .layer) (a .args .nexts) (l .loop .h), i .loop-test .taken, a .pre .0 .small)
+    omega (arith, l .loop .inv .1, new-most (now (a .args .scratch)) (a .args .column .layer) (a .args .column .nexts) (l .loop .h), i .loop-test .taken, a .pre .0 .small)
 
 add-h : tie.Need-add-h Inv-loop μ-loop
 add-h c =
@@ -87,17 +87,17 @@ loop-again c =
     let l = i .before in
     let a = start l in
     let s = now (a .args .scratch) in
-    let half = a .args .layer .responses in
+    let half = a .args .column .layer .responses in
     let v = l .loop .inv in
     ⊎-elim
     (λ w.
     let more =
-    turn-new (a .args .layer) (a .args .nexts) s (l .loop .scratch) (a .pre .0) (v .3) (l .loop .h) (l .loop .count) (i .loop-test .taken) (v .2) (v .4)
+    turn-new (a .args .column .layer) (a .args .column .nexts) s (l .loop .scratch) (a .pre .0) (v .3) (l .loop .h) (l .loop .count) (i .loop-test .taken) (v .2) (v .4)
     (l .loop .fresh) (v .1) (w .0 .taken) (c .if1 .scratch) (w .5 ∙ w .2 .ensures) in
     (omega arith, w .7 ∙ more .0, w .6 ∙ more .1, ap length (w .5) ∙ w .2 .kept .0 ∙ v .3, ap (λ (n : ℕ). take (half + n) (c .if1 .scratch)) (w .6) ∙ more .2))
     (λ w.
     let same =
-    turn-old (a .args .layer) (a .args .nexts) s (l .loop .scratch) (a .pre .0) (v .3) (l .loop .h) (l .loop .count) (i .loop-test .taken) (v .2) (v .4)
+    turn-old (a .args .column .layer) (a .args .column .nexts) s (l .loop .scratch) (a .pre .0) (v .3) (l .loop .h) (l .loop .count) (i .loop-test .taken) (v .2) (v .4)
     (l .loop .fresh) (v .1) (w .0 .left) in (
       omega arith,
       w .3 ∙ same .0,
@@ -115,9 +115,9 @@ returns c =
     let l = c .before in
     let a = start l .args in
     let s = now (a .scratch) in
-    let e : l .loop .h ≡ a .layer .size = omega arith in (
-      l .loop .inv .4 ∙ ap (λ (h : ℕ). take (a .layer .responses) s ++ listedLayer s (a .layer) (a .nexts) h) e,
-      l .loop .inv .2 ∙ ap (λ (h : ℕ). length (listedLayer s (a .layer) (a .nexts) h)) e,
+    let e : l .loop .h ≡ a .column .layer .size = omega arith in (
+      l .loop .inv .4 ∙ ap (λ (h : ℕ). take (a .column .layer .responses) s ++ listedLayer s (a .column .layer) (a .column .nexts) h) e,
+      l .loop .inv .2 ∙ ap (λ (h : ℕ). length (listedLayer s (a .column .layer) (a .column .nexts) h)) e,
     )
 
 pub list-layer-spec : {M : Type 1} → statement M

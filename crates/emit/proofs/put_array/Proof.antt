@@ -17,12 +17,12 @@ use Rattle.emit.proofs.put_array.Statement.{statement}
 use Rattle.emit.proofs.put_array.Tie as tie
 
 abbrev Inv-loop : tie.InvT-loop
-Inv-loop circuit head scratch₀ nexts result₀ at frames end₀ t₀ scratch result end t =
-    (t ≤ frames) × (end ≡ at + 2 * length (arrayWords circuit nexts t)) × (result ≡ stored 2 result₀ at (arrayWords circuit nexts t))
+Inv-loop circuit head scratch₀ result₀ frames nexts end₀ t₀ scratch result end t =
+    (t ≤ frames) × (end ≡ end₀ + 2 * length (arrayWords circuit nexts t)) × (result ≡ stored 2 result₀ end₀ (arrayWords circuit nexts t))
     × (length scratch ≡ length scratch₀) × (take (2 ^ allInputs circuit) scratch ≡ take (2 ^ allInputs circuit) scratch₀)
 
 abbrev μ-loop : tie.MeasureT-loop
-μ-loop circuit head scratch₀ nexts result₀ at frames end₀ t₀ scratch result end t = frames - t
+μ-loop circuit head scratch₀ result₀ frames nexts end₀ t₀ scratch result end t = frames - t
 
 loop-holds : tie.Need-loop-holds Inv-loop μ-loop
 unfolding arrayWords join
@@ -32,11 +32,11 @@ loop-holds c = (omega arith, omega arith, sym (stored-none 2 _ _), refl, refl)
 abbrev start : tie.At-loop Inv-loop μ-loop → tie.Start Inv-loop μ-loop
 start l = l .before .before .before .before
 
-room : (l : tie.At-loop Inv-loop μ-loop) → start l .args .at + 2 * length (arrayWords (now (start l .args .circuit)) (start l .args .nexts) (l .loop .t)) ≤ length (now (start l .args .result))
+room : (l : tie.At-loop Inv-loop μ-loop) → start l .args .array .at + 2 * length (arrayWords (now (start l .args .circuit)) (start l .args .array .nexts) (l .loop .t)) ≤ length (now (start l .args .result))
 room l =
     let a = start l in
     let b = now (a .args .circuit) in
-    omega (arith, array-most b (a .args .nexts) (l .loop .t) (framesOf b) (omega (arith, l .loop .inv .0, a .pre .0 .head-is)), a .pre .1 .1 .1)
+    omega (arith, array-most b (a .args .array .nexts) (l .loop .t) (framesOf b) (omega (arith, l .loop .inv .0, a .pre .0 .head-is)), a .pre .1 .1 .1)
 
 len : (l : tie.At-loop Inv-loop μ-loop) → length (l .loop .result) ≡ length (now (start l .args .result))
 len l = ap length (l .loop .inv .2) ∙ stored-length 2 _ _ _ (room l)
@@ -46,13 +46,13 @@ below : (i : tie.In-loop Inv-loop μ-loop) → i .before .loop .t < framesOf (no
 below i = omega (arith, i .loop-test .taken, start (i .before) .pre .0 .head-is)
 
 layer-room : (i : tie.In-loop Inv-loop μ-loop)
-    → start (i .before) .args .at + 2 * length (arrayWords (now (start (i .before) .args .circuit)) (start (i .before) .args .nexts) (i .before .loop .t + 1))
+    → start (i .before) .args .array .at + 2 * length (arrayWords (now (start (i .before) .args .circuit)) (start (i .before) .args .array .nexts) (i .before .loop .t + 1))
     ≤ length (now (start (i .before) .args .result))
 layer-room i =
     let l = i .before in
     let a = start l in
     let b = now (a .args .circuit) in
-    omega (arith, array-most b (a .args .nexts) (l .loop .t + 1) (framesOf b) (omega (arith, below i)), a .pre .1 .1 .1)
+    omega (arith, array-most b (a .args .array .nexts) (l .loop .t + 1) (framesOf b) (omega (arith, below i)), a .pre .1 .1 .1)
 
 put-layer-requires : tie.Need-put-layer-requires Inv-loop μ-loop
 put-layer-requires c κs =
@@ -61,7 +61,7 @@ put-layer-requires c κs =
     let a = start l in
     let b = now (a .args .circuit) in
     let known = known-kept b (a .pre .0 .headed) _ (half-is b) (now (a .args .scratch)) (l .loop .scratch) (l .loop .inv .4) 0 (a .pre .1 .1 .0) in
-    (a .pre .0, (l .loop .inv .3 ∙ a .pre .1 .0, (known, below i, omega (arith, layer-room i, len l, l .loop .inv .1, array-more (now (a .args .circuit)) (a .args .nexts) (l .loop .t)))))
+    (a .pre .0, (l .loop .inv .3 ∙ a .pre .1 .0, (known, below i, omega (arith, layer-room i, len l, l .loop .inv .1, array-more (now (a .args .circuit)) (a .args .array .nexts) (l .loop .t)))))
 
 add-t : tie.Need-add-t Inv-loop μ-loop
 add-t c =
@@ -78,12 +78,12 @@ loop-again c =
     let l = i .before in
     let a = start l in
     let b = now (a .args .circuit) in
-    let n = a .args .nexts in (
+    let n = a .args .array .nexts in (
       omega arith,
       omega (arith, p .put-layer .ensures .1 .1, l .loop .inv .1, array-more b n (l .loop .t)),
       p .put-layer .ensures .1 .0
-          ∙ stored-behind 2 (now (a .args .result)) (l .loop .result) (a .args .at) (arrayWords b n (l .loop .t)) _ (l .loop .end) (l .loop .inv .2) (l .loop .inv .1) (room l)
-          ∙ ap (stored 2 (now (a .args .result)) (a .args .at)) (sym (array-layer b n (l .loop .t))),
+          ∙ stored-behind 2 (now (a .args .result)) (l .loop .result) (a .args .array .at) (arrayWords b n (l .loop .t)) _ (l .loop .end) (l .loop .inv .2) (l .loop .inv .1) (room l)
+          ∙ ap (stored 2 (now (a .args .result)) (a .args .array .at)) (sym (array-layer b n (l .loop .t))),
       p .put-layer .kept .1 .1 .0 ∙ l .loop .inv .3,
       p .put-layer .ensures .0 ∙ l .loop .inv .4,
     )
@@ -102,8 +102,8 @@ returns c =
     let e : l .loop .t ≡ framesOf b = omega (arith, a .pre .0 .head-is) in (
       l .loop .inv .4,
       (
-        l .loop .inv .2 ∙ ap (λ (t : ℕ). stored 2 (now (a .args .result)) (a .args .at) (arrayWords b (a .args .nexts) t)) e,
-        l .loop .inv .1 ∙ ap (λ (t : ℕ). a .args .at + 2 * length (arrayWords b (a .args .nexts) t)) e,
+        l .loop .inv .2 ∙ ap (λ (t : ℕ). stored 2 (now (a .args .result)) (a .args .array .at) (arrayWords b (a .args .array .nexts) t)) e,
+        l .loop .inv .1 ∙ ap (λ (t : ℕ). a .args .array .at + 2 * length (arrayWords b (a .args .array .nexts) t)) e,
       ),
     )
 

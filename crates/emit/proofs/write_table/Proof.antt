@@ -6,9 +6,11 @@ use mathlib.Core.List.{List, [], _∷_}
 use Prim.Native.Nat.{ℕ, _+_, _*_}
 use native.Mathlib.Omega.{arith}
 use denote.Ref.{now}
-use lib.ListN.{length}
+use lib.ListN.{length, replicate}
 use Rattle.words.specs.Words.{stored}
 use Rattle.sizes.specs.Sizes.{inputs, outputs, frames}
+use Rattle.table.specs.Table.{headLength}
+use Rattle.table.proofs.Offsets.{head-length}
 use Rattle.classify.proofs.Step.{half-is, known-kept}
 use Rattle.emit.specs.Emitted.{arrayWords, headWords}
 use Rattle.emit.proofs.Laws.{all-length, head-stored, outputs-stored, nexts-stored}
@@ -16,14 +18,14 @@ use borrow.Author.Needs.{needs}
 use Rattle.emit.proofs.write_table.Statement.{statement}
 use Rattle.emit.proofs.write_table.Tie as tie
 
-cast-t11 : tie.Need-cast-t11
-cast-t11 c = search needs
-
-cast-t12 : tie.Need-cast-t12
-cast-t12 c = search needs
-
 cast-t13 : tie.Need-cast-t13
 cast-t13 c = search needs
+
+cast-t14 : tie.Need-cast-t14
+cast-t14 c = search needs
+
+cast-t15 : tie.Need-cast-t15
+cast-t15 c = search needs
 
 slice-aggregate-store-all : tie.Need-slice-aggregate-store-all
 slice-aggregate-store-all c = search needs
@@ -54,11 +56,8 @@ store-all-requires-2 c κs =
 abbrev start₂ : tie.After-store-all2 → tie.Start
 start₂ p = start (p .before .before .before .before .before .before .before)
 
-mul-outputs-at : tie.Need-mul-outputs-at
-mul-outputs-at c = let p = start₂ (c .before .before) .pre .0 in omega (arith, p .head-is, p .headed .sizes)
-
-add-outputs-at : tie.Need-add-outputs-at
-add-outputs-at c = let p = start₂ (c .before .before) .pre .0 in omega (arith, p .head-is, p .headed .sizes)
+head-length-requires : tie.Need-head-length-requires
+head-length-requires c κs = let p = start₂ (c .before .before) .pre .0 in omega (arith, p .head-is, p .headed .sizes)
 
 -- the sizes are the circuit's
 first-words : (n m t : ℕ) (b : List ℕ) → n ≡ inputs b → m ≡ outputs b → t ≡ frames b → n ∷ m ∷ t ∷ [] ≡ inputs b ∷ outputs b ∷ frames b ∷ []
@@ -79,32 +78,45 @@ head₂ p =
 len₂ : (p : tie.After-store-all2) → length (p .store-all2 .last .1 .1 .0) ≡ length (now (start₂ p .args .result))
 len₂ p = p .store-all2 .kept .1 .1 .0 ∙ p .before .before .before .before .before .before .before .store-all .kept .1 .1 .0
 
+-- where the outputs begin
+abbrev before₁ : tie.After-head-length → tie.After-store-all2
+before₁ h = h .before .before .before
+
+outputs-at : (h : tie.After-head-length) → h .head-length .result ≡ 8 + 2 * frames (now (start₂ (before₁ h) .args .circuit))
+outputs-at h = h .head-length .ensures ∙ ap headLength (start₂ (before₁ h) .pre .0 .head-is .frames-is) ∙ head-length _
+
 put-array-requires : tie.Need-put-array-requires
 put-array-requires c κs =
-    let p = c .before .before .before .before in
-    let a = start₂ p in
+    let h = c .before .before in
+    let a = start₂ (before₁ h) in
     let b = now (a .args .circuit) in
-    (a .pre .0, (a .pre .1 .1 .0, (a .pre .1 .1 .1 .0, omega (arith, all-length b, a .pre .1 .1 .1 .1, len₂ p, a .pre .0 .head-is))))
+    (a .pre .0, (a .pre .1 .1 .0, (a .pre .1 .1 .1 .0, omega (arith, all-length b, a .pre .1 .1 .1 .1, len₂ (before₁ h), outputs-at h))))
 
 -- before the outputs
-abbrev before : tie.After-put-array → tie.After-store-all2
-before q = q .before .before .before .before .before
+abbrev before : tie.After-put-array → tie.After-head-length
+before q = q .before .before .before
 
-len₃ : (q : tie.After-put-array) → length (q .put-array .last .1 .1 .1 .1 .0) ≡ length (now (start₂ (before q) .args .result))
-len₃ q = q .put-array .kept .1 .1 .1 .1 .0 ∙ len₂ (before q)
+abbrev start₃ : tie.After-put-array → tie.Start
+start₃ q = start₂ (before₁ (before q))
+
+len₃ : (q : tie.After-put-array) → length (q .put-array .last .1 .1 .1 .1 .0) ≡ length (now (start₃ q .args .result))
+len₃ q = q .put-array .kept .1 .1 .1 .1 .0 ∙ len₂ (before₁ (before q))
 
 -- where the next states begin
 end₃ : (q : tie.After-put-array)
-    → q .put-array .result ≡ 8 + 2 * frames (now (start₂ (before q) .args .circuit)) + 2 * length (arrayWords (now (start₂ (before q) .args .circuit)) false (frames (now (start₂ (before q) .args .circuit))))
-end₃ q = let a = start₂ (before q) in omega (arith, q .put-array .ensures .1 .1, a .pre .0 .head-is)
+    → q .put-array .result ≡ 8 + 2 * frames (now (start₃ q .args .circuit)) + 2 * length (arrayWords (now (start₃ q .args .circuit)) false (frames (now (start₃ q .args .circuit))))
+end₃ q = omega (arith, q .put-array .ensures .1 .1, outputs-at (before q))
 
 put-array-requires-2 : tie.Need-put-array-requires-2
 put-array-requires-2 c κs =
     let q = c .before .before .before .before .before .before in
-    let a = start₂ (before q) in
+    let a = start₃ q in
     let b = now (a .args .circuit) in
     let known = known-kept b (a .pre .0 .headed) _ (half-is b) (now (a .args .scratch)) (q .put-array .last .1 .1 .0) (q .put-array .ensures .0) 0 (a .pre .1 .1 .1 .0) in
     (a .pre .0, (q .put-array .kept .1 .1 .0 ∙ a .pre .1 .1 .0, (known, omega (arith, all-length b, a .pre .1 .1 .1 .1, len₃ q, end₃ q))))
+
+clear-requires : tie.Need-clear-requires
+clear-requires c κs = search needs
 
 same-length : tie.Need-same-length
 same-length c = search needs
@@ -114,31 +126,35 @@ same-length-2 c = search needs
 
 returns : tie.Need-returns
 returns c =
-    let s = c .before .before .before .before in
+    let z = c .before .before in
+    let s = z .before .before .before .before .before .before in
     let q = s .before .before .before .before .before .before .before in
-    let p = before q in
+    let h = before q in
+    let p = before₁ h in
     let a = start₂ p in
-    let b = now (a .args .circuit) in
-    nexts-stored b (now (a .args .result)) (a .pre .1 .1 .1 .1) (q .put-array .last .1 .1 .1 .1 .0) (s .put-array2 .last .1 .1 .1 .1 .0) (q .put-array .result) (end₃ q)
-    (outputs-stored b (now (a .args .result)) (a .pre .1 .1 .1 .1) (p .store-all2 .last .1 .1 .0) (q .put-array .last .1 .1 .1 .1 .0) _ (omega (arith, a .pre .0 .head-is)) (head₂ p) (q .put-array .ensures .1 .0))
-    (s .put-array2 .ensures .1 .0)
+    let b = now (a .args .circuit) in (
+      nexts-stored b (now (a .args .result)) (a .pre .1 .1 .1 .1) (q .put-array .last .1 .1 .1 .1 .0) (s .put-array2 .last .1 .1 .1 .1 .0) (q .put-array .result) (end₃ q)
+          (outputs-stored b (now (a .args .result)) (a .pre .1 .1 .1 .1) (p .store-all2 .last .1 .1 .0) (q .put-array .last .1 .1 .1 .1 .0) _ (outputs-at h) (head₂ p) (q .put-array .ensures .1 .0))
+          (s .put-array2 .ensures .1 .0),
+      z .clear .ensures ∙ ap (λ (n : ℕ). replicate n 0) (s .put-array2 .kept .1 .1 .0 ∙ q .put-array .kept .1 .1 .0),
+    )
 
 pub write-table-spec : {M : Type 1} → statement M
 write-table-spec =
     tie.close
     (tie.spec
-    cast-t11
-    cast-t12
     cast-t13
+    cast-t14
+    cast-t15
     slice-aggregate-store-all
     store-all-requires
     add-layers
     slice-aggregate-store-all-2
     store-all-requires-2
-    mul-outputs-at
-    add-outputs-at
+    head-length-requires
     put-array-requires
     put-array-requires-2
+    clear-requires
     same-length
     same-length-2
     returns)

@@ -10,6 +10,8 @@ use lib.ListN.{getD}
 use Rattle.sizes.specs.Sizes.{inputs, frames as framesOf}
 use Rattle.layered.specs.Search.{total}
 use Rattle.circuit.specs.Theorems.{response}
+use Rattle.table.specs.Table.{headLength}
+use Rattle.table.proofs.Offsets.{head-length}
 use Rattle.classify.specs.Classified.{stateCount}
 use Rattle.classify.proofs.Layers.{two-words, one-word, power-fits}
 use Rattle.classify.proofs.Step.{bits-fit}
@@ -63,11 +65,19 @@ sum-more i = rw (add-one (i .before .loop .t))
 count-is : (i : tie.In-loop Inv-loop μ-loop) → getD (start (i .before) .args .plan .counts) (i .before .loop .t) 0 ≡ stateCount (now (start (i .before) .args .circuit)) (i .before .loop .t)
 count-is i = let a = start (i .before) in a .pre .1 .counts-are (i .before .loop .t) (omega (arith, i .loop-test .taken, a .pre .0 .head-is))
 
+-- the loop's head, from what follows it
+abbrev at-loop : tie.After-histories Inv-loop μ-loop → tie.At-loop Inv-loop μ-loop
+at-loop c = c .before .before .before
+
+-- the head's length
+head-is : (c : tie.After-histories Inv-loop μ-loop) → c .before .head-length .result ≡ 8 + 2 * framesOf (now (start (at-loop c) .args .circuit))
+head-is c = c .before .head-length .ensures ∙ ap headLength (start (at-loop c) .pre .0 .head-is .frames-is) ∙ head-length _
+
 -- all states, times the fan
 product : (c : tie.After-histories Inv-loop μ-loop)
-    → c .before .before .loop .states * c .histories .result ≡ total (framesOf (now (start (c .before .before) .args .circuit))) (stateCount (now (start (c .before .before) .args .circuit))) * K (start (c .before .before))
+    → at-loop c .loop .states * c .histories .result ≡ total (framesOf (now (start (at-loop c) .args .circuit))) (stateCount (now (start (at-loop c) .args .circuit))) * K (start (at-loop c))
 product c =
-    let l = c .before .before in
+    let l = at-loop c in
     let a = start l in
     let e : l .loop .t ≡ framesOf (now (a .args .circuit)) = omega (arith, a .pre .0 .head-is) in
     ap₂ (λ (x y : ℕ). x * y) (l .loop .inv .1 ∙ ap (λ (t : ℕ). total t (stateCount (now (a .args .circuit)))) e) (c .histories .ensures ∙ one-word _ ∙ ap (λ (n : ℕ). 2 ^ n) (a .pre .0 .head-is .inputs-is))
@@ -97,30 +107,25 @@ loop-again : tie.Need-loop-again Inv-loop μ-loop
 unfolding total
 loop-again c = (omega arith, omega (arith, count-is c, c .before .loop .inv .1, sum-more c))
 
-mul-result : tie.Need-mul-result Inv-loop μ-loop
-mul-result c = omega (arith, start (c .before) .pre .0 .headed .sizes, start (c .before) .pre .0 .head-is)
-
-add-result : tie.Need-add-result Inv-loop μ-loop
-add-result c = omega (arith, start (c .before) .pre .0 .headed .sizes, start (c .before) .pre .0 .head-is)
+head-length-requires : tie.Need-head-length-requires Inv-loop μ-loop
+head-length-requires c κs = omega (arith, start (c .before) .pre .0 .headed .sizes, start (c .before) .pre .0 .head-is)
 
 histories-requires : tie.Need-histories-requires Inv-loop μ-loop
 histories-requires c κs =
-    let a = start (c .before) in
+    let a = start (c .before .before) in
     bits-fit _ (a .pre .0 .headed) _ 1 (a .pre .0 .head-is .inputs-is) (a .pre .0 .headed .sizes .frames-from)
 
+mul-result : tie.Need-mul-result Inv-loop μ-loop
+mul-result c = omega (arith, product c, product-small (start (at-loop c)))
+
 mul-result-2 : tie.Need-mul-result-2 Inv-loop μ-loop
-mul-result-2 c = omega (arith, product c, product-small (start (c .before .before)))
+mul-result-2 c = omega (arith, product c, product-small (start (at-loop c)))
 
-mul-result-3 : tie.Need-mul-result-3 Inv-loop μ-loop
-mul-result-3 c = omega (arith, product c, product-small (start (c .before .before)))
-
-add-result-2 : tie.Need-add-result-2 Inv-loop μ-loop
-add-result-2 c = omega (arith, product c, product-small (start (c .before .before)), start (c .before .before) .pre .0 .headed .sizes, start (c .before .before) .pre .0 .head-is)
+add-result : tie.Need-add-result Inv-loop μ-loop
+add-result c = omega (arith, product c, product-small (start (at-loop c)), head-is c, start (at-loop c) .pre .0 .headed .sizes)
 
 returns : tie.Need-returns Inv-loop μ-loop
-returns c =
-    let a = start (c .before .before) in
-    omega (arith, product c, folded-length (now (a .args .circuit)), a .pre .0 .head-is)
+returns c = omega (arith, product c, folded-length (now (start (at-loop c) .args .circuit)), head-is c)
 
 pub bytes-needed-spec : {M : Type 1} → statement M
 bytes-needed-spec =
@@ -136,10 +141,9 @@ bytes-needed-spec =
     add-t
     loop-less
     loop-again
-    mul-result
-    add-result
+    head-length-requires
     histories-requires
+    mul-result
     mul-result-2
-    mul-result-3
-    add-result-2
+    add-result
     returns)

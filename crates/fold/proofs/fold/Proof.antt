@@ -1,12 +1,12 @@
 -- `fold::fold` meets its contract: each return is an outcome of the definition, and the theorems hold of what an accepted one wrote.
 -- Assumes nothing.
 use mathlib.Core.Path.{_≡_, sym, ap, ap₂, _∙_, subst}
-use mathlib.Core.List.{List}
 use Prim.Native.Nat.{ℕ, _*_, _^_}
 use native.Mathlib.Omega.{arith}
 use denote.Ref.{now}
 use lib.ListN.{length-take}
-use Rattle.verdict.specs.Judgements.{answer, figures}
+use Rattle.verdict.specs.Judgements.{answer}
+use Rattle.verdict.specs.declared.Figures.{Figures}
 use Rattle.verdict.proofs.Laws.{accepts}
 use Rattle.circuit.specs.Circuit.{allInputs, checked}
 use Rattle.circuit.proofs.Accepted.{Accepted, well-formed, accepted}
@@ -14,7 +14,7 @@ use Rattle.classify.proofs.Layers.{power-fits}
 use Rattle.classify.proofs.Step.{half-is, bits-fit}
 use Rattle.folded.specs.Folded.{scratchNeeded}
 use Rattle.folded.proofs.Outcomes.{Outcome, circuit-refused, scratch-refused}
-use Rattle.fold.proofs.Stages.{promises, last-stage, first-cleared, part-length}
+use Rattle.fold.proofs.Stages.{promises, last-stage}
 use borrow.Author.Needs.{needs}
 use Rattle.fold.proofs.fold.Statement.{statement}
 use Rattle.fold.proofs.fold.Tie as tie
@@ -91,19 +91,7 @@ fold-in-requires c κs =
     let h = k .before in
     let r = h .before in
     let e = r .before in
-    (well-formed (known e) (r .read .ensures), rw length-take (omega (arith, half h, k .if1 .left)))
-
-slice-relend-prefix-clear : tie.Need-slice-relend-prefix-clear
-slice-relend-prefix-clear c = search needs
-
-slice-aggregate-clear : tie.Need-slice-aggregate-clear
-slice-aggregate-clear c =
-    let f = c .before .before .before .before .before in
-    let k = f .before .before .before in
-    part-length _ (f .fold-in .last .1 .1 .0) _ (k .if1 .left) (f .fold-in .kept .1 .1 .0)
-
-clear-requires : tie.Need-clear-requires
-clear-requires c κs = search needs
+    (well-formed (known e) (r .read .ensures), (ap (λ (f : Figures). f .number) (passed e), rw length-take (omega (arith, needs-are h, k .if1 .left))))
 
 same-length : tie.Need-same-length
 same-length c = search needs
@@ -113,8 +101,7 @@ same-length-2 c = search needs
 
 returns-3 : tie.Need-returns-3
 returns-3 c =
-    let z = c .before .before in
-    let f = z .before .before .before .before .before .before in
+    let f = c .before .before .before .before in
     let k = f .before .before .before in
     let h = k .before in
     let e = h .before .before in
@@ -123,9 +110,7 @@ returns-3 c =
     let s = now (a .args .scratch) in
     let r = now (a .args .result) in
     promises b s r _ _ _
-    (subst (λ (t : List ℕ). Outcome b s r (figures (f .fold-in .result)) t (f .fold-in .last .1 .1 .1 .0))
-    (sym (first-cleared b s (f .fold-in .last .1 .1 .0) (z .clear .last .0) _ (needs-are h) (k .if1 .left) (f .fold-in .kept .1 .1 .0) (z .clear .ensures)))
-    (last-stage b s r (e .enum-told .given .0 .0) (passed e) (omega (arith, needs-are h, k .if1 .left)) _ _ (f .fold-in .ensures .0) (f .fold-in .ensures .1)))
+    (last-stage b s r (ap (λ (f : Figures). f .number) (passed e)) _ (needs-are h) (k .if1 .left) _ _ _ (f .fold-in .ensures .0) (f .fold-in .ensures .1 .0) (f .fold-in .ensures .1 .1))
 
 pub fold-spec : {M : Type 1} → statement M
 fold-spec =
@@ -142,9 +127,6 @@ fold-spec =
     slice-relend-prefix-fold-in
     slice-aggregate-fold-in
     fold-in-requires
-    slice-relend-prefix-clear
-    slice-aggregate-clear
-    clear-requires
     same-length
     same-length-2
     returns-3)
