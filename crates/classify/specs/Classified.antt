@@ -4,6 +4,7 @@ use mathlib.Core.Path.{_≡_}
 use mathlib.Core.List.{List}
 use lib.Dec.{eqb}
 use lib.ListN.{length, getD}
+use Rattle.sizes.specs.Limits.{mostFrames}
 use Rattle.sizes.specs.Sizes.{inputs, frames}
 use Rattle.layered.specs.States.{count, number}
 use Rattle.circuit.specs.Circuit.{allInputs}
@@ -42,6 +43,6 @@ Known b s t = (u h : ℕ) → t ≤ u → u < frames b → h < (2 ^ inputs b) ^ 
 
 -- the plan holds the counts of layers 0 to T, and 0 beyond
 pub record Counted (b : List ℕ) (plan : Plan) : Type 0 where
-  pub places : length (plan .counts) ≡ 17
+  pub places : length (plan .counts) ≡ mostFrames + 1
   pub none-beyond : (t : ℕ) → frames b < t → getD (plan .counts) t 0 ≡ 0
   pub counts-are : (t : ℕ) → t ≤ frames b → getD (plan .counts) t 0 ≡ stateCount b t

@@ -1,12 +1,14 @@
 // The states of a circuit's histories, classified layer by layer from the last back, in scratch.
 use circuit::Head;
 use responses::fill;
+use responses::histories;
 use rows::Layer;
 use rows::number_layer;
 use sizes::Limits;
 ghost use mathlib.Core.Path.{_≡_};
 ghost use Prim.Native.Nat.{suc, _*_, _^_, _≤_, _<_};
 ghost use lib.ListN.{length};
+ghost use Rattle.sizes.specs.Limits.{mostBits};
 ghost use Rattle.sizes.specs.Sizes.{frames};
 ghost use Rattle.circuit.specs.WellFormed.{WellFormed};
 ghost use Rattle.classify.specs.Classified.{historyCount, layerAt, LayerOf, stateCount, Known, Counted};
@@ -16,17 +18,9 @@ pub struct Plan {
     pub counts: [u16; Limits::FRAMES + 1],
 }
 
-// How many histories of t words there are.
-pub fn histories(inputs: usize, t: usize) -> usize
-    requires { ⌜ inputs * t ≤ 16 ⌝ }
-    ensures { λ r. ⌜ r ≡ (2 ^ inputs) ^ t ⌝ }
-{
-    1 << (inputs * t)
-}
-
 // Where the numbers of the histories of t words begin.
 pub fn layer_at(inputs: usize, t: usize) -> usize
-    requires { ⌜ (1 ≤ inputs) × (inputs * t ≤ 16) ⌝ }
+    requires { ⌜ (1 ≤ inputs) × (inputs * t ≤ mostBits) ⌝ }
     ensures { λ r. ⌜ r ≡ layerAt (2 ^ inputs) t ⌝ }
 {
     let mut at = 0;
@@ -38,7 +32,7 @@ pub fn layer_at(inputs: usize, t: usize) -> usize
 
 // Where layer t lies in scratch.
 pub fn layer_of(head: Head, t: usize) -> Layer
-    requires { ⌜ (1 ≤ head .inputs) × (head .inputs * head .frames ≤ 16) × (t < head .frames) ⌝ }
+    requires { ⌜ (1 ≤ head .inputs) × (head .inputs * head .frames ≤ mostBits) × (t < head .frames) ⌝ }
     ensures { λ r. ⌜ LayerOf (2 ^ head .inputs) (head .frames) t r ⌝ }
 {
     let size = histories(head.inputs, t);

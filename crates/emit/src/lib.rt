@@ -14,6 +14,7 @@ ghost use Prim.Native.Nat.{_+_, _*_, _^_, _≤_, _<_};
 ghost use lib.ListN.{length, take, replicate};
 ghost use lib.Seq.{paste};
 ghost use Rattle.words.specs.Words.{stored};
+ghost use Rattle.sizes.specs.Limits.{mostBits};
 ghost use Rattle.sizes.specs.Sizes.{inputs, frames};
 ghost use Rattle.circuit.specs.WellFormed.{WellFormed};
 ghost use Rattle.rows.specs.Rows.{Placed};
@@ -36,7 +37,7 @@ struct Array {
 // What is listed of entry i: its next state, or its index, which its response replaces later.
 fn listed_entry(scratch: &[u16], column: Column, i: usize) -> u16
     requires { ⌜ Placed (now scratch) (column .layer) ⌝ }
-    requires { ⌜ (i < column .layer .size * column .layer .fan) × (column .layer .size * column .layer .fan ≤ 65536) ⌝ }
+    requires { ⌜ (i < column .layer .size * column .layer .fan) × (column .layer .size * column .layer .fan ≤ 2 ^ mostBits) ⌝ }
     ensures { λ r. ⌜ r ≡ listedEntry (now (scratch .entry)) (column .layer) (column .nexts) i ⌝ }
 {
     if column.nexts {
@@ -48,7 +49,7 @@ fn listed_entry(scratch: &[u16], column: Column, i: usize) -> u16
 // Lists the row of history h from `at` on.
 fn list_row(scratch: &mut [u16], column: Column, h: usize, at: usize)
     requires { ⌜ Placed (now scratch) (column .layer) ⌝ }
-    requires { ⌜ (h < column .layer .size) × (column .layer .size * column .layer .fan ≤ 65536) × (column .layer .responses ≤ at) × (at + column .layer .fan ≤ length (now scratch)) ⌝ }
+    requires { ⌜ (h < column .layer .size) × (column .layer .size * column .layer .fan ≤ 2 ^ mostBits) × (column .layer .responses ≤ at) × (at + column .layer .fan ≤ length (now scratch)) ⌝ }
     ensures { λ _. ⌜ now (scratch .exit) ≡ paste (now (scratch .entry)) at (listedRow (now (scratch .entry)) (column .layer) (column .nexts) h) (column .layer .fan) ⌝ }
 {
     let fan = column.layer.fan;
@@ -62,7 +63,7 @@ fn list_row(scratch: &mut [u16], column: Column, h: usize, at: usize)
 // of its class where its number is the next new one.
 fn list_layer(scratch: &mut [u16], column: Column) -> usize
     requires { ⌜ Placed (now scratch) (column .layer) ⌝ }
-    requires { ⌜ column .layer .size * column .layer .fan ≤ 65536 ⌝ }
+    requires { ⌜ column .layer .size * column .layer .fan ≤ 2 ^ mostBits ⌝ }
     ensures rows { λ r. ⌜ take (column .layer .responses + r) (now (scratch .exit)) ≡ take (column .layer .responses) (now (scratch .entry)) ++ listedLayer (now (scratch .entry)) (column .layer) (column .nexts) (column .layer .size) ⌝ }
     ensures count { λ r. ⌜ r ≡ length (listedLayer (now (scratch .entry)) (column .layer) (column .nexts) (column .layer .size)) ⌝ }
 {

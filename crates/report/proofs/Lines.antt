@@ -1,14 +1,18 @@
 -- Laws of lines. Assumes nothing.
 use mathlib.Core.Path.{_≡_, _∙_}
 use mathlib.Core.List.{List}
-use Prim.Native.Nat.{ℕ, suc, _+_, _^_, _≤_, _<_}
+use Prim.Native.Nat.{ℕ, suc, _+_, _*_, _^_, _≤_, _<_}
 use Prim.Native.Char.{code}
 use native.Mathlib.Numerals.{add-one}
 use native.Mathlib.Omega.{arith}
 use lib.ListN.{length, length-append}
+use Rattle.sizes.specs.Limits.{mostFrames}
 use Rattle.sizes.specs.Sizes.{frames}
+use Rattle.table.specs.Limits.{mostStates}
 use Rattle.table.specs.Table.{states}
-use Rattle.report.specs.Report.{ascii, decimal, field, pairLine, layerLines, statesBelow, totalLine, tableLines, Appended}
+use Rattle.table.specs.Sound.{TableHeaded}
+use Rattle.table.proofs.Offsets.{arrays-stand}
+use Rattle.report.specs.Report.{ascii, decimal, field, pairLine, layerLines, statesBelow, totalLine, tableLines, lineRoom, Appended}
 use Rattle.report.proofs.Decimal.{digits-most}
 use Rattle.report.proofs.Appending.{append-then}
 
@@ -31,7 +35,7 @@ pub field-most : (k n mark : ℕ) → n < 10 ^ suc k → length (field n mark) �
 field-most k n mark h = omega (arith, field-length n mark, digits-most k n h)
 
 -- the line of a layer
-pub layer-most : (t s : ℕ) → t ≤ 16 → s < 65536 → length (pairLine t s) ≤ 9
+pub layer-most : (t s : ℕ) → t ≤ mostFrames → s ≤ mostStates → length (pairLine t s) ≤ lineRoom
 layer-most t s h l = omega (arith, pair-length t s, field-most 1 t (code " ") (omega arith), field-most 4 s (code "\n") (omega arith))
 
 -- ---- one after another
@@ -50,3 +54,10 @@ unfolding tableLines
 table-lines table count total e f p q r =
     let n : count ≡ suc (frames table) = e ∙ add-one (frames table) in
     append-then p (append-then (rw n at q) (rw (f, n) at r))
+
+-- ---- the layers of a table whose head passes
+
+module _ (b : List ℕ) (H : TableHeaded b) (t : ℕ) (h : t ≤ frames b) where
+  -- a layer is one of few, its count stands in the table, and is small
+  pub layer-in : (t ≤ mostFrames) × (7 + 2 * t < length b) × (states b t ≤ mostStates)
+  layer-in = (omega (arith, H .sized), omega (arith, H .whole, arrays-stand b), H .states-to t h)

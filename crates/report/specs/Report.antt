@@ -62,6 +62,10 @@ tableLines b = ascii "layer states\n" ++ (layerLines b (suc (frames b)) ++ total
 unfoldable pub refusalLine : (number place : ℕ) → List ℕ
 refusalLine number place = ascii "refused " ++ pairLine number place
 
+-- the most bytes that the line of a layer has
+abbrev pub lineRoom : ℕ
+lineRoom = 9
+
 -- the length of a buffer into which the lines of every table and of every refusal fit
 abbrev pub linesRoom : ℕ
 linesRoom = 256

@@ -4,8 +4,10 @@ use table::head::states_of;
 ghost use mathlib.Core.Path.{_≡_};
 ghost use Prim.Native.Nat.{_+_, _*_, _≤_};
 ghost use lib.ListN.{length};
+ghost use Rattle.sizes.specs.Sizes.{frames};
+ghost use Rattle.table.specs.Limits.{mostStates};
 ghost use Rattle.table.specs.Sound.{TableHeaded};
-ghost use Rattle.report.specs.Report.{decimal, field, pairLine, layerLines, statesBelow, totalLine, tableLines, refusalLine, linesRoom, Appended};
+ghost use Rattle.report.specs.Report.{decimal, field, pairLine, layerLines, statesBelow, totalLine, tableLines, refusalLine, lineRoom, linesRoom, Appended};
 
 // The length of a buffer into which the lines of every table and of every refusal fit.
 pub struct Limits;
@@ -59,12 +61,12 @@ fn append_pair(out: &mut [u8], at: usize, first: usize, second: usize) -> usize
     append_field(out, end, second, b'\n')
 }
 
-// The lines of the first `count` layers. A line has at most 9 bytes.
+// The lines of the first `count` layers.
 fn append_layers(out: &mut [u8], at: usize, table: &[u8], count: usize) -> usize
-    requires { ⌜ (count ≤ 17) × (6 + 2 * count ≤ length (now table)) ⌝ }
-    requires { ⌜ at + 9 * count ≤ length (now out) ⌝ }
+    requires { ⌜ TableHeaded (now table) × (count ≤ frames (now table) + 1) ⌝ }
+    requires { ⌜ at + lineRoom * count ≤ length (now out) ⌝ }
     ensures { λ r. ⌜ Appended (now (out .entry)) at (layerLines (now (table .entry)) count) (now (out .exit)) r ⌝ }
-    ensures { λ r. ⌜ r ≤ at + 9 * count ⌝ }
+    ensures { λ r. ⌜ r ≤ at + lineRoom * count ⌝ }
 {
     let mut end = at;
     for t in 0..count {
@@ -75,8 +77,8 @@ fn append_layers(out: &mut [u8], at: usize, table: &[u8], count: usize) -> usize
 
 // How many states the first `count` layers have.
 fn states_below(table: &[u8], count: usize) -> usize
-    requires { ⌜ (count ≤ 17) × (6 + 2 * count ≤ length (now table)) ⌝ }
-    ensures { λ r. ⌜ (r ≡ statesBelow (now (table .entry)) count) × (r ≤ 65536 * count) ⌝ }
+    requires { ⌜ TableHeaded (now table) × (count ≤ frames (now table) + 1) ⌝ }
+    ensures { λ r. ⌜ (r ≡ statesBelow (now (table .entry)) count) × (r ≤ mostStates * count) ⌝ }
 {
     let mut states = 0;
     for t in 0..count {

@@ -11,6 +11,7 @@ use lib.Dec.{T, eqb, eqb→eq, eqb-refl, lit<}
 use lib.ListN.{length, getD, set, replicate, length-set, length-replicate, getD-replicate}
 use lib.Seq.{getD-set-same, getD-set-other}
 use Rattle.layered.proofs.Search.{case, both, eq-eqb, below-suc}
+use Rattle.rows.specs.Limits.{bucketCount, linkCount, hashFactor}
 use Rattle.rows.specs.Rows.{equalRows, firstWith, isFirst}
 use Rattle.rows.specs.Buckets.{latest, Entry, hashTo, rowHash, inBucket, bucket, Linked}
 use Rattle.rows.proofs.Laws.{row-entries, first-found, none-first}
@@ -65,21 +66,21 @@ zeros n l e = (ap length e ∙ length-replicate n 0, λ k b. ap (λ l. getD l k 
 module _ (K : ℕ) (out next : ℕ → ℕ) where
   -- ---- hashes
 
-  pub hash-below : (h w : ℕ) → hashTo K out next h w < 8161
+  pub hash-below : (h w : ℕ) → hashTo K out next h w < bucketCount
   unfolding hashTo
   hash-below h zero = lit< tt
   hash-below h (suc w) = omega arith
 
-  pub hash-more : (h w hash e : ℕ) → hash ≡ hashTo K out next h w → Entry out next (h * K + w) e → (hash * 769 + e) % 8161 ≡ hashTo K out next h (w + 1)
+  pub hash-more : (h w hash e : ℕ) → hash ≡ hashTo K out next h w → Entry out next (h * K + w) e → (hash * hashFactor + e) % bucketCount ≡ hashTo K out next h (w + 1)
   unfolding hashTo
-  hash-more h w hash e q E = rw (add-one w) (ap₂ (λ x y. (x * 769 + y) % 8161) q (E .is))
+  hash-more h w hash e q E = rw (add-one w) (ap₂ (λ x y. (x * hashFactor + y) % bucketCount) q (E .is))
 
   hash-equal : (g h w : ℕ) → w ≤ K → T (equalRows K out next g h) → hashTo K out next g w ≡ hashTo K out next h w
   unfolding hashTo
   hash-equal g h zero l t = refl
   hash-equal g h (suc w) l t =
       let e = row-entries K out next g h t w l in
-      ap₂ (λ x y. (x * 769 + y) % 8161) (hash-equal g h w (omega arith) t) (ap₂ (λ x y. x + 65536 * y) (e .0) (e .1))
+      ap₂ (λ x y. (x * hashFactor + y) % bucketCount) (hash-equal g h w (omega arith) t) (ap₂ (λ x y. x + 65536 * y) (e .0) (e .1))
 
   -- a word tells the rows apart
   pub entry-differs : (g h w a b : ℕ) → w < K → Entry out next (g * K + w) a → Entry out next (h * K + w) b → (a ≡ b → ⊥) → T (equalRows K out next g h) → ⊥
@@ -141,17 +142,17 @@ module _ (K : ℕ) (out next : ℕ → ℕ) where
 
   -- buckets and links are those of the histories below h
   pub record Bucketed (buckets links : List ℕ) (h : ℕ) : Type 0 where
-    pub count : length buckets ≡ 8161
-    pub start : (k : ℕ) → k < 8161 → getD buckets k 0 ≡ bucket K out next k h
-    pub long : length links ≡ 32768
+    pub count : length buckets ≡ bucketCount
+    pub start : (k : ℕ) → k < bucketCount → getD buckets k 0 ≡ bucket K out next k h
+    pub long : length links ≡ linkCount
     pub linked : Linked K out next links h
 
-  pub bucketed-none : (buckets links : List ℕ) → buckets ≡ replicate 8161 0 → links ≡ replicate 32768 0 → Bucketed buckets links 0
+  pub bucketed-none : (buckets links : List ℕ) → buckets ≡ replicate bucketCount 0 → links ≡ replicate linkCount 0 → Bucketed buckets links 0
   unfolding bucket latest
   bucketed-none buckets links e f = record {
-    count = zeros 8161 buckets e .0;
-    start = zeros 8161 buckets e .1;
-    long = zeros 32768 links f .0;
+    count = zeros bucketCount buckets e .0;
+    start = zeros bucketCount buckets e .1;
+    long = zeros linkCount links f .0;
     linked = record { room = zero-le; link = λ g l. absurd (omega arith) };
   }
 
@@ -170,7 +171,7 @@ module _ (K : ℕ) (out next : ℕ → ℕ) where
       (λ t. let b = both (isFirst K out next h) (eqb (rowHash K out next h) k) .0 t in apart (b .0) (eqb→eq (rowHash K out next h) k (b .1))))
 
   -- one history more
-  module _ (buckets links : List ℕ) (h : ℕ) (C : Bucketed buckets links h) (room : h < 32768) where
+  module _ (buckets links : List ℕ) (h : ℕ) (C : Bucketed buckets links h) (room : h < linkCount) where
     -- one that is not the first with its row is in no bucket
     pub bucketed-later : firstWith K out next h < h → Bucketed buckets links (h + 1)
     unfolding isFirst
@@ -190,7 +191,7 @@ module _ (K : ℕ) (out next : ℕ → ℕ) where
     pub bucketed-new : (hash : ℕ) → hash ≡ rowHash K out next h → firstWith K out next h ≡ h → Bucketed (set buckets hash (h + 1)) (set links h (getD buckets hash 0)) (h + 1)
     unfolding isFirst
     bucketed-new hash e l =
-        let below : hash < 8161 = omega (arith, e, hash-below h K) in
+        let below : hash < bucketCount = omega (arith, e, hash-below h K) in
         let link : (g : ℕ) → g < h → T (isFirst K out next g) → getD (set links h (getD buckets hash 0)) g 0 ≡ bucket K out next (rowHash K out next g) g =
         λ g b f. getD-set-other links h g (getD buckets hash 0) 0 (λ e. omega arith) ∙ C .linked .link g b f in
         record {

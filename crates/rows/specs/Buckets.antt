@@ -5,6 +5,7 @@ use mathlib.Core.List.{List}
 use Prim.Native.Nat.{ℕ, zero, suc, _+_, _*_, _%_, _≤_, _<_}
 use lib.Dec.{T, eqb}
 use lib.ListN.{length, getD}
+use Rattle.rows.specs.Limits.{bucketCount, hashFactor, wordCount}
 use Rattle.rows.specs.Rows.{isFirst, outIn, nextIn}
 use Rattle.rows.specs.declared.Layer.{Layer}
 
@@ -15,16 +16,16 @@ latest (suc n) p = cond (p n) (suc n) (latest n p)
 
 -- e is entry i as one number: the output in its low 16 bits, the next state above
 pub record Entry (out next : ℕ → ℕ) (i e : ℕ) : Type 0 where
-  pub is : e ≡ out i + 65536 * next i
-  pub output : out i < 65536
-  pub small : e < 4294967296
+  pub is : e ≡ out i + wordCount * next i
+  pub output : out i < wordCount
+  pub small : e < wordCount * wordCount
 
 module _ (K : ℕ) (out next : ℕ → ℕ) where
   -- a hash of h's entries for the words below w. The modulus is prime, so that all bits of an entry count, and it and the factor keep rows
   -- apart that differ by little.
   unfoldable pub hashTo : (h w : ℕ) → ℕ
   hashTo h zero = 0
-  hashTo h (suc w) = (hashTo h w * 769 + (out (h * K + w) + 65536 * next (h * K + w))) % 8161
+  hashTo h (suc w) = (hashTo h w * hashFactor + (out (h * K + w) + wordCount * next (h * K + w))) % bucketCount
 
   -- the hash of h's row
   abbrev pub rowHash : (h : ℕ) → ℕ

@@ -5,6 +5,7 @@ use mathlib.Core.List.{List, _++_}
 use lib.Dec.{eqb}
 use lib.ListN.{length, getD, take, drop}
 use Rattle.layered.specs.Search.{every, least, tally, tabulate}
+use Rattle.rows.specs.Limits.{linkCount}
 use Rattle.rows.specs.declared.Layer.{Layer}
 
 module _ (K : ℕ) (out next : ℕ → ℕ) where
@@ -46,4 +47,4 @@ pub record Placed (s : List ℕ) (layer : Layer) : Type 0 where
   pub own-before : layer .at + layer .size ≤ layer .nexts
   pub nexts-before : layer .nexts + cond (layer .last) 0 (layer .size * layer .fan) ≤ layer .responses
   pub responses-in : layer .responses + layer .size * layer .fan ≤ length s
-  pub small : layer .size ≤ 32768
+  pub small : layer .size ≤ linkCount

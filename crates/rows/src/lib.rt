@@ -3,8 +3,23 @@
 ghost use mathlib.Core.Path.{_≡_};
 ghost use Prim.Native.Nat.{_*_, _<_};
 ghost use lib.ListN.{replicate};
+ghost use Rattle.rows.specs.Limits.{bucketCount, linkCount};
 ghost use Rattle.rows.specs.Rows.{Placed, outIn, nextIn, firstWith, rowCount, numbered};
 ghost use Rattle.rows.specs.Buckets.{Entry, Linked, hashIn, bucketIn};
+
+// As many buckets as there are hashes, a link for each history, of which a layer has no more, the factor of the hash, and how many numbers have
+// 16 bits.
+struct Limits;
+
+impl Limits {
+    const BUCKETS: usize = 8161;
+
+    const LINKS: usize = 32768;
+
+    const FACTOR: usize = 769;
+
+    const WORDS: usize = 65536;
+}
 
 // Where a layer lies in scratch: `size` histories whose numbers go to `at`, `fan` words each; the entry of history h and word w has its output
 // at `responses` + h * fan + w, and its next state at `nexts` + h * fan + w, or 0 in the last layer.
@@ -38,26 +53,20 @@ fn entry(scratch: &[u16], layer: Layer, i: usize) -> usize
 {
     let responses = layer.responses;
     let out = scratch[responses + i] as usize;
-    out + 65536 * next_state(scratch, layer, i) as usize
+    out + Limits::WORDS * next_state(scratch, layer, i) as usize
 }
-
-// As many buckets as there are hashes.
-const BUCKETS: usize = 8161;
-
-// A link for each history: a layer has no more.
-const LINKS: usize = 32768;
 
 // No bucket has a history yet.
-fn no_buckets() -> [u16; BUCKETS]
-    ensures { λ r. ⌜ r ≡ replicate 8161 0 ⌝ }
+fn no_buckets() -> [u16; Limits::BUCKETS]
+    ensures { λ r. ⌜ r ≡ replicate bucketCount 0 ⌝ }
 {
-    [0; BUCKETS]
+    [0; Limits::BUCKETS]
 }
 
-fn no_links() -> [u16; LINKS]
-    ensures { λ r. ⌜ r ≡ replicate 32768 0 ⌝ }
+fn no_links() -> [u16; Limits::LINKS]
+    ensures { λ r. ⌜ r ≡ replicate linkCount 0 ⌝ }
 {
-    [0; LINKS]
+    [0; Limits::LINKS]
 }
 
 // The hash of h's row.
@@ -69,7 +78,7 @@ fn row_hash(scratch: &[u16], layer: Layer, h: usize) -> usize
     let fan = layer.fan;
     let mut hash: usize = 0;
     for w in 0..fan {
-        hash = (hash * 769 + entry(scratch, layer, h * fan + w)) % BUCKETS;
+        hash = (hash * Limits::FACTOR + entry(scratch, layer, h * fan + w)) % Limits::BUCKETS;
     }
     hash
 }

@@ -1,11 +1,11 @@
 -- `report::append_table` meets its contract: the lines are those of the table, and few enough.
 -- Assumes nothing.
 use mathlib.Core.Path.{_≡_, ap}
-use Prim.Native.Nat.{ℕ, _+_, _*_, _≤_}
+use Prim.Native.Nat.{ℕ, _+_, _≤_}
 use Prim.Native.Char.{code}
 use native.Mathlib.Omega.{arith}
 use denote.Ref.{now}
-use lib.ListN.{length}
+use Rattle.sizes.specs.Limits.{mostFrames}
 use Rattle.sizes.specs.Sizes.{frames}
 use Rattle.sizes.specs.declared.Sizes.{Sizes}
 use Rattle.table.proofs.Offsets.{arrays-stand}
@@ -15,14 +15,15 @@ use borrow.Author.Needs.{needs}
 use Rattle.report.proofs.append_table.Statement.{statement}
 use Rattle.report.proofs.append_table.Tie as tie
 
--- the layers are at most 17, and their counts stand in the table
-few : (c : tie.After-read) → (c .read .result .frames ≡ frames (now (c .before .before .before .args .table)))
-    × (c .read .result .frames ≤ 16)
-    × (8 + 2 * c .read .result .frames ≤ length (now (c .before .before .before .args .table)))
+-- the entry of the function, and its frames, of which there are few
+abbrev start : tie.After-read → tie.Start
+start c = c .before .before .before
+
+few : (c : tie.After-read) → (c .read .result .frames ≡ frames (now (start c .args .table))) × (c .read .result .frames ≤ mostFrames)
 few c =
-    let a = c .before .before .before in
+    let a = start c in
     let e : c .read .result .frames ≡ frames (now (a .args .table)) = ap (λ (s : Sizes). s .frames) (c .read .ensures) in
-    (e, omega (arith, a .pre .1 .sized), omega (arith, a .pre .1 .whole, arrays-stand (now (a .args .table))))
+    (e, omega (arith, a .pre .1 .sized))
 
 read-requires : tie.Need-read-requires
 read-requires c κs = omega (arith, arrays-stand (now (c .before .before .args .table)), c .before .before .pre .1 .whole)
@@ -37,10 +38,14 @@ append-requires : tie.Need-append-requires
 append-requires c κs = search needs
 
 append-layers-requires : tie.Need-append-layers-requires
-append-layers-requires c κs = omega (arith, few (c .before .before .before .before .before .before .before))
+append-layers-requires c κs =
+    let r = c .before .before .before .before .before .before .before in
+    ((start r .pre .1, omega (arith, few r)), omega (arith, few r))
 
 states-below-requires : tie.Need-states-below-requires
-states-below-requires c κs = omega (arith, few (c .before .before .before .before .before .before .before .before .before .before .before))
+states-below-requires c κs =
+    let r = c .before .before .before .before .before .before .before .before .before .before .before in
+    (start r .pre .1, omega (arith, few r))
 
 append-total-requires : tie.Need-append-total-requires
 append-total-requires c κs =

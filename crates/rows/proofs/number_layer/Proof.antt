@@ -9,6 +9,7 @@ use native.Mathlib.Omega.{arith}
 use denote.Ref.{now}
 use lib.ListN.{length, getD}
 use Rattle.layered.specs.Search.{tally}
+use Rattle.rows.specs.Limits.{bucketCount}
 use Rattle.rows.specs.Rows.{outIn, nextIn, firstWith, rowCount, numbered}
 use Rattle.rows.specs.Buckets.{rowHash, bucket, Linked}
 use Rattle.rows.specs.declared.Layer.{Layer}
@@ -59,7 +60,7 @@ hashed : (c : tie.After-row-hash Inv-loop μ-loop) → let l = c .before .before
     c .row-hash .result ≡ rowHash (fan l) (out l) (next l) (l .loop .h)
 hashed c = let l = c .before .before .before in c .row-hash .ensures ∙ same (c .before .before) (λ o n. rowHash (fan l) o n (l .loop .h))
 
-hash-small : (c : tie.After-row-hash Inv-loop μ-loop) → c .row-hash .result < 8161
+hash-small : (c : tie.After-row-hash Inv-loop μ-loop) → c .row-hash .result < bucketCount
 hash-small c =
     let l = c .before .before .before in
     omega (arith, hashed c, hash-below (fan l) (out l) (next l) (l .loop .h) (fan l))

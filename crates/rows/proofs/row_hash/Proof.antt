@@ -4,6 +4,7 @@ use mathlib.Core.Path.{_≡_, refl}
 use Prim.Native.Nat.{_+_, _*_, _-_, _≤_, _<_}
 use native.Mathlib.Omega.{arith}
 use denote.Ref.{now}
+use Rattle.rows.specs.Limits.{bucketCount}
 use Rattle.rows.specs.Rows.{outIn, nextIn}
 use Rattle.rows.specs.Buckets.{hashTo}
 use Rattle.rows.proofs.Laws.{entry-in}
@@ -27,7 +28,7 @@ inside : (c : tie.In-loop Inv-loop μ-loop)
 inside c = entry-in {n = start c .args .layer .size} (start c .pre .1) (omega arith)
 
 -- the hash so far is small
-small : (c : tie.In-loop Inv-loop μ-loop) → c .before .loop .hash < 8161
+small : (c : tie.In-loop Inv-loop μ-loop) → c .before .loop .hash < bucketCount
 small c =
     let l = start c .args .layer in
     let s = now (start c .args .scratch) in
