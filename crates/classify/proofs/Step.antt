@@ -36,7 +36,7 @@ unfolding allInputs
 half-is b = pow-mul 2 (inputs b) (frames b)
 
 -- a layer below T has at most 32,768 histories
-pub few-histories : (b : List ℕ) → CircuitHeaded b → (t : ℕ) → t < frames b → (2 ^ inputs b) ^ t ≤ 32768
+few-histories : (b : List ℕ) → CircuitHeaded b → (t : ℕ) → t < frames b → (2 ^ inputs b) ^ t ≤ 32768
 few-histories b H t h =
     rw (← pow-mul 2 (inputs b) t)
     (pow-mono {j = 15} (omega (arith, mul-suc (inputs b) t, mul-le-mul-left (inputs b) h, H .sizes .bits-to, H .sizes .inputs-from)))

@@ -19,7 +19,7 @@ pub struct Plan {
 }
 
 // Where the numbers of the histories of t words begin.
-pub fn layer_at(inputs: usize, t: usize) -> usize
+fn layer_at(inputs: usize, t: usize) -> usize
     requires { ⌜ (1 ≤ inputs) × (inputs * t ≤ mostBits) ⌝ }
     ensures { λ r. ⌜ r ≡ layerAt (2 ^ inputs) t ⌝ }
 {

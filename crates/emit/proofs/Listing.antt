@@ -37,7 +37,7 @@ module _ (layer : Layer) (s₀ s : List ℕ) (P : Placed s₀ layer) where
   placed-kept e = record { own-before = P .own-before; nexts-before = P .nexts-before; responses-in = omega (arith, P .responses-in); small = P .small }
 
   -- an entry depends on the half alone
-  pub entry-kept : (nexts : Bool) (i : ℕ) → take (layer .responses) s ≡ take (layer .responses) s₀ → i < layer .size * layer .fan
+  entry-kept : (nexts : Bool) (i : ℕ) → take (layer .responses) s ≡ take (layer .responses) s₀ → i < layer .size * layer .fan
       → listedEntry s layer nexts i ≡ listedEntry s₀ layer nexts i
   entry-kept nexts i e h = ap (λ n. cond nexts n i) (go (layer .last) refl)
     where
@@ -47,28 +47,28 @@ module _ (layer : Layer) (s₀ s : List ℕ) (P : Placed s₀ layer) where
           let b : layer .nexts + layer .size * layer .fan ≤ layer .responses = subst (λ l. layer .nexts + cond l 0 (layer .size * layer .fan) ≤ layer .responses) q (P .nexts-before) in
           same-front (layer .responses) s₀ s e (layer .nexts + i) (omega arith)
 
-  pub row-kept : (nexts : Bool) (h : ℕ) → take (layer .responses) s ≡ take (layer .responses) s₀ → h < layer .size → listedRow s layer nexts h ≡ listedRow s₀ layer nexts h
+  row-kept : (nexts : Bool) (h : ℕ) → take (layer .responses) s ≡ take (layer .responses) s₀ → h < layer .size → listedRow s layer nexts h ≡ listedRow s₀ layer nexts h
   unfolding listedRow
   row-kept nexts h e l =
       tabulate-cong (layer .fan) _ _ (λ w k. entry-kept nexts (h * layer .fan + w) e (entry-in (layer .fan) (layer .size) h w l k))
 
 -- a list pasted from `at` on leaves what stands before it
-pub paste-front : (n : ℕ) (d : List ℕ) (at : ℕ) (s : List ℕ) (k : ℕ) → n ≤ at → at ≤ length d → take n (paste d at s k) ≡ take n d
+paste-front : (n : ℕ) (d : List ℕ) (at : ℕ) (s : List ℕ) (k : ℕ) → n ≤ at → at ≤ length d → take n (paste d at s k) ≡ take n d
 paste-front n d at s k h l =
     let m : length (take at d) ≡ at = length-take-le at d l in
     ap (take n) (append-assoc (take at d) (take k s) (drop (at + k) d)) ∙ take-append-le n (take at d) _ (omega arith) ∙ take-take n at d h
 
 module _ (s : List ℕ) (layer : Layer) (nexts : Bool) where
-  pub row-long : (h : ℕ) → length (listedRow s layer nexts h) ≡ layer .fan
+  row-long : (h : ℕ) → length (listedRow s layer nexts h) ≡ layer .fan
   unfolding listedRow
   row-long h = tabulate-length (layer .fan) _
 
-  pub new-tally : (h : ℕ) → newNumbers s (layer .at) h ≡ tally h (isNew s (layer .at))
+  new-tally : (h : ℕ) → newNumbers s (layer .at) h ≡ tally h (isNew s (layer .at))
   unfolding newNumbers tally
   new-tally zero = refl
   new-tally (suc h) = ap (λ n. cond (isNew s (layer .at) h) 1 0 + n) (new-tally h)
 
-  pub listed-long : (h : ℕ) → length (listedLayer s layer nexts h) ≡ newNumbers s (layer .at) h * layer .fan
+  listed-long : (h : ℕ) → length (listedLayer s layer nexts h) ≡ newNumbers s (layer .at) h * layer .fan
   unfolding listedLayer
   listed-long h = joined-length (isNew s (layer .at)) (listedRow s layer nexts) (layer .fan) row-long h ∙ ap (λ n. n * layer .fan) (sym (new-tally h))
 
@@ -189,7 +189,7 @@ module _ (b : List ℕ) (t : ℕ) (bt : t < frames b) (layer : Layer) (L : Layer
         ∙ ap (λ k. join k (λ w. f (listedEntry s layer nexts (h * k + w)) ∷ [])) (L .fan-is)
         ∙ join-cong (2 ^ inputs b) _ _ (λ w k. ap (λ x. x ∷ []) (entry-is (h * 2 ^ inputs b + w) (digit-below t l k)))
 
-    pub listed-words : map f (listedLayer s layer nexts (layer .size)) ≡ layerWords b nexts t
+    listed-words : map f (listedLayer s layer nexts (layer .size)) ≡ layerWords b nexts t
     unfolding listedLayer layerWords
     listed-words =
         map-join f (layer .size) _

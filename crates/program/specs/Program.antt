@@ -3,7 +3,6 @@ use Prim.Native.Nat.{ℕ}
 use mathlib.Core.Bool.{cond}
 use mathlib.Core.List.{List}
 use lib.Dec.{eqb}
-use Rattle.verdict.specs.declared.Figures.{Figures}
 use Rattle.folded.specs.Folded.{foldedBytes, foldChecked}
 use Rattle.report.specs.Report.{tableLines, refusalLine}
 

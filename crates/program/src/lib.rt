@@ -16,9 +16,9 @@ pub struct Limits;
 impl Limits {
     pub const INPUT: usize = 16393;
 
-    pub const SCRATCH: usize = 8192;
+    const SCRATCH: usize = 8192;
 
-    pub const RESULT: usize = 24576;
+    const RESULT: usize = 24576;
 }
 
 // Puts the lines for an input at the start of `out`, and answers how many bytes they are.

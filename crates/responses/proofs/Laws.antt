@@ -1,7 +1,7 @@
 -- Laws of a list that is replaced part by part, of the responses that are packed from lanes, and of a list that is filled with responses. Assumes nothing.
 use mathlib.Core.Path.{_≡_, refl, sym, ap, ap₂, _∙_}
 use mathlib.Core.List.{List, [], _∷_, _++_, map, map-append, append-nil, append-assoc}
-use Prim.Native.Nat.{ℕ, zero, suc, _+_, _*_, _-_, _%_, _^_, _≤_, _<_}
+use Prim.Native.Nat.{ℕ, zero, suc, _+_, _*_, _-_, _^_, _≤_, _<_}
 use native.Mathlib.Nat.{mul-le-mul-left}
 use native.Mathlib.Numerals.{add-one}
 use native.Mathlib.Omega.{arith}
@@ -10,7 +10,6 @@ use lib.Pow.{pow-mono}
 use lib.Seq.{take-suc, take-length, take-all, take-add, drop-drop, length-take-le, length-front, take-suc-set, take-at, drop-at}
 use Rattle.circuit.specs.Limits.{mostSignals}
 use Rattle.sizes.specs.Sizes.{inputs, outputs, frames}
-use Rattle.sizes.proofs.Laws.{power-is}
 use Rattle.layered.specs.Search.{join, tabulate}
 use Rattle.layered.proofs.Rows.{pow-mul}
 use Rattle.circuit.specs.Lists.{grown, listed, packed}

@@ -19,12 +19,12 @@ use Rattle.rows.specs.declared.Layer.{Layer}
 
 -- ---- the least of which a test holds
 
-pub least-is : (n g : ℕ) (p : ℕ → Bool) → g ≤ n → T (p g) → ((k : ℕ) → k < g → T (p k) → ⊥) → least n p ≡ g
+least-is : (n g : ℕ) (p : ℕ → Bool) → g ≤ n → T (p g) → ((k : ℕ) → k < g → T (p k) → ⊥) → least n p ≡ g
 least-is n g p l t none =
     let f = least-finds n g p l t in
     ⊎-elim (λ (e : least n p ≡ g). e) (λ (b : least n p < g). absurd (none (least n p) b (f .0))) (eq-or-lt-of-le (f .1))
 
-pub least-none : (n : ℕ) (p : ℕ → Bool) → ((k : ℕ) → k < n → T (p k) → ⊥) → least n p ≡ n
+least-none : (n : ℕ) (p : ℕ → Bool) → ((k : ℕ) → k < n → T (p k) → ⊥) → least n p ≡ n
 unfolding least
 least-none zero p none = refl
 least-none (suc n) p none = go (p zero) (none zero (suc-le-suc zero-le)) (least-none n (λ i. p (suc i)) (λ k l. none (suc k) (suc-le-suc l)))
@@ -33,7 +33,7 @@ least-none (suc n) p none = go (p zero) (none zero (suc-le-suc zero-le)) (least-
     go true f e = absurd (f tt)
     go false f e = ap suc e
 
-pub least-holds : (n : ℕ) (p : ℕ → Bool) → least n p < n → T (p (least n p))
+least-holds : (n : ℕ) (p : ℕ → Bool) → least n p < n → T (p (least n p))
 least-holds n p l =
     ⊎-elim (λ (w : (i : ℕ) × (i < n) × T (p i)). least-finds n (w .0) p (omega arith) (w .2) .0)
     (λ (none : (i : ℕ) → i < n → T (p i) → ⊥). absurd (omega (arith, least-none n p none)))
@@ -108,7 +108,7 @@ module _ (K : ℕ) (out next : ℕ → ℕ) where
       (eq-or-lt-of-le (first-le h))
 
   -- a history after the first with its row has that one's number, and adds none
-  pub later-number : (g h : ℕ) → g ≡ firstWith K out next h → g < h → (rowNumber K out next h ≡ rowNumber K out next g) × (rowCount K out next (suc h) ≡ rowCount K out next h)
+  later-number : (g h : ℕ) → g ≡ firstWith K out next h → g < h → (rowNumber K out next h ≡ rowNumber K out next g) × (rowCount K out next (suc h) ≡ rowCount K out next h)
   unfolding rowNumber rowCount isFirst
   later-number g h e l = (
     ap (λ k. tally k (isFirst K out next)) (sym e ∙ first-first g h e l),
@@ -116,7 +116,7 @@ module _ (K : ℕ) (out next : ℕ → ℕ) where
   )
 
   -- a history with a new row has the next number
-  pub new-number : (h : ℕ) → h ≡ firstWith K out next h → (rowNumber K out next h ≡ rowCount K out next h) × (rowCount K out next (suc h) ≡ suc (rowCount K out next h))
+  new-number : (h : ℕ) → h ≡ firstWith K out next h → (rowNumber K out next h ≡ rowCount K out next h) × (rowCount K out next (suc h) ≡ suc (rowCount K out next h))
   unfolding rowNumber rowCount isFirst
   new-number h e = (ap (λ g. tally g (isFirst K out next)) (sym e), tally-more (isFirst K out next) h (eq-eqb (sym e)))
 
@@ -173,14 +173,14 @@ module _ (s : List ℕ) (layer : Layer) (P : Placed s layer) where
       ∙ getD-drop (layer .at + h) s (j - (at + h)) 0
       ∙ ap (λ i. getD s i 0) q
 
-  pub out-kept : (h : ℕ) → h ≤ layer .size → outIn (numberedTo s layer h) layer ≡ outIn s layer
+  out-kept : (h : ℕ) → h ≤ layer .size → outIn (numberedTo s layer h) layer ≡ outIn s layer
   out-kept h l = fun-ext λ i. behind h (layer .responses + i) l (omega arith)
 
-  pub next-kept : (h : ℕ) → h ≤ layer .size → nextIn (numberedTo s layer h) layer ≡ nextIn s layer
+  next-kept : (h : ℕ) → h ≤ layer .size → nextIn (numberedTo s layer h) layer ≡ nextIn s layer
   next-kept h l = fun-ext λ i. ap (cond (layer .last) 0) (behind h (layer .nexts + i) l (omega arith))
 
   -- one number more
-  pub numbered-more : (h x : ℕ) → h < layer .size → x ≡ rowNumber (layer .fan) (outIn s layer) (nextIn s layer) h
+  numbered-more : (h x : ℕ) → h < layer .size → x ≡ rowNumber (layer .fan) (outIn s layer) (nextIn s layer) h
       → set (numberedTo s layer h) (layer .at + h) x ≡ numberedTo s layer (h + 1)
   unfolding numberedTo at numbers tabulate join
   numbered-more h x l e =

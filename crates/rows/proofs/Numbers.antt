@@ -31,7 +31,7 @@ module _ (K T : ℕ) (y : ℕ → ℕ → ℕ) (t : ℕ) (b : t < T) (out next :
   unfolding firstWith
   first-smallest h l = least-cong h _ _ (λ g k. equal-same g h (omega arith) l) ∙ sym (rows K T y .smallest-by-rows t h b)
 
-  pub is-first : (h : ℕ) → h < K ^ t → isFirst K out next h ≡ first K T y t h
+  is-first : (h : ℕ) → h < K ^ t → isFirst K out next h ≡ first K T y t h
   unfolding isFirst first
   is-first h l = ap (λ (g : ℕ). eqb g h) (first-smallest h l)
 

@@ -9,12 +9,11 @@ use borrow.Author.Tests.{not-true, not-false}
 use denote.Ref.{now}
 use lib.ListN.{length, take, length-map}
 use borrow.Rule.Slice.PartMut.{postOf}
-use Rattle.sizes.specs.Sizes.{inputs, frames}
+use Rattle.sizes.specs.Sizes.{inputs}
 use Rattle.circuit.specs.Circuit.{allInputs}
 use Rattle.circuit.specs.Theorems.{response}
-use Rattle.classify.specs.Classified.{LayerOf}
 use Rattle.classify.proofs.Layers.{power-fits}
-use Rattle.classify.proofs.Step.{half-is, bits-fit, layer-asked, layer-told, placed, entries}
+use Rattle.classify.proofs.Step.{half-is, bits-fit, placed, entries}
 use Rattle.emit.specs.Listed.{listedLayer}
 use Rattle.emit.proofs.Laws.{layer-length}
 use Rattle.emit.proofs.Listing.{reaches, nexts-listed, outputs-listed, replaced}
