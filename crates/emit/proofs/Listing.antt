@@ -6,6 +6,7 @@ use Prim.Native.Nat.{ℕ, zero, suc, _+_, _*_, _^_, _≤_, _<_}
 use native.Mathlib.Nat.{le-of-lt, suc-mul, mul-le-mul-right}
 use native.Mathlib.Numerals.{add-one}
 use native.Mathlib.Omega.{arith}
+use lib.Arith.{digits-lt}
 use lib.Dec.{T, eqb→eq}
 use lib.ListN.{length, getD, take, drop, set, length-append, length-take, length-map}
 use lib.Seq.{paste, length-take-le, take-append-le, take-take, take-all, take-add, take-at, take-paste, length-paste, paste-suc}
@@ -27,10 +28,6 @@ use Rattle.emit.proofs.Laws.{joined-more, joined-none, joined-length, s
 
 -- ---- what is read while a row is listed
 
--- word w of history h is one of the entries
-pub entry-in : (K n h w : ℕ) → h < n → w < K → h * K + w < n * K
-entry-in K n h w l k = omega (arith, suc-mul h K, mul-le-mul-right K l)
-
 module _ (layer : Layer) (s₀ s : List ℕ) (P : Placed s₀ layer) where
   -- places depend on the length alone
   pub placed-kept : length s ≡ length s₀ → Placed s layer
@@ -50,7 +47,7 @@ module _ (layer : Layer) (s₀ s : List ℕ) (P : Placed s₀ layer) where
   row-kept : (nexts : Bool) (h : ℕ) → take (layer .responses) s ≡ take (layer .responses) s₀ → h < layer .size → listedRow s layer nexts h ≡ listedRow s₀ layer nexts h
   unfolding listedRow
   row-kept nexts h e l =
-      tabulate-cong (layer .fan) _ _ (λ w k. entry-kept nexts (h * layer .fan + w) e (entry-in (layer .fan) (layer .size) h w l k))
+      tabulate-cong (layer .fan) _ _ (λ w k. entry-kept nexts (h * layer .fan + w) e (digits-lt l k))
 
 -- a list pasted from `at` on leaves what stands before it
 paste-front : (n : ℕ) (d : List ℕ) (at : ℕ) (s : List ℕ) (k : ℕ) → n ≤ at → at ≤ length d → take n (paste d at s k) ≡ take n d
@@ -95,7 +92,7 @@ module _ (layer : Layer) (nexts : Bool) (s₀ s : List ℕ) (h at w : ℕ) (e : 
       let row : List ℕ = listedRow s₀ layer nexts h in
       let kept : take (layer .responses) s ≡ take (layer .responses) s₀ = ap (take (layer .responses)) e ∙ paste-front (layer .responses) s₀ at row w a (omega arith) in
       let entry : x ≡ getD row w 0 =
-      ex ∙ entry-kept layer s₀ s P nexts (h * layer .fan + w) kept (entry-in (layer .fan) (layer .size) h w l k) ∙ sym (tabulate-at (layer .fan) w _ k) in
+      ex ∙ entry-kept layer s₀ s P nexts (h * layer .fan + w) kept (digits-lt l k) ∙ sym (tabulate-at (layer .fan) w _ k) in
       ap₂ (λ (r : List ℕ) (x : ℕ). set r (at + w) x) e entry
       ∙ paste-suc s₀ at row w 0 (omega arith) (omega (arith, row-long s₀ layer nexts h))
       ∙ ap (paste s₀ at row) (sym (add-one w))

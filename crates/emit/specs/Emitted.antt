@@ -17,8 +17,8 @@ unfoldable pub rowWords : (b : List ℕ) (nexts : Bool) (t h : ℕ) → List ℕ
 rowWords b nexts t h = tabulate (2 ^ inputs b) (λ w. entryOf b nexts t (h * 2 ^ inputs b + w))
 
 -- how many entries layer t has
-abbrev pub entryCount : List ℕ → (t : ℕ) → ℕ
-entryCount b t = stateCount b t * 2 ^ inputs b
+abbrev pub layerEntries : List ℕ → (t : ℕ) → ℕ
+layerEntries b t = stateCount b t * 2 ^ inputs b
 
 -- the rows of the histories of layer t that are the smallest of their class
 unfoldable pub layerWords : (b : List ℕ) (nexts : Bool) (t : ℕ) → List ℕ

@@ -19,7 +19,7 @@ ghost use Rattle.sizes.specs.Sizes.{inputs, frames};
 ghost use Rattle.circuit.specs.WellFormed.{WellFormed};
 ghost use Rattle.rows.specs.Rows.{Placed};
 ghost use Rattle.classify.specs.Classified.{historyCount, LayerOf, Known, Counted};
-ghost use Rattle.emit.specs.Emitted.{entryCount, layerWords, arrayWords, allWords};
+ghost use Rattle.emit.specs.Emitted.{layerEntries, layerWords, arrayWords, allWords};
 ghost use Rattle.emit.specs.Listed.{listedEntry, listedRow, listedLayer};
 
 // What is listed of a layer: its next states, or its outputs.
@@ -90,7 +90,7 @@ fn list_entries(circuit: &[u8], head: Head, scratch: &mut [u16], column: Column,
     requires { ⌜ Known (now circuit) (now scratch) 0 × (t < frames (now circuit)) ⌝ }
     requires { ⌜ LayerOf (2 ^ inputs (now circuit)) (frames (now circuit)) t (column .layer) ⌝ }
     ensures entries { λ r. ⌜ take (historyCount (now (circuit .entry)) + r) (now (scratch .exit)) ≡ take (historyCount (now (circuit .entry))) (now (scratch .entry)) ++ layerWords (now (circuit .entry)) (column .nexts) t ⌝ }
-    ensures count { λ r. ⌜ r ≡ entryCount (now (circuit .entry)) t ⌝ }
+    ensures count { λ r. ⌜ r ≡ layerEntries (now (circuit .entry)) t ⌝ }
 {
     let count = list_layer(scratch, column);
     if !column.nexts {
@@ -112,10 +112,10 @@ fn put_layer(
 ) -> usize
     requires { ⌜ WellFormed (now circuit) head ⌝ }
     requires { ⌜ length (now scratch) ≡ 2 * historyCount (now circuit) ⌝ }
-    requires { ⌜ Known (now circuit) (now scratch) 0 × (t < frames (now circuit)) × (array .at + 2 * entryCount (now circuit) t ≤ length (now result)) ⌝ }
+    requires { ⌜ Known (now circuit) (now scratch) 0 × (t < frames (now circuit)) × (array .at + 2 * layerEntries (now circuit) t ≤ length (now result)) ⌝ }
     ensures kept { λ _. ⌜ take (historyCount (now (circuit .entry))) (now (scratch .exit)) ≡ take (historyCount (now (circuit .entry))) (now (scratch .entry)) ⌝ }
     ensures rows { λ _. ⌜ now (result .exit) ≡ stored 2 (now (result .entry)) (array .at) (layerWords (now (circuit .entry)) (array .nexts) t) ⌝ }
-    ensures end { λ r. ⌜ r ≡ array .at + 2 * entryCount (now (circuit .entry)) t ⌝ }
+    ensures end { λ r. ⌜ r ≡ array .at + 2 * layerEntries (now (circuit .entry)) t ⌝ }
 {
     let layer = layer_of(head, t);
     let half = layer.responses;

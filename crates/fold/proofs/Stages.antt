@@ -46,7 +46,7 @@ pub promises : (b s r : List ℕ) (f : Figures) (s′ r′ : List ℕ) → Outco
     → (f ≡ foldChecked b (length s) (length r)) × ((r′ ≡ foldResult b (length s) r) × ((s′ ≡ foldScratch b s (length r)) × Promised b f r′))
 unfolding Promised Foldings
 promises b s r f s′ r′ O =
-    (O .answered, (O .result-left, (O .scratch-left, λ p e. rw (O .result-left) (foldings b r (length s) p (sym (O .answered) ∙ e)))))
+    (O .figures-are, (O .result-left, (O .scratch-left, λ p e. rw (O .result-left) (foldings b r (length s) p (sym (O .figures-are) ∙ e)))))
 
 -- ---- the part of the scratch that is needed, its first k numbers, lent to the last stage
 
@@ -73,7 +73,7 @@ module _ (b s r : List ℕ) (C : checked b .number ≡ 0) (k : ℕ) (needed : k 
       → z ≡ replicate (length (take k s)) 0 → Outcome b s r f (z ++ drop k s) r′
   unfolding foldResult
   last-stage f z r′ ef er ez = record {
-    answered = ef ∙ same-answer;
+    figures-are = ef ∙ same-answer;
     scratch-left = ap (λ (z : List ℕ). z ++ drop k s) (ez ∙ ap (λ (n : ℕ). replicate n 0) part-length) ∙ ap (λ (k : ℕ). replicate k 0 ++ drop k s) needed ∙ ends-cleared;
     result-left = er ∙ ap (λ (f : Figures). resultAfter f (foldedBytes b) r) same-answer;
   }

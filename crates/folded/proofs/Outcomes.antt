@@ -112,7 +112,7 @@ written-bytes b before room p e =
 
 -- of a circuit b, scratch and result before, the answer f, scratch and result after
 pub record Outcome (b scratch result : List ℕ) (f : Figures) (scratch′ result′ : List ℕ) : Type 0 where
-  pub answered : f ≡ foldChecked b (length scratch) (length result)
+  pub figures-are : f ≡ foldChecked b (length scratch) (length result)
   pub scratch-left : scratch′ ≡ foldScratch b scratch (length result)
   pub result-left : result′ ≡ foldResult b (length scratch) result
 
@@ -133,7 +133,7 @@ circuit-refused b scratch result x r e q =
     let a = circuit-answer b (length scratch) (length result) x r e q in
     let n₀ : eqb (f .number) 0 ≡ false = ne-eqb (f .number) 0 (λ z. never r (f .place) (sym (ap figures q) ∙ ap (λ n. answer n (f .place)) z)) in
     let n₇ : eqb (f .number) 7 ≡ false = ne-eqb (f .number) 7 (λ z. omega (arith, circuit-number b, ap (λ (f : Figures). f .number) e)) in
-    record { answered = a; scratch-left = rw (← a, n₀, n₇); result-left = rw (← a, n₀) }
+    record { figures-are = a; scratch-left = rw (← a, n₀, n₇); result-left = rw (← a, n₀) }
 
 module _ (b scratch result : List ℕ) (p : ℕ) (C : checked b ≡ answer 0 p) where
   -- 6: nothing changes
@@ -143,7 +143,7 @@ module _ (b scratch result : List ℕ) (p : ℕ) (C : checked b ≡ answer 0 p) 
 
   pub scratch-refused : length scratch < scratchNeeded b → Outcome b scratch result (answer 6 (scratchNeeded b)) scratch result
   unfolding foldScratch foldResult
-  scratch-refused l = let a = scratch-answer l in record { answered = a; scratch-left = rw (← a); result-left = rw (← a) }
+  scratch-refused l = let a = scratch-answer l in record { figures-are = a; scratch-left = rw (← a); result-left = rw (← a) }
 
   module _ (S : scratchNeeded b ≤ length scratch) where
     -- 7: the needed scratch is zero
@@ -153,7 +153,7 @@ module _ (b scratch result : List ℕ) (p : ℕ) (C : checked b ≡ answer 0 p) 
 
     pub room-refused : length result < length (foldedBytes b) → Outcome b scratch result (answer 7 (length (foldedBytes b))) (cleared b scratch) result
     unfolding foldScratch foldResult
-    room-refused l = let a = room-answer l in record { answered = a; scratch-left = rw (← a); result-left = rw (← a) }
+    room-refused l = let a = room-answer l in record { figures-are = a; scratch-left = rw (← a); result-left = rw (← a) }
 
     -- accepted: the bytes are written, and the needed scratch is zero
     folded-answer : length (foldedBytes b) ≤ length result → answer 0 (length (foldedBytes b)) ≡ foldChecked b (length scratch) (length result)
@@ -163,4 +163,4 @@ module _ (b scratch result : List ℕ) (p : ℕ) (C : checked b ≡ answer 0 p) 
     pub folded-accepted : length (foldedBytes b) ≤ length result
         → Outcome b scratch result (answer 0 (length (foldedBytes b))) (cleared b scratch) (foldedBytes b ++ drop (length (foldedBytes b)) result)
     unfolding foldScratch foldResult
-    folded-accepted l = let a = folded-answer l in record { answered = a; scratch-left = rw (← a); result-left = rw (← a) }
+    folded-accepted l = let a = folded-answer l in record { figures-are = a; scratch-left = rw (← a); result-left = rw (← a) }

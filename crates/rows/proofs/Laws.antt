@@ -7,7 +7,6 @@ use Prim.Native.Nat.{ℕ, zero, suc, _+_, _*_, _-_, _≤_, _<_, zero-le, suc-le-
 use native.Mathlib.Nat.{eq-or-lt-of-le}
 use native.Mathlib.Numerals.{add-one}
 use native.Mathlib.Omega.{arith}
-use lib.Arith.{digits-lt}
 use lib.Dec.{T, eqb, eqb→eq}
 use lib.ListN.{length, getD, take, drop, set, length-append, length-take, length-drop, take-append-drop, List·getD-append}
 use lib.Seq.{getD-drop, getD-append-add, drop-cons, set-at}
@@ -40,10 +39,6 @@ least-holds n p l =
     (search-below n p)
 
 -- ---- rows
-
--- entry h * K + w of history h below n is one of n * K
-pub entry-in : {h n w K : ℕ} → h < n → w < K → h * K + w < n * K
-entry-in l k = digits-lt l k
 
 module _ (K : ℕ) (out next : ℕ → ℕ) where
   -- the entries of g and h for the word w are the same

@@ -4,10 +4,11 @@ use mathlib.Core.Path.{_≡_, ap, _∙_}
 use Prim.Native.Nat.{_+_, _*_, _-_, _≤_, _<_}
 use native.Mathlib.Omega.{arith}
 use denote.Ref.{now}
+use lib.Arith.{digits-lt}
 use lib.ListN.{length}
 use lib.Seq.{paste, paste-zero}
 use Rattle.emit.specs.Listed.{listedRow}
-use Rattle.emit.proofs.Listing.{placed-kept, entry-in, entry-more, row-length}
+use Rattle.emit.proofs.Listing.{placed-kept, entry-more, row-length}
 use Rattle.emit.proofs.list_row.Statement.{statement}
 use Rattle.emit.proofs.list_row.Tie as tie
 
@@ -32,7 +33,7 @@ len l =
 -- in a turn: the entry is one of the layer's
 within : (i : tie.In-loop Inv-loop μ-loop)
     → start (i .before) .args .h * start (i .before) .args .column .layer .fan + i .before .loop .w < start (i .before) .args .column .layer .size * start (i .before) .args .column .layer .fan
-within i = let a = start (i .before) in entry-in (a .args .column .layer .fan) (a .args .column .layer .size) (a .args .h) (i .before .loop .w) (a .pre .1 .0) (i .loop-test .taken)
+within i = let a = start (i .before) in digits-lt (a .pre .1 .0) (i .loop-test .taken)
 
 mul-listed-entry : tie.Need-mul-listed-entry Inv-loop μ-loop
 mul-listed-entry c = let i = c .before in omega (arith, within i, start (i .before) .pre .1)

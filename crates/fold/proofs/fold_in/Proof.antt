@@ -44,7 +44,7 @@ returns c =
     let a = start n in
     let o =
     too-short (now (a .args .circuit)) (now (a .args .scratch)) (now (a .args .result)) (a .pre .1 .0) (omega (arith, a .pre .1 .1)) (n .bytes-needed .result) (n .bytes-needed .ensures) (omega (arith, e .if1 .taken)) in
-    (o .answered, (o .result-left, z .clear .ensures ∙ ap (λ (n : ℕ). replicate n 0) (classified n .classify .kept .1 .1 .0)))
+    (o .figures-are, (o .result-left, z .clear .ensures ∙ ap (λ (n : ℕ). replicate n 0) (classified n .classify .kept .1 .1 .0)))
 
 write-table-requires : tie.Need-write-table-requires
 write-table-requires c κs =
@@ -69,7 +69,7 @@ returns-2 c =
     let a = start n in
     let o =
     enough (now (a .args .circuit)) (now (a .args .scratch)) (now (a .args .result)) (a .pre .1 .0) (omega (arith, a .pre .1 .1)) (n .bytes-needed .result) (n .bytes-needed .ensures) (e .if1 .left) _ (w .write-table .ensures .0) in
-    (o .answered, (o .result-left, w .write-table .ensures .1 ∙ ap (λ (n : ℕ). replicate n 0) (classified n .classify .kept .1 .1 .0)))
+    (o .figures-are, (o .result-left, w .write-table .ensures .1 ∙ ap (λ (n : ℕ). replicate n 0) (classified n .classify .kept .1 .1 .0)))
 
 pub fold-in-spec : {M : Type 1} → statement M
 fold-in-spec =

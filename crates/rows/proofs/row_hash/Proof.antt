@@ -4,10 +4,10 @@ use mathlib.Core.Path.{_≡_, refl}
 use Prim.Native.Nat.{_+_, _*_, _-_, _≤_, _<_}
 use native.Mathlib.Omega.{arith}
 use denote.Ref.{now}
+use lib.Arith.{digits-lt}
 use Rattle.rows.specs.Limits.{bucketCount}
 use Rattle.rows.specs.Rows.{outIn, nextIn}
 use Rattle.rows.specs.Buckets.{hashTo}
-use Rattle.rows.proofs.Laws.{entry-in}
 use Rattle.rows.proofs.Buckets.{hash-below, hash-more}
 use Rattle.rows.proofs.row_hash.Statement.{statement}
 use Rattle.rows.proofs.row_hash.Tie as tie
@@ -25,7 +25,7 @@ start c = c .before .before .before
 -- the entry that is read is the layer's
 inside : (c : tie.In-loop Inv-loop μ-loop)
     → start c .args .h * start c .args .layer .fan + c .before .loop .w < start c .args .layer .size * start c .args .layer .fan
-inside c = entry-in {n = start c .args .layer .size} (start c .pre .1) (omega arith)
+inside c = digits-lt {m = start c .args .layer .size} (start c .pre .1) (omega arith)
 
 -- the hash so far is small
 small : (c : tie.In-loop Inv-loop μ-loop) → c .before .loop .hash < bucketCount

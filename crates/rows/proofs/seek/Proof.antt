@@ -5,9 +5,10 @@ use Prim.Native.Nat.{ℕ, _+_, _*_, _-_, _≤_, _<_}
 use native.Mathlib.Nat.{le-refl}
 use native.Mathlib.Numerals.{add-one}
 use native.Mathlib.Omega.{arith}
+use lib.Arith.{digits-lt}
 use Rattle.layered.proofs.Search.{below-suc}
 use Rattle.rows.specs.Rows.{outIn, nextIn}
-use Rattle.rows.proofs.Laws.{Alike, entry-in, entries-row}
+use Rattle.rows.proofs.Laws.{Alike, entries-row}
 use Rattle.rows.proofs.Buckets.{entry-same, entry-differs, Walk, walk-from, walk-ended, walk-falls, walk-on, walk-found}
 use Rattle.rows.proofs.seek.Statement.{statement}
 use Rattle.rows.proofs.seek.Tie as tie
@@ -37,7 +38,7 @@ entries : (c : tie.In-loop Inv-loop μ-loop Inv-earlier μ-earlier)
     × (start (c .before) .args .h * start (c .before) .args .layer .fan + c .before .loop .w < start (c .before) .args .layer .size * start (c .before) .args .layer .fan)
 entries c =
     let a = start (c .before) in
-    (entry-in {n = a .args .layer .size} (omega (arith, a .pre .1 .0, turn (c .before) .before .earlier .inv .below)) (omega arith), entry-in {n = a .args .layer .size} (a .pre .1 .0) (omega arith))
+    (digits-lt {m = a .args .layer .size} (omega (arith, a .pre .1 .0, turn (c .before) .before .earlier .inv .below)) (omega arith), digits-lt {m = a .args .layer .size} (a .pre .1 .0) (omega arith))
 
 earlier-holds : tie.Need-earlier-holds Inv-loop μ-loop Inv-earlier μ-earlier
 earlier-holds c =
