@@ -1,3 +1,2 @@
 -- The proofs of `steps`: laws by subject, lowest first.
 pub mod Steps
-pub mod Runs

@@ -1,29 +1,15 @@
--- A table run on a sequence (document 01's "playing") and stepped.
+-- A table stepped (document 01's "step").
 use Prim.Native.Nat.{ℕ, suc, _^_}
 use mathlib.Core.Bool.{cond, _||_}
 use mathlib.Core.List.{List}
 use lib.Dec.{ltb, leb, eqb}
-use lib.ListN.{length}
-use Rattle.verdict.specs.Judgements.{answer, refusalFigures, refuse, andThen, resultAfter}
+use Rattle.verdict.specs.Judgements.{answer, refusalFigures, refuse, andThen}
 use Rattle.verdict.specs.declared.Figures.{Figures}
-use Rattle.sizes.specs.Sizes.{inputs, outputs, frames, sequenceChecked}
-use Rattle.layered.specs.Machines.{feed}
-use Rattle.table.specs.Table.{states, outputsAt, nextsAt, entryAt, machine, headChecked, checked}
+use Rattle.sizes.specs.Sizes.{inputs, outputs, frames}
+use Rattle.table.specs.Table.{states, outputsAt, nextsAt, entryAt, machine, headChecked}
 use Rattle.steps.specs.declared.Stepped.{Stepped}
 use Rattle.steps.specs.declared.Stepped.the-variants.{Moved, Refused}
 use Rattle.steps.specs.declared.StepFigures.{StepFigures}
-
--- ---- run ("playing")
-
--- the verdict on a run: that on the table, then 12, 9, 7
-unfoldable pub ran : List ℕ → (words : List ℕ) (room : ℕ) → Figures
-ran b words room = andThen (checked b) (sequenceChecked (inputs b) (frames b) words room)
-
--- what the result holds after it: the outputs that the machine yields, fed the words
-unfoldable pub runResult : List ℕ → (words before : List ℕ) → List ℕ
-runResult b words before = resultAfter (ran b words (length before)) (feed (machine b) 0 0 words) before
-
--- ---- step
 
 -- 11: the table has no such position
 unfoldable pub placeChecked : List ℕ → (layer state : ℕ) → Figures

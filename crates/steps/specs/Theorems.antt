@@ -1,20 +1,13 @@
--- What is proved of runs and steps. Each statement is cited by the call that it is about.
+-- What is proved of steps. Each statement is cited by the call that it is about.
 use Prim.Native.Nat.{ℕ, suc, _^_, _<_}
 use mathlib.Core.Path.{_≡_}
 use mathlib.Core.List.{List, [], _∷_, _++_}
-use lib.ListN.{length}
 use Rattle.verdict.specs.Judgements.{answer}
 use Rattle.sizes.specs.Sizes.{inputs, frames}
 use Rattle.layered.specs.States.{Words}
 use Rattle.layered.specs.Machines.{feed, reached}
 use Rattle.table.specs.Table.{machine, checked}
-use Rattle.steps.specs.Steps.{ran, stepped}
-
--- a run that is accepted was fed a sequence of the machine's, and gives T outputs, and T is the place
-unfoldable pub RunFeeds : List ℕ → (words : List ℕ) (room : ℕ) → Type 0
-RunFeeds b words room =
-    (p : ℕ) → ran b words room ≡ answer 0 p
-    → Words (2 ^ inputs b) (frames b) words × (p ≡ frames b) × (length (feed (machine b) 0 0 words) ≡ p)
+use Rattle.steps.specs.Steps.{stepped}
 
 -- the outputs of steps by the words c, each from the layer and the state that the one before it handed back
 unfoldable pub walked : List ℕ → (layer state : ℕ) → List ℕ → List ℕ

@@ -1,8 +1,5 @@
-// Tables stepped and run: positions, single steps, and the run of a table on a sequence.
-use sizes::Sizes;
-use sizes::check_sequence;
+// Tables stepped: positions and single steps.
 use table::Layout;
-use table::check;
 use table::head::check_head;
 use table::head::entries_below;
 use table::head::states_of;
@@ -11,13 +8,12 @@ use verdict::Verdict;
 use words::read;
 ghost use mathlib.Core.Path.{_≡_};
 ghost use Prim.Native.Nat.{_^_, _<_};
-ghost use lib.ListN.{length};
 ghost use Rattle.verdict.specs.Judgements.{figures, answer};
 ghost use Rattle.sizes.specs.Sizes.{inputs, frames};
 ghost use Rattle.table.specs.Table.{states};
 ghost use Rattle.table.specs.Sound.{TableHeaded, layoutOf};
-ghost use Rattle.steps.specs.Steps.{placeChecked, positionChecked, entryChecked, stepAfter, stepped, stepFigures, ran, runResult};
-ghost use Rattle.steps.specs.Theorems.{RunFeeds, StepReaches, StepsFeed};
+ghost use Rattle.steps.specs.Steps.{placeChecked, positionChecked, entryChecked, stepAfter, stepped, stepFigures};
+ghost use Rattle.steps.specs.Theorems.{StepReaches, StepsFeed};
 
 // A position: a layer, and a state of it.
 pub struct Position {
@@ -158,32 +154,4 @@ pub fn step(table: &[u8], position: Position, word: u16) -> Stepped
         return Stepped::Refused(refusal, position);
     }
     read_entry(table, layout, position, word as usize)
-}
-
-// The outputs of a table on a sequence of input words ("playing" in document 01): one word for each frame.
-pub fn run(table: &[u8], words: &[u16], result: &mut [u16]) -> Verdict
-    ensures verdict { λ r. ⌜ figures r ≡ ran (now (table .entry)) (now (words .entry)) (length (now (result .entry))) ⌝ }
-    ensures outputs { λ r. ⌜ now (result .exit) ≡ runResult (now (table .entry)) (now (words .entry)) (now (result .entry)) ⌝ }
-    ensures feeds { λ r. ⌜ RunFeeds (now (table .entry)) (now (words .entry)) (length (now (result .entry))) ⌝ }
-{
-    let judged = check(table);
-    let Verdict::Accepted(_) = judged else {
-        return judged;
-    };
-    let sizes = Sizes::read(table);
-    let fed = check_sequence(words, sizes.inputs, sizes.frames, result.len());
-    let Verdict::Accepted(_) = fed else {
-        return fed;
-    };
-    let frames = sizes.frames;
-    let mut position = Position::start();
-    for t in 0..frames {
-        let answer = step(table, position, words[t]);
-        let Stepped::Moved(output, next) = answer else {
-            return answer.verdict();
-        };
-        result[t] = output;
-        position = next;
-    }
-    Verdict::Accepted(frames)
 }

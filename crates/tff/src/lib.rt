@@ -1,38 +1,20 @@
 // The C interface. Slices pass as pointer and length. `answer` receives document 01's number and place in its first two numbers, then the
 // further values named; the rest of it stays as before. Where `answer` is too short for that, nothing at all is changed.
+use answers::Limits;
+use answers::put;
+use answers::put_step;
 use steps::Position;
-use steps::StepFigures;
 use verdict::Verdict;
 ghost use mathlib.Core.Path.{_≡_};
-ghost use Prim.Native.Nat.{_≤_};
 ghost use lib.ListN.{length};
-ghost use Rattle.verdict.specs.Judgements.{figures};
 ghost use Rattle.circuit.specs.Circuit.{checked};
 ghost use Rattle.simulate.specs.Simulate.{simulated, simulationResult};
 ghost use Rattle.table.specs.Table.{checked as tableChecked};
-ghost use Rattle.steps.specs.Steps.{ran, runResult, stepped};
+ghost use Rattle.steps.specs.Steps.{stepped};
+ghost use Rattle.run.specs.Run.{ran, runResult};
 ghost use Rattle.folded.specs.Folded.{foldChecked, foldResult, foldScratch};
 ghost use Rattle.unfolded.specs.Unfolded.{unfoldChecked, unfoldResult};
-ghost use Rattle.tff.specs.Answer.{verdictLength, stepLength, answered, stepAnswered, answerAfter, stepAnswerAfter, bufferAfter};
-
-// How many numbers a call answers: number and place; a step also output, layer and state.
-struct Limits;
-
-impl Limits {
-    const VERDICT: usize = 2;
-
-    const STEP: usize = 5;
-}
-
-// Puts the figures of a verdict into `answer`, which has room for them.
-fn put(verdict: Verdict, answer: &mut [u64])
-    requires { ⌜ verdictLength ≤ length (now answer) ⌝ }
-    ensures { λ _. ⌜ now (answer .exit) ≡ answered (figures verdict) (now (answer .entry)) ⌝ }
-{
-    let figures = verdict.figures();
-    answer[0] = figures.number as u64;
-    answer[1] = figures.place as u64;
-}
+ghost use Rattle.answers.specs.Answer.{answerAfter, stepAnswerAfter, bufferAfter};
 
 #[no_mangle]
 pub extern "C" fn tff_check_circuit(circuit: &[u8], answer: &mut [u64])
@@ -41,7 +23,8 @@ pub extern "C" fn tff_check_circuit(circuit: &[u8], answer: &mut [u64])
     if answer.len() < Limits::VERDICT {
         return;
     }
-    put(circuit::check(circuit), answer);
+    let verdict: Verdict = circuit::check(circuit);
+    put(verdict, answer);
 }
 
 #[no_mangle]
@@ -57,7 +40,8 @@ pub extern "C" fn tff_simulate(
     if answer.len() < Limits::VERDICT {
         return;
     }
-    put(simulate::simulate(circuit, words, result), answer);
+    let verdict: Verdict = simulate::simulate(circuit, words, result);
+    put(verdict, answer);
 }
 
 #[no_mangle]
@@ -67,7 +51,8 @@ pub extern "C" fn tff_check_table(table: &[u8], answer: &mut [u64])
     if answer.len() < Limits::VERDICT {
         return;
     }
-    put(table::check(table), answer);
+    let verdict: Verdict = table::check(table);
+    put(verdict, answer);
 }
 
 #[no_mangle]
@@ -78,19 +63,8 @@ pub extern "C" fn tff_run(table: &[u8], words: &[u16], result: &mut [u16], answe
     if answer.len() < Limits::VERDICT {
         return;
     }
-    put(steps::run(table, words, result), answer);
-}
-
-// Puts all figures of a step into `answer`, which has room for them.
-fn put_step(step: StepFigures, answer: &mut [u64])
-    requires { ⌜ stepLength ≤ length (now answer) ⌝ }
-    ensures { λ _. ⌜ now (answer .exit) ≡ stepAnswered step (now (answer .entry)) ⌝ }
-{
-    answer[0] = step.number as u64;
-    answer[1] = step.place as u64;
-    answer[2] = step.output as u64;
-    answer[3] = step.layer as u64;
-    answer[4] = step.state as u64;
+    let verdict: Verdict = run::run(table, words, result);
+    put(verdict, answer);
 }
 
 #[no_mangle]
@@ -122,7 +96,8 @@ pub extern "C" fn tff_fold(
     if answer.len() < Limits::VERDICT {
         return;
     }
-    put(fold::fold(circuit, scratch, result), answer);
+    let verdict: Verdict = fold::fold(circuit, scratch, result);
+    put(verdict, answer);
 }
 
 #[no_mangle]
@@ -133,5 +108,6 @@ pub extern "C" fn tff_unfold(table: &[u8], result: &mut [u8], answer: &mut [u64]
     if answer.len() < Limits::VERDICT {
         return;
     }
-    put(unfold::unfold(table, result), answer);
+    let verdict: Verdict = unfold::unfold(table, result);
+    put(verdict, answer);
 }

@@ -1,7 +1,7 @@
 -- `tff::tff_step` meets its contract.
 -- Assumes nothing.
 use mathlib.Core.Path.{_∙_}
-use Rattle.tff.proofs.Laws.{step-kept, step-put}
+use Rattle.answers.proofs.Laws.{step-kept, step-put}
 use borrow.Author.Needs.{needs}
 use Rattle.tff.proofs.tff_step.Statement.{statement}
 use Rattle.tff.proofs.tff_step.Tie as tie

@@ -1,4 +1,4 @@
--- `steps::run` meets its contract. The invariant: the position is a state of layer t, and what the machine gives on all words is what is stored and then
+-- `run::run` meets its contract. The invariant: the position is a state of layer t, and what the machine gives on all words is what is stored and then
 -- what it gives from there on the rest. No step is refused.
 -- Assumes nothing.
 use mathlib.Core.Path.{_≡_, refl, sym, ap, _∙_}
@@ -18,14 +18,15 @@ use Rattle.sizes.proofs.Laws.{fed}
 use Rattle.layered.specs.Machines.{feed}
 use Rattle.layered.proofs.Lists.{drop-more}
 use Rattle.table.specs.Table.{states, machine, checked}
-use Rattle.steps.specs.Steps.{ran, moved, stepped, stepFigures}
+use Rattle.steps.specs.Steps.{moved, stepped, stepFigures}
+use Rattle.run.specs.Run.{ran}
 use Rattle.table.specs.Sound.{Sound}
 use Rattle.table.proofs.Offsets.{arrays-stand}
 use Rattle.table.proofs.Accepted.{sound}
 use Rattle.steps.proofs.Steps.{moves, moved-is, not-refused}
-use Rattle.steps.proofs.Runs.{run-feeds, feed-more, feed-all, run-kept, run-left}
-use Rattle.steps.proofs.run.Statement.{statement}
-use Rattle.steps.proofs.run.Tie as tie
+use Rattle.run.proofs.Runs.{run-feeds, feed-more, feed-all, run-kept, run-left}
+use Rattle.run.proofs.run.Statement.{statement}
+use Rattle.run.proofs.run.Tie as tie
 
 abbrev Inv-loop : tie.InvT-loop
 Inv-loop table words result₀ frames position₀ t₀ result position t =

@@ -1,10 +1,10 @@
--- `tff::put_step` meets its contract.
+-- `answers::put_step` meets its contract.
 -- Assumes nothing.
 use native.Mathlib.Omega.{arith}
 use lib.ListN.{length-set}
 use borrow.Author.Needs.{needs}
-use Rattle.tff.proofs.put_step.Statement.{statement}
-use Rattle.tff.proofs.put_step.Tie as tie
+use Rattle.answers.proofs.put_step.Statement.{statement}
+use Rattle.answers.proofs.put_step.Tie as tie
 
 slice-write-answer : tie.Need-slice-write-answer
 slice-write-answer c = search needs

@@ -1,12 +1,12 @@
--- `tff::put` meets its contract.
+-- `answers::put` meets its contract.
 -- Assumes nothing.
 use mathlib.Core.Path.{ap}
 use denote.Ref.{now}
 use Rattle.verdict.specs.declared.Figures.{Figures}
-use Rattle.tff.specs.Answer.{answered}
+use Rattle.answers.specs.Answer.{answered}
 use borrow.Author.Needs.{needs}
-use Rattle.tff.proofs.put.Statement.{statement}
-use Rattle.tff.proofs.put.Tie as tie
+use Rattle.answers.proofs.put.Statement.{statement}
+use Rattle.answers.proofs.put.Tie as tie
 
 figures-requires : tie.Need-figures-requires
 figures-requires c κs = search needs

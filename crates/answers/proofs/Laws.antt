@@ -6,7 +6,7 @@ use lib.ListN.{length}
 use borrow.Author.Tests.{lt-ltb, le-ltb}
 use Rattle.verdict.specs.declared.Figures.{Figures}
 use Rattle.steps.specs.declared.StepFigures.{StepFigures}
-use Rattle.tff.specs.Answer.{verdictLength, stepLength, answered, stepAnswered, answerAfter, stepAnswerAfter, bufferAfter}
+use Rattle.answers.specs.Answer.{verdictLength, stepLength, answered, stepAnswered, answerAfter, stepAnswerAfter, bufferAfter}
 
 pub answer-kept : (f : Figures) (answer : List ℕ) → length answer < verdictLength → answer ≡ answerAfter f answer
 unfolding answerAfter

@@ -15,8 +15,8 @@ use Rattle.sizes.proofs.Laws.{fed}
 use Rattle.layered.specs.Machines.{Machine, feed}
 use Rattle.layered.proofs.Feeding.{sequence, words-length, feed-length}
 use Rattle.table.specs.Table.{machine, checked}
-use Rattle.steps.specs.Steps.{ran, runResult}
-use Rattle.steps.specs.Theorems.{RunFeeds}
+use Rattle.run.specs.Run.{ran, runResult}
+use Rattle.run.specs.Run.{RunFeeds}
 
 -- ---- the theorem
 

@@ -1,0 +1,2 @@
+-- The proofs of `answers`: laws by subject, lowest first.
+pub mod Laws

@@ -1,0 +1,2 @@
+-- The proofs of `run`.
+pub mod Runs

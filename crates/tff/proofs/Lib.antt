@@ -1,2 +1,0 @@
--- The proofs of `tff`: laws by subject, lowest first.
-mod Laws
