@@ -1,12 +1,10 @@
--- Laws of the words of a table: what an entry is, and how many words there are. Assumes nothing.
+-- Laws of the words of a table: how many there are, and that they are the table's. Assumes nothing.
 use mathlib.Core.Path.{_≡_, refl, sym, ap, ap₂, _∙_}
-use mathlib.Core.Bool.{Bool, true, false, cond}
-use mathlib.Core.List.{List, [], _∷_, _++_, append-nil, append-assoc}
-use Prim.Native.Nat.{ℕ, zero, suc, _+_, _*_, _^_, _≤_, _<_}
-use native.Mathlib.Nat.{zero-mul, suc-mul, eq-or-lt-of-le, le-refl}
+use mathlib.Core.Bool.{Bool, true, false}
+use mathlib.Core.List.{List, [], _∷_, _++_, append-assoc}
+use Prim.Native.Nat.{ℕ, suc, _+_, _*_, _^_, _≤_}
+use native.Mathlib.Nat.{le-refl}
 use native.Mathlib.Omega.{arith}
-use lib.Dec.{T, eqb→eq}
-use mathlib.Core.Logic.{⊎-elim}
 use lib.ListN.{length, take, length-append, length-take}
 use lib.Seq.{ext-getD, getD-take}
 use native.Mathlib.Decide.{le-ind}
@@ -14,78 +12,17 @@ use native.Mathlib.Numerals.{add-one}
 use Rattle.words.specs.Words.{stored}
 use Rattle.words.proofs.Laws.{stored-behind}
 use Rattle.sizes.specs.Sizes.{inputs, outputs, frames}
-use Rattle.layered.specs.Search.{tally, join, tabulate}
-use Rattle.layered.specs.States.{number, count, first, history, smallest}
+use Rattle.layered.specs.Search.{join, tabulate}
+use Rattle.layered.specs.States.{history}
 use Rattle.layered.specs.Machines.{entries, tableWords, folded}
-use Rattle.layered.proofs.Search.{case, eq-eqb, tally-more, tally-none, tally-lt}
 use Rattle.layered.proofs.Lists.{join-cong, tabulate-length, tabulate-at}
-use Rattle.layered.proofs.States.{first-smallest, smallest-le}
 use Rattle.layered.proofs.Theorems.{rows}
 use Rattle.circuit.specs.Theorems.{response}
-use Rattle.classify.specs.Classified.{stateNumber, stateCount, Counted}
+use Rattle.classify.specs.Classified.{stateCount, Counted}
 use Rattle.classify.specs.declared.Plan.{Plan}
-use Rattle.emit.specs.Emitted.{entryOf, rowWords, layerWords, arrayWords, headWords, allWords}
-
--- ---- parts for the numbers that p holds of, one after the other
-
-module _ (p : ℕ → Bool) (f : ℕ → List ℕ) where
-  abbrev joined : ℕ → List ℕ
-  joined n = join n (λ i. cond (p i) (f i) [])
-
-  pub joined-more : (n : ℕ) → T (p n) → joined (suc n) ≡ joined n ++ f n
-  unfolding join
-  joined-more n h = ap (λ r. joined n ++ r) (go (p n) h)
-    where
-      go : (c : Bool) → T c → cond c (f n) [] ≡ f n
-      go true h = refl
-      go false h = absurd h
-
-  pub joined-none : (n : ℕ) → (T (p n) → ⊥) → joined (suc n) ≡ joined n
-  unfolding join
-  joined-none n h = ap (λ r. joined n ++ r) (go (p n) h) ∙ append-nil (joined n)
-    where
-      go : (c : Bool) → (T c → ⊥) → cond c (f n) [] ≡ []
-      go true h = absurd (h tt)
-      go false h = refl
-
-  -- parts of k numbers each
-  pub joined-length : (k : ℕ) → ((i : ℕ) → length (f i) ≡ k) → (n : ℕ) → length (joined n) ≡ tally n p * k
-  unfolding join tally
-  joined-length k e zero = sym (zero-mul k)
-  joined-length k e (suc n) =
-      ⊎-elim
-      (λ (h : T (p n)).
-      ap length (joined-more n h) ∙ length-append (joined n) (f n) ∙ omega (arith, joined-length k e n, e n, suc-mul (tally n p) k) ∙ ap (λ c. c * k) (sym (tally-more p n h)))
-      (λ (h : T (p n) → ⊥). ap length (joined-none n h) ∙ joined-length k e n ∙ ap (λ c. c * k) (sym (tally-none p n h)))
-      (case (p n))
-
--- ---- states and layers
-
--- which histories of layer t are the smallest of their class
-abbrev pub smallests : List ℕ → (t : ℕ) → ℕ → Bool
-smallests b t = first (2 ^ inputs b) (frames b) (response b) t
-
--- a history's number is the next new one exactly where it is the smallest of its class
-module _ (b : List ℕ) (t h : ℕ) where
-  pub new-first : stateNumber b t h ≡ tally h (smallests b t) → T (smallests b t h)
-  unfolding number first
-  new-first e =
-      let K : ℕ = 2 ^ inputs b in
-      let g : ℕ = smallest K (frames b) (response b) t h in
-      let l : g ≤ h = smallest-le K (frames b) (response b) t h in
-      ⊎-elim
-      (λ (q : g ≡ h). eq-eqb q)
-      (λ (q : g < h). absurd (omega (arith, tally-lt (smallests b t) g h q (first-smallest K (frames b) (response b) t h))))
-      (eq-or-lt-of-le l)
-
-  pub first-new : T (smallests b t h) → stateNumber b t h ≡ tally h (smallests b t)
-  unfolding number first
-  first-new f = ap (λ g. tally g (smallests b t)) (eqb→eq (smallest (2 ^ inputs b) (frames b) (response b) t h) h f)
-
--- how many words a layer has
-pub layer-length : (b : List ℕ) (nexts : Bool) (t : ℕ) → length (layerWords b nexts t) ≡ stateCount b t * 2 ^ inputs b
-unfolding layerWords rowWords count
-layer-length b nexts t = joined-length (smallests b t) (rowWords b nexts t) (2 ^ inputs b) (λ h. tabulate-length (2 ^ inputs b) _) ((2 ^ inputs b) ^ t)
+use Rattle.listing.specs.Entries.{entryOf, rowWords, layerWords}
+use Rattle.listing.proofs.Laws.{layer-length}
+use Rattle.emit.specs.Emitted.{arrayWords, headWords, allWords}
 
 -- ---- arrays
 

@@ -1,3 +1,2 @@
 -- The proofs of `emit`: laws by subject, lowest first.
 pub mod Laws
-pub mod Listing

@@ -1,3 +1,2 @@
 -- What a reader of `emit` must believe, in the order of reading.
 pub mod Emitted
-pub mod Listed

@@ -10,8 +10,8 @@ use Rattle.sizes.specs.Sizes.{inputs, frames}
 use Rattle.circuit.specs.Circuit.{allInputs}
 use Rattle.classify.specs.Classified.{LayerOf}
 use Rattle.classify.proofs.Step.{half-is, layer-asked, layer-told}
-use Rattle.emit.proofs.Laws.{layer-length}
-use Rattle.emit.proofs.Listing.{begins, reaches, in-part}
+use Rattle.listing.proofs.Laws.{layer-length}
+use Rattle.listing.proofs.Listing.{begins, reaches, in-part}
 use borrow.Author.Needs.{needs}
 use Rattle.emit.proofs.put_layer.Statement.{statement}
 use Rattle.emit.proofs.put_layer.Tie as tie

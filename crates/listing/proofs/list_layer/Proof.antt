@@ -1,4 +1,4 @@
--- `emit::list_layer` meets its contract. The invariant: the rows of the new numbers so far are listed, and `fresh` is how many there are.
+-- `listing::list_layer` meets its contract. The invariant: the rows of the new numbers so far are listed, and `fresh` is how many there are.
 -- Assumes nothing.
 use mathlib.Core.Path.{_≡_, refl, sym, ap, ap₂, _∙_}
 use mathlib.Core.Logic.{⊎-elim}
@@ -9,10 +9,10 @@ use native.Mathlib.Omega.{arith}
 use denote.Ref.{now}
 use lib.ListN.{length, take}
 use Rattle.layered.specs.Search.{join}
-use Rattle.emit.specs.Listed.{newNumbers, listedLayer}
-use Rattle.emit.proofs.Listing.{placed-kept, new-most, row-room, turn-new, turn-old}
-use Rattle.emit.proofs.list_layer.Statement.{statement}
-use Rattle.emit.proofs.list_layer.Tie as tie
+use Rattle.listing.specs.Listed.{newNumbers, listedLayer}
+use Rattle.listing.proofs.Listing.{placed-kept, new-most, row-room, turn-new, turn-old}
+use Rattle.listing.proofs.list_layer.Statement.{statement}
+use Rattle.listing.proofs.list_layer.Tie as tie
 
 abbrev Inv-loop : tie.InvT-loop
 Inv-loop scratch₀ column own size fan half count₀ fresh₀ h₀ scratch count fresh h =

@@ -22,9 +22,9 @@ use Rattle.rows.specs.Rows.{Placed}
 use Rattle.rows.specs.declared.Layer.{Layer}
 use Rattle.classify.specs.Classified.{LayerOf, stateNumber, Known}
 use Rattle.classify.proofs.Step.{same-front, next-is}
-use Rattle.emit.specs.Emitted.{entryOf, rowWords, layerWords}
-use Rattle.emit.specs.Listed.{newNumbers, isNew, listedEntry, listedRow, listedLayer}
-use Rattle.emit.proofs.Laws.{joined-more, joined-none, joined-length, smallests, new-first, first-new}
+use Rattle.listing.specs.Entries.{entryOf, rowWords, layerWords}
+use Rattle.listing.specs.Listed.{newNumbers, isNew, listedEntry, listedRow, listedLayer}
+use Rattle.listing.proofs.Laws.{joined-more, joined-none, joined-length, smallests, new-first, first-new}
 
 -- ---- what is read while a row is listed
 

@@ -1,8 +1,8 @@
--- `emit::listed_entry` meets its contract.
+-- `listing::listed_entry` meets its contract.
 -- Assumes nothing.
 use borrow.Author.Needs.{needs}
-use Rattle.emit.proofs.listed_entry.Statement.{statement}
-use Rattle.emit.proofs.listed_entry.Tie as tie
+use Rattle.listing.proofs.listed_entry.Statement.{statement}
+use Rattle.listing.proofs.listed_entry.Tie as tie
 
 next-state-requires : tie.Need-next-state-requires
 next-state-requires c κs = search needs

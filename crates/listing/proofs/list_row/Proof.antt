@@ -1,4 +1,4 @@
--- `emit::list_row` meets its contract. The invariant: the first w entries of the row are listed.
+-- `listing::list_row` meets its contract. The invariant: the first w entries of the row are listed.
 -- Assumes nothing.
 use mathlib.Core.Path.{_≡_, ap, _∙_}
 use Prim.Native.Nat.{_+_, _*_, _-_, _≤_, _<_}
@@ -7,10 +7,10 @@ use denote.Ref.{now}
 use lib.Arith.{digits-lt}
 use lib.ListN.{length}
 use lib.Seq.{paste, paste-zero}
-use Rattle.emit.specs.Listed.{listedRow}
-use Rattle.emit.proofs.Listing.{placed-kept, entry-more, row-length}
-use Rattle.emit.proofs.list_row.Statement.{statement}
-use Rattle.emit.proofs.list_row.Tie as tie
+use Rattle.listing.specs.Listed.{listedRow}
+use Rattle.listing.proofs.Listing.{placed-kept, entry-more, row-length}
+use Rattle.listing.proofs.list_row.Statement.{statement}
+use Rattle.listing.proofs.list_row.Tie as tie
 
 abbrev Inv-loop : tie.InvT-loop
 Inv-loop scratch₀ column h at fan w₀ scratch w = (w ≤ fan) × (scratch ≡ paste scratch₀ at (listedRow scratch₀ (column .layer) (column .nexts) h) w)

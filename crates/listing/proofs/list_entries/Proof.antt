@@ -1,4 +1,4 @@
--- `emit::list_entries` meets its contract: the next states are listed themselves, and the responses are those of the listed indexes.
+-- `listing::list_entries` meets its contract: the next states are listed themselves, and the responses are those of the listed indexes.
 -- Assumes nothing.
 use mathlib.Core.Path.{_≡_, refl, sym, ap, ap₂, _∙_}
 use mathlib.Core.List.{List, _++_}
@@ -14,12 +14,12 @@ use Rattle.circuit.specs.Circuit.{allInputs}
 use Rattle.circuit.specs.Theorems.{response}
 use Rattle.classify.proofs.Layers.{power-fits}
 use Rattle.classify.proofs.Step.{half-is, bits-fit, placed, entries}
-use Rattle.emit.specs.Listed.{listedLayer}
-use Rattle.emit.proofs.Laws.{layer-length}
-use Rattle.emit.proofs.Listing.{reaches, nexts-listed, outputs-listed, replaced}
+use Rattle.listing.specs.Listed.{listedLayer}
+use Rattle.listing.proofs.Laws.{layer-length}
+use Rattle.listing.proofs.Listing.{reaches, nexts-listed, outputs-listed, replaced}
 use borrow.Author.Needs.{needs}
-use Rattle.emit.proofs.list_entries.Statement.{statement}
-use Rattle.emit.proofs.list_entries.Tie as tie
+use Rattle.listing.proofs.list_entries.Statement.{statement}
+use Rattle.listing.proofs.list_entries.Tie as tie
 
 -- the half is where the responses of the layer begin
 abbrev start : tie.After-list-layer → tie.Start

@@ -1,0 +1,3 @@
+-- The proofs of `listing`: laws by subject, lowest first.
+pub mod Laws
+pub mod Listing
