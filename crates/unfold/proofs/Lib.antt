@@ -1,3 +1,2 @@
 -- The proofs of the code that unfolds.
-pub mod Needs
 pub mod Circuits

@@ -1,4 +1,4 @@
--- `unfold::frame_needs` meets its contract: the part that it counts in is the layer's.
+-- `counting::frame_needs` meets its contract: the part that it counts in is the layer's.
 -- Assumes nothing.
 use mathlib.Core.Path.{_≡_, ap, ap₂, _∙_}
 use mathlib.Core.Bool.{cond}
@@ -19,9 +19,9 @@ use Rattle.table.specs.Table.{states, entriesBelow, outputsAt, layerPart}
 use Rattle.table.proofs.Offsets.{Laid, laid, row-small}
 use Rattle.unfolded.specs.Counted.{ones, frameNeeds}
 use Rattle.table.proofs.Parts.{count-in, part-is, part-in, part-length}
-use Rattle.unfold.proofs.Needs.{cond-most, ones-are}
-use Rattle.unfold.proofs.frame_needs.Statement.{statement}
-use Rattle.unfold.proofs.frame_needs.Tie as tie
+use Rattle.counting.proofs.Needs.{cond-most, ones-are}
+use Rattle.counting.proofs.frame_needs.Statement.{statement}
+use Rattle.counting.proofs.frame_needs.Tie as tie
 
 -- the entry: the table, its layout and its sizes
 abbrev b₀ : tie.Start → List ℕ

@@ -1,4 +1,4 @@
--- `unfold::gathered` meets its contract.
+-- `counting::gathered` meets its contract.
 -- Assumes nothing.
 use mathlib.Core.Path.{sym, ap}
 use mathlib.Core.Bool.{Bool, cond}
@@ -6,8 +6,8 @@ use Prim.Native.Nat.{suc}
 use native.Mathlib.Omega.{arith}
 use borrow.Author.Needs.{needs}
 use borrow.Author.Tests.{lt-ltb, le-ltb}
-use Rattle.unfold.proofs.gathered.Statement.{statement}
-use Rattle.unfold.proofs.gathered.Tie as tie
+use Rattle.counting.proofs.gathered.Statement.{statement}
+use Rattle.counting.proofs.gathered.Tie as tie
 
 add-if1 : tie.Need-add-if1
 add-if1 c = search needs

@@ -1,4 +1,4 @@
--- `unfold::gates_needed` meets its contract. The invariant: what the output gates and the first t frames need is added up.
+-- `counting::gates_needed` meets its contract. The invariant: what the output gates and the first t frames need is added up.
 -- Assumes nothing.
 use mathlib.Core.Path.{_≡_, sym, ap, _∙_}
 use mathlib.Core.List.{List}
@@ -13,8 +13,8 @@ use Rattle.table.proofs.Offsets.{laid}
 use Rattle.unfolded.specs.Counted.{frameNeeds}
 use Rattle.unfolded.proofs.Counts.{gates-needed}
 use Rattle.layered.proofs.Lists.{total-next}
-use Rattle.unfold.proofs.gates_needed.Statement.{statement}
-use Rattle.unfold.proofs.gates_needed.Tie as tie
+use Rattle.counting.proofs.gates_needed.Statement.{statement}
+use Rattle.counting.proofs.gates_needed.Tie as tie
 
 abbrev Inv-loop : tie.InvT-loop
 Inv-loop table layout sizes frames gates₀ t₀ gates t =

@@ -1,4 +1,4 @@
--- `unfold::ones_of` meets its contract. The invariant: the bits 1 so far are counted.
+-- `counting::ones_of` meets its contract. The invariant: the bits 1 so far are counted.
 -- Assumes nothing.
 use mathlib.Core.Path.{_≡_, sym, ap, _∙_}
 use mathlib.Core.Logic.{⊎-elim}
@@ -8,8 +8,8 @@ use Rattle.circuit.specs.Lists.{bit}
 use Rattle.layered.specs.Search.{tally}
 use Rattle.layered.proofs.Search.{tally-at-most}
 use Rattle.layered.proofs.Lists.{tally-next}
-use Rattle.unfold.proofs.ones_of.Statement.{statement}
-use Rattle.unfold.proofs.ones_of.Tie as tie
+use Rattle.counting.proofs.ones_of.Statement.{statement}
+use Rattle.counting.proofs.ones_of.Tie as tie
 
 abbrev Inv-loop : tie.InvT-loop
 Inv-loop word count ones₀ j₀ ones j = (j ≤ count) × (ones ≡ tally j (bit word))

@@ -1,4 +1,4 @@
--- `unfold::ones_in` meets its contract. The invariant: the bits 1 of the words so far are counted.
+-- `counting::ones_in` meets its contract. The invariant: the bits 1 of the words so far are counted.
 -- Assumes nothing.
 use mathlib.Core.Path.{_≡_, ap, _∙_}
 use Prim.Native.Nat.{ℕ, _*_, _-_, _/_, _≤_}
@@ -9,8 +9,8 @@ use Rattle.words.specs.Words.{wordAt}
 use Rattle.circuit.specs.Lists.{bit}
 use Rattle.layered.specs.Search.{tally, total}
 use Rattle.layered.proofs.Lists.{total-next}
-use Rattle.unfold.proofs.ones_in.Statement.{statement}
-use Rattle.unfold.proofs.ones_in.Tie as tie
+use Rattle.counting.proofs.ones_in.Statement.{statement}
+use Rattle.counting.proofs.ones_in.Tie as tie
 
 abbrev Inv-loop : tie.InvT-loop
 Inv-loop part count entries ones₀ e₀ ones e = (e ≤ entries) × (ones ≡ total e (λ e. tally count (bit (wordAt part (2 * e))))) × (ones ≤ 16 * e)

@@ -1,0 +1,2 @@
+-- The proofs of the code that counts gates.
+pub mod Needs
