@@ -1,20 +1,16 @@
--- What the code that draws leaves: gates stored in a result, and the lists of literals that it keeps.
+-- What the code that draws leaves: gates stored in a result, and their literals.
 use Prim.Native.Nat.{ℕ, _+_, _*_, _-_, _/_, _%_, _^_, _≤_}
 use mathlib.Core.Path.{_≡_}
-use mathlib.Core.Bool.{Bool, cond}
-use mathlib.Core.List.{List, [], map}
+use mathlib.Core.Bool.{cond}
+use mathlib.Core.List.{List, map}
 use lib.Dec.{eqb}
 use lib.ListN.{length, getD}
-use Rattle.words.specs.Words.{wordAt, stored}
+use Rattle.words.specs.Words.{stored}
 use Rattle.sizes.specs.Limits.{mostInputs, mostOutputs, mostBits}
 use Rattle.sizes.specs.Sizes.{inputs, outputs, frames}
 use Rattle.circuit.specs.Limits.{circuitHead, mostGates}
-use Rattle.circuit.specs.Lists.{listed, bit}
-use Rattle.unfolded.specs.Unfolded.{inverted, chainsFrom, ending, invertedEdges, gatesNeeded}
+use Rattle.unfolded.specs.Unfolded.{gatesNeeded}
 use Rattle.chains.specs.declared.Target.{Target}
-use Rattle.chains.specs.declared.gathers.Key.{Key}
-use Rattle.chains.specs.declared.gathers.Key.the-variants.{NextState, OutputBit}
-use Rattle.chains.specs.declared.gathers.Gathering.{Gathering}
 
 -- ---- the result
 
@@ -49,22 +45,3 @@ matchOf n at w = 2 * (at + (w * n + (n - 1)))
 -- edge e, by state, then word
 unfoldable pub edgeOf : (n at : ℕ) (states : List ℕ) (e : ℕ) → ℕ × ℕ
 edgeOf n at states e = (getD states (e / 2 ^ n) 0, matchOf n at (e % 2 ^ n))
-
--- ---- gather chains
-
--- whether an edge with the next state or output x belongs to chain i
-unfoldable pub chosen : Key → (i x : ℕ) → Bool
-chosen NextState i x = eqb x i
-chosen OutputBit i x = bit x i
-
--- the right literals of chain i: the inverted edges that belong to it; `entries` are the edges' next states or outputs
-unfoldable pub gatherEdges : Target → Gathering → (entries : List ℕ) (i : ℕ) → List ℕ
-gatherEdges target g entries i = invertedEdges (target .base + g .edges) (λ e. chosen (g .key) i (wordAt entries (2 * e))) (length entries / 2)
-
--- the first `count` chains, from gate k on
-abbrev pub gatherGates : Target → Gathering → (entries : List ℕ) (k count : ℕ) → List (ℕ × ℕ)
-gatherGates target g entries k count = chainsFrom (target .base + k) (gatherEdges target g entries) count
-
--- what they stand for: the literal that each ends with, inverted
-abbrev pub gatherLiterals : Target → Gathering → (entries : List ℕ) (k count : ℕ) → List ℕ
-gatherLiterals target g entries k count = listed [] (λ i. inverted (ending (target .base + k) (gatherEdges target g entries) i)) count

@@ -1,7 +1,5 @@
-// Chains of gates, stored one behind the other: the matches of a frame, its edges, and the gather chains over them (document 01, "Drawing back
-// into gates").
+// Chains of gates, stored one behind the other: the matches of a frame, and its edges (document 01, "Drawing back into gates").
 pub mod gates;
-pub mod gathers;
 
 use circuit::is_set;
 use gates::chain_end;

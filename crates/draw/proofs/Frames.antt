@@ -23,13 +23,14 @@ use Rattle.unfolded.specs.Unfolded.{lastOf, chainsFrom, ending, inverted, Frame
 use Rattle.circuit.proofs.Lists.{listed-length, listed-cong}
 use Rattle.unfolded.proofs.Drawings.{drawn-length, frame-nexts}
 use Rattle.unfolded.proofs.Counts.{matches-length, match-count, edge-count, frame-count}
-use Rattle.chains.specs.Chains.{targetOf, gatesStored, endOf, matchOf, edgeOf, chosen, gatherEdges, gatherGates, gatherLiterals}
+use Rattle.chains.specs.Chains.{targetOf, gatesStored, endOf, matchOf, edgeOf}
 use Rattle.chains.specs.declared.Target.{Target}
-use Rattle.chains.specs.declared.gathers.Key.{Key}
-use Rattle.chains.specs.declared.gathers.Key.the-variants.{NextState, OutputBit}
-use Rattle.chains.specs.declared.gathers.Gathering.{Gathering}
 use Rattle.chains.proofs.Laws.{match-length}
 use Rattle.chains.proofs.Stored.{gates-append, end-is}
+use Rattle.gathers.specs.Gathers.{chosen, gatherEdges, gatherGates, gatherLiterals}
+use Rattle.gathers.specs.declared.Key.{Key}
+use Rattle.gathers.specs.declared.Key.the-variants.{NextState, OutputBit}
+use Rattle.gathers.specs.declared.Gathering.{Gathering}
 use Rattle.table.proofs.Parts.{part-in, part-length, part-entry}
 use Rattle.draw.specs.Limits.{mostDrawnStates}
 use Rattle.draw.specs.Draw.{sourceOf, StatesKept}

@@ -1,11 +1,11 @@
 // Draws the gates of a table (document 01, "Drawing back into gates"), gate after gate, into a result with room for all of them.
 use chains::Target;
 use chains::gates::put_gate;
-use chains::gathers::Gathering;
-use chains::gathers::Key;
-use chains::gathers::put_gathers;
 use chains::put_edges;
 use chains::put_matches;
+use gathers::Gathering;
+use gathers::Key;
+use gathers::put_gathers;
 use table::Layout;
 use table::head::entries_below;
 use table::head::states_of;

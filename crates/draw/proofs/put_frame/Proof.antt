@@ -16,11 +16,12 @@ use Rattle.table.proofs.Parts.{part-length}
 use Rattle.circuit.proofs.Lists.{listed-length}
 use Rattle.unfolded.specs.Unfolded.{Frame, matchGates, edgeGates, nextGates, outLiteral, outGates, frameGates, Drawing, tableFrame, drawing}
 use Rattle.unfolded.proofs.Counts.{edge-count, frame-count}
-use Rattle.chains.specs.Chains.{Fits, targetOf, gatesStored, gatherGates, gatherLiterals}
+use Rattle.chains.specs.Chains.{Fits, targetOf, gatesStored}
 use Rattle.chains.specs.declared.Target.{Target}
-use Rattle.chains.specs.declared.gathers.Key.the-variants.{NextState, OutputBit}
-use Rattle.chains.specs.declared.gathers.Gathering.{Gathering}
 use Rattle.chains.proofs.Stored.{gates-length, fits-still}
+use Rattle.gathers.specs.Gathers.{gatherGates, gatherLiterals}
+use Rattle.gathers.specs.declared.Key.the-variants.{NextState, OutputBit}
+use Rattle.gathers.specs.declared.Gathering.{Gathering}
 use Rattle.draw.specs.Limits.{mostDrawnStates}
 use Rattle.draw.specs.Draw.{frameAt, sourceOf, StatesKept}
 use Rattle.draw.specs.declared.Source.{Source}

@@ -1,7 +1,7 @@
 // Gather chains: over the edges into a state, or over those whose output has a bit.
-use super::Target;
-use super::gates::chain_end;
-use super::gates::put_gate;
+use chains::Target;
+use chains::gates::chain_end;
+use chains::gates::put_gate;
 use circuit::is_set;
 use words::read;
 ghost use mathlib.Core.Path.{_≡_};
@@ -9,7 +9,8 @@ ghost use Prim.Native.Nat.{_+_, _/_, _≤_, _<_};
 ghost use lib.ListN.{length};
 ghost use Rattle.sizes.specs.Limits.{mostOutputs};
 ghost use Rattle.unfolded.specs.Unfolded.{inverted, chain};
-ghost use Rattle.chains.specs.Chains.{Fits, gatesStored, chosen, gatherEdges, gatherGates, gatherLiterals};
+ghost use Rattle.chains.specs.Chains.{Fits, gatesStored};
+ghost use Rattle.gathers.specs.Gathers.{chosen, gatherEdges, gatherGates, gatherLiterals};
 
 // By what an edge belongs to gather chain i: its next state is i, or bit i of its output is 1.
 pub enum Key {

@@ -10,10 +10,10 @@ use Rattle.words.specs.Words.{wordAt}
 use Rattle.layered.proofs.Search.{tally-le}
 use Rattle.unfolded.specs.Unfolded.{invertedEdges}
 use Rattle.unfolded.proofs.Counts.{edges-length}
-use Rattle.chains.specs.Chains.{chosen, gatherEdges}
 use Rattle.chains.specs.declared.Target.{Target}
-use Rattle.chains.specs.declared.gathers.Key.{Key}
-use Rattle.chains.specs.declared.gathers.Gathering.{Gathering}
+use Rattle.gathers.specs.Gathers.{chosen, gatherEdges}
+use Rattle.gathers.specs.declared.Key.{Key}
+use Rattle.gathers.specs.declared.Gathering.{Gathering}
 
 -- which edges chain i gathers
 abbrev pub belongs : Key → List ℕ → (i e : ℕ) → Bool

@@ -1,4 +1,4 @@
--- `chains::gathers::put_gather` meets its contract. The invariant: the gates of the edges so far are stored.
+-- `gathers::put_gather` meets its contract. The invariant: the gates of the edges so far are stored.
 -- Assumes nothing.
 use mathlib.Core.Path.{_≡_, refl, sym, ap, _∙_}
 use mathlib.Core.Bool.{Bool, true}
@@ -10,11 +10,12 @@ use denote.Ref.{now}
 use lib.ListN.{length}
 use Rattle.unfolded.specs.Unfolded.{chain, invertedEdges}
 use Rattle.unfolded.proofs.Gates.{chain-length}
-use Rattle.chains.specs.Chains.{gatesStored, chosen, gatherEdges}
-use Rattle.chains.proofs.Edges.{belongs, edge-taken, edge-passed, taken-length, edges-most, edge-room, all-edges}
+use Rattle.chains.specs.Chains.{gatesStored}
 use Rattle.chains.proofs.Stored.{gates-none, gates-length, fits-still, chain-more}
-use Rattle.chains.proofs.gathers.put_gather.Statement.{statement}
-use Rattle.chains.proofs.gathers.put_gather.Tie as tie
+use Rattle.gathers.specs.Gathers.{chosen, gatherEdges}
+use Rattle.gathers.proofs.Edges.{belongs, edge-taken, edge-passed, taken-length, edges-most, edge-room, all-edges}
+use Rattle.gathers.proofs.put_gather.Statement.{statement}
+use Rattle.gathers.proofs.put_gather.Tie as tie
 
 abbrev Inv-loop : tie.InvT-loop
 Inv-loop target entries i k result₀ key edges count end₀ e₀ result end e =

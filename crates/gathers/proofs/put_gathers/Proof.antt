@@ -1,4 +1,4 @@
--- `chains::gathers::put_gathers` meets its contract. The invariant: the first i chains are stored, and what they end with is kept.
+-- `gathers::put_gathers` meets its contract. The invariant: the first i chains are stored, and what they end with is kept.
 -- Assumes nothing.
 use mathlib.Core.Path.{_≡_, refl, sym, ap, _∙_}
 use mathlib.Core.List.{List, []}
@@ -10,10 +10,11 @@ use lib.Seq.{take-all}
 use Rattle.circuit.specs.Lists.{grown, listed}
 use Rattle.circuit.proofs.Laws.{fill-grown}
 use Rattle.unfolded.specs.Unfolded.{inverted, chainsFrom, ending}
-use Rattle.chains.specs.Chains.{gatesStored, gatherEdges, gatherGates, gatherLiterals}
+use Rattle.chains.specs.Chains.{gatesStored}
 use Rattle.chains.proofs.Stored.{gates-none, gates-length, fits-still, chains-next, chains-longer, chains-room, chains-most, ending-is}
-use Rattle.chains.proofs.gathers.put_gathers.Statement.{statement}
-use Rattle.chains.proofs.gathers.put_gathers.Tie as tie
+use Rattle.gathers.specs.Gathers.{gatherEdges, gatherGates, gatherLiterals}
+use Rattle.gathers.proofs.put_gathers.Statement.{statement}
+use Rattle.gathers.proofs.put_gathers.Tie as tie
 
 abbrev Inv-loop : tie.InvT-loop
 Inv-loop target entries gathering k literals₀ result₀ count end₀ i₀ literals result end i =

@@ -1,11 +1,11 @@
--- `chains::gathers::is_chosen` meets its contract.
+-- `gathers::is_chosen` meets its contract.
 -- Assumes nothing.
 use mathlib.Core.Path.{sym, ap, _∙_}
 use borrow.Author.Needs.{needs}
-use Rattle.chains.specs.Chains.{chosen}
-use Rattle.chains.specs.declared.gathers.Key.{Key}
-use Rattle.chains.proofs.gathers.is_chosen.Statement.{statement}
-use Rattle.chains.proofs.gathers.is_chosen.Tie as tie
+use Rattle.gathers.specs.Gathers.{chosen}
+use Rattle.gathers.specs.declared.Key.{Key}
+use Rattle.gathers.proofs.is_chosen.Statement.{statement}
+use Rattle.gathers.proofs.is_chosen.Tie as tie
 
 enum-told : tie.Need-enum-told
 enum-told c = search needs

@@ -1,11 +1,11 @@
--- `chains::gathers::invert` meets its contract.
+-- `gathers::invert` meets its contract.
 -- Assumes nothing.
 use native.Mathlib.Omega.{arith}
 use borrow.Author.Needs.{needs}
 use borrow.Author.Tests.{eq-eqb, ne-eqb}
 use Rattle.unfolded.specs.Unfolded.{inverted}
-use Rattle.chains.proofs.gathers.invert.Statement.{statement}
-use Rattle.chains.proofs.gathers.invert.Tie as tie
+use Rattle.gathers.proofs.invert.Statement.{statement}
+use Rattle.gathers.proofs.invert.Tie as tie
 
 sub-result : tie.Need-sub-result
 sub-result c = search needs

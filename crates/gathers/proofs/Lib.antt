@@ -1,0 +1,2 @@
+-- The proofs of the code that stores gather chains.
+pub mod Edges
