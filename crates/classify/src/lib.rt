@@ -1,9 +1,9 @@
 // The states of a circuit's histories, classified layer by layer from the last back, in scratch.
 use circuit::Head;
+use numbering::number_layer;
 use responses::fill;
 use responses::histories;
 use rows::Layer;
-use rows::number_layer;
 use sizes::Limits;
 ghost use mathlib.Core.Path.{_≡_};
 ghost use Prim.Native.Nat.{suc, _*_, _^_, _≤_, _<_};

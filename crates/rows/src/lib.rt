@@ -1,20 +1,18 @@
-// Histories of a layer, numbered by their rows (document 01, "States"), in a scratch list that holds the layer's outputs and the numbers of
-// the next layer's histories.
+// The rows of a layer's histories (document 01, "States"), in a scratch list that holds the layer's outputs and the numbers of the next layer's
+// histories: their entries, their hashes, and the search for an equal one.
 ghost use mathlib.Core.Path.{_≡_};
 ghost use Prim.Native.Nat.{_*_, _<_};
-ghost use lib.ListN.{replicate};
-ghost use Rattle.rows.specs.Limits.{bucketCount, linkCount};
-ghost use Rattle.rows.specs.Rows.{Placed, outIn, nextIn, firstWith, rowCount, numbered};
+ghost use Rattle.rows.specs.Rows.{Placed, outIn, nextIn, firstWith};
 ghost use Rattle.rows.specs.Buckets.{Entry, Linked, hashIn, bucketIn};
 
 // As many buckets as there are hashes, a link for each history, of which a layer has no more, the factor of the hash, and how many numbers have
 // 16 bits.
-struct Limits;
+pub struct Limits;
 
 impl Limits {
-    const BUCKETS: usize = 8161;
+    pub const BUCKETS: usize = 8161;
 
-    const LINKS: usize = 32768;
+    pub const LINKS: usize = 32768;
 
     const FACTOR: usize = 769;
 
@@ -56,21 +54,8 @@ fn entry(scratch: &[u16], layer: Layer, i: usize) -> usize
     out + Limits::WORDS * next_state(scratch, layer, i) as usize
 }
 
-// No bucket has a history yet.
-fn no_buckets() -> [u16; Limits::BUCKETS]
-    ensures { λ r. ⌜ r ≡ replicate bucketCount 0 ⌝ }
-{
-    [0; Limits::BUCKETS]
-}
-
-fn no_links() -> [u16; Limits::LINKS]
-    ensures { λ r. ⌜ r ≡ replicate linkCount 0 ⌝ }
-{
-    [0; Limits::LINKS]
-}
-
 // The hash of h's row.
-fn row_hash(scratch: &[u16], layer: Layer, h: usize) -> usize
+pub fn row_hash(scratch: &[u16], layer: Layer, h: usize) -> usize
     requires { ⌜ Placed (now scratch) layer ⌝ }
     requires { ⌜ h < layer .size ⌝ }
     ensures { λ r. ⌜ r ≡ hashIn (now (scratch .entry)) layer h ⌝ }
@@ -85,7 +70,7 @@ fn row_hash(scratch: &[u16], layer: Layer, h: usize) -> usize
 
 // The first history with the row of h, sought along the bucket of its hash, which starts at `start` and goes on by links. Two rows differ as soon
 // as one word tells them apart.
-fn seek(scratch: &[u16], layer: Layer, links: &[u16], start: u16, h: usize) -> usize
+pub fn seek(scratch: &[u16], layer: Layer, links: &[u16], start: u16, h: usize) -> usize
     requires { ⌜ Placed (now scratch) layer ⌝ }
     requires { ⌜ h < layer .size ⌝ }
     requires { ⌜ Linked (layer .fan) (outIn (now scratch) layer) (nextIn (now scratch) layer) (now links) h ⌝ }
@@ -105,33 +90,4 @@ fn seek(scratch: &[u16], layer: Layer, links: &[u16], start: u16, h: usize) -> u
         return g;
     }
     h
-}
-
-// Stores the number of each history of a layer, and answers how many different numbers there are. The first history with each row is in the bucket
-// of the row's hash, the latest foremost, so that a row is compared with few others.
-pub fn number_layer(scratch: &mut [u16], layer: Layer) -> usize
-    requires { ⌜ Placed (now scratch) layer ⌝ }
-    ensures numbers { λ _. ⌜ now (scratch .exit) ≡ numbered (now (scratch .entry)) layer ⌝ }
-    ensures count { λ r. ⌜ r ≡ rowCount (layer .fan) (outIn (now (scratch .entry)) layer) (nextIn (now (scratch .entry)) layer) (layer .size) ⌝ }
-{
-    let at = layer.at;
-    let size = layer.size;
-    let mut buckets = no_buckets();
-    let mut links = no_links();
-    let mut fresh: u16 = 0;
-    for h in 0..size {
-        let hash = row_hash(scratch, layer, h);
-        let start = buckets[hash];
-        let g = seek(scratch, layer, &links, start, h);
-        let mut number = fresh;
-        if g < h {
-            number = scratch[at + g];
-        } else {
-            fresh += 1;
-            links[h] = start;
-            buckets[hash] = (h + 1) as u16;
-        }
-        scratch[at + h] = number;
-    }
-    fresh as usize
 }

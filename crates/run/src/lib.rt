@@ -1,7 +1,7 @@
 // A table run on a sequence of input words ("playing" in document 01), step by step.
+use positions::Position;
 use sizes::Sizes;
 use sizes::check_sequence;
-use steps::Position;
 use steps::Stepped;
 use steps::step;
 use table::check;

@@ -1,28 +1,16 @@
 -- A table stepped (document 01's "step").
 use Prim.Native.Nat.{ℕ, suc, _^_}
-use mathlib.Core.Bool.{cond, _||_}
+use mathlib.Core.Bool.{cond}
 use mathlib.Core.List.{List}
-use lib.Dec.{ltb, leb, eqb}
+use lib.Dec.{leb, eqb}
 use Rattle.verdict.specs.Judgements.{answer, refusalFigures, refuse, andThen}
 use Rattle.verdict.specs.declared.Figures.{Figures}
-use Rattle.sizes.specs.Sizes.{inputs, outputs, frames}
+use Rattle.sizes.specs.Sizes.{outputs}
+use Rattle.positions.specs.Positions.{positionChecked}
 use Rattle.table.specs.Table.{states, outputsAt, nextsAt, entryAt, machine, headChecked}
 use Rattle.steps.specs.declared.Stepped.{Stepped}
 use Rattle.steps.specs.declared.Stepped.the-variants.{Moved, Refused}
 use Rattle.steps.specs.declared.StepFigures.{StepFigures}
-
--- 11: the table has no such position
-unfoldable pub placeChecked : List ℕ → (layer state : ℕ) → Figures
-placeChecked b layer state = refuse (ltb (frames b) layer || leb (states b layer) state) 11 layer (answer 0 0)
-
--- 11, 10, 9
-unfoldable pub positionChecked : List ℕ → (layer state word : ℕ) → Figures
-unfolding placeChecked
-positionChecked b layer state word =
-    andThen (placeChecked b layer state)
-    (refuse (eqb layer (frames b)) 10 (frames b)
-    (refuse (leb (2 ^ inputs b) word) 9 0
-    (answer 0 0)))
 
 -- 5, of the one entry that is read, output before next
 unfoldable pub entryChecked : List ℕ → (t s w : ℕ) → Figures

@@ -1,4 +1,6 @@
-// Tables stepped: positions and single steps.
+// Tables stepped, one entry at a time.
+use positions::Position;
+use positions::check_position;
 use table::Layout;
 use table::head::check_head;
 use table::head::entries_below;
@@ -12,14 +14,8 @@ ghost use Rattle.verdict.specs.Judgements.{figures, answer};
 ghost use Rattle.sizes.specs.Sizes.{inputs, frames};
 ghost use Rattle.table.specs.Table.{states};
 ghost use Rattle.table.specs.Sound.{TableHeaded, layoutOf};
-ghost use Rattle.steps.specs.Steps.{placeChecked, positionChecked, entryChecked, stepAfter, stepped, stepFigures};
+ghost use Rattle.steps.specs.Steps.{entryChecked, stepAfter, stepped, stepFigures};
 ghost use Rattle.steps.specs.Theorems.{StepReaches, StepsFeed};
-
-// A position: a layer, and a state of it.
-pub struct Position {
-    pub layer: usize,
-    pub state: usize,
-}
 
 // What a step answers: the output and the position moved to, or the refusal and the position given.
 pub enum Stepped {
@@ -34,14 +30,6 @@ pub struct StepFigures {
     pub output: usize,
     pub layer: usize,
     pub state: usize,
-}
-
-impl Position {
-    pub fn start() -> Position
-        ensures { λ r. ⌜ (r .layer ≡ 0) × (r .state ≡ 0) ⌝ }
-    {
-        Position { layer: 0, state: 0 }
-    }
 }
 
 impl Stepped {
@@ -78,37 +66,6 @@ impl Stepped {
             Stepped::Refused(refusal, _) => Verdict::Refused(refusal),
         }
     }
-}
-
-// Number 11: the table has no such position.
-fn check_place(table: &[u8], layout: Layout, position: Position) -> Verdict
-    requires { ⌜ TableHeaded (now table) ⌝ }
-    requires { ⌜ layout ≡ layoutOf (now table) ⌝ }
-    ensures { λ r. ⌜ figures r ≡ placeChecked (now (table .entry)) (position .layer) (position .state) ⌝ }
-{
-    let layer = position.layer;
-    let state = position.state;
-    if layout.frames < layer {
-        return Verdict::Refused(Refusal::Position(layer));
-    }
-    Verdict::refuse_if(
-        states_of(table, layer) <= state,
-        Refusal::Position(layer),
-        0,
-    )
-}
-
-// Numbers 11, 10 and 9, of a step.
-fn check_position(table: &[u8], layout: Layout, position: Position, word: usize) -> Verdict
-    requires { ⌜ TableHeaded (now table) ⌝ }
-    requires { ⌜ layout ≡ layoutOf (now table) ⌝ }
-    ensures { λ r. ⌜ figures r ≡ positionChecked (now (table .entry)) (position .layer) (position .state) word ⌝ }
-{
-    let last = layout.frames;
-    let placed = check_place(table, layout, position);
-    let ended = Verdict::refuse_if(position.layer == last, Refusal::End(last), 0);
-    let small = Verdict::refuse_if(layout.words <= word, Refusal::Word(0), 0);
-    placed.and_then(ended.and_then(small))
 }
 
 // A step by the one entry of a position and a word, and number 5 of that entry, output before next state.

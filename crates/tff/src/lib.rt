@@ -3,7 +3,7 @@
 use answers::Limits;
 use answers::put;
 use answers::put_step;
-use steps::Position;
+use positions::Position;
 use verdict::Verdict;
 ghost use mathlib.Core.Path.{_≡_};
 ghost use lib.ListN.{length};

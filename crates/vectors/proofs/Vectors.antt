@@ -15,6 +15,7 @@ use Rattle.circuit.specs.Lists.{grown, bit, packed}
 use Rattle.circuit.specs.Circuit as circuit
 use Rattle.circuit.specs.Theorems.{historyWords, response}
 use Rattle.table.specs.Table as table
+use Rattle.positions.specs.Positions as positions
 use Rattle.steps.specs.Steps as steps
 use Rattle.folded.specs.Folded as folded
 use Rattle.unfolded.specs.Unfolded as unfolded
@@ -37,7 +38,7 @@ table-checked b = table.checked b
 -- ---- the test
 
 pub vectors-hold : hold rows ≡ true
-unfolding hold rows circuit-checked folded-bytes table-checked folded.foldChecked folded.foldResult folded.foldScratch folded.scratchNeeded unfolded.unfoldResult steps.stepped steps.stepChecked steps.positionChecked steps.placeChecked steps.entryChecked
+unfolding hold rows circuit-checked folded-bytes table-checked folded.foldChecked folded.foldResult folded.foldScratch folded.scratchNeeded unfolded.unfoldResult steps.stepped steps.stepChecked positions.positionChecked positions.placeChecked steps.entryChecked
 vectors-hold = refl
 
 -- ---- what it shows

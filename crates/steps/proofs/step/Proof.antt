@@ -6,7 +6,8 @@ use denote.Ref.{now}
 use Rattle.verdict.proofs.Laws.{accepts}
 use Rattle.table.specs.Sound.{TableHeaded}
 use Rattle.table.proofs.Accepted.{headed}
-use Rattle.steps.proofs.Steps.{placed, refused-head, refused-position, entry-answers, step-reaches, steps-feed}
+use Rattle.positions.proofs.Positions.{placed}
+use Rattle.steps.proofs.Steps.{refused-head, refused-position, entry-answers, step-reaches, steps-feed}
 use borrow.Author.Needs.{needs}
 use Rattle.steps.proofs.step.Statement.{statement}
 use Rattle.steps.proofs.step.Tie as tie

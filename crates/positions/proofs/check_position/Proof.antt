@@ -1,13 +1,13 @@
--- `steps::check_position` meets its contract: its judgements follow one another as the definition's do.
+-- `positions::check_position` meets its contract: its judgements follow one another as the definition's do.
 -- Assumes nothing.
 use mathlib.Core.Path.{ap, _∙_}
 use borrow.Author.Needs.{needs}
 use denote.Ref.{now}
 use Rattle.verdict.specs.Judgements.{figures, andThen}
 use Rattle.table.proofs.Offsets.{laid}
-use Rattle.steps.proofs.Steps.{position-stages}
-use Rattle.steps.proofs.check_position.Statement.{statement}
-use Rattle.steps.proofs.check_position.Tie as tie
+use Rattle.positions.proofs.Positions.{position-stages}
+use Rattle.positions.proofs.check_position.Statement.{statement}
+use Rattle.positions.proofs.check_position.Tie as tie
 
 check-place-requires : tie.Need-check-place-requires
 check-place-requires c κs = search needs

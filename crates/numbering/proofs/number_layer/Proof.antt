@@ -1,4 +1,4 @@
--- `rows::number_layer` meets its contract. The invariant: the numbers of the histories so far are stored, `fresh` is how many there are, and the
+-- `numbering::number_layer` meets its contract. The invariant: the numbers of the histories so far are stored, `fresh` is how many there are, and the
 -- buckets are theirs.
 -- Assumes nothing.
 use mathlib.Core.Path.{_≡_, refl, sym, ap, _∙_, subst}
@@ -9,14 +9,14 @@ use native.Mathlib.Omega.{arith}
 use denote.Ref.{now}
 use lib.ListN.{length, getD}
 use Rattle.layered.specs.Search.{tally}
 use Rattle.rows.specs.Limits.{bucketCount}
 use Rattle.rows.specs.Rows.{outIn, nextIn, firstWith, rowCount, numbered}
 use Rattle.rows.specs.Buckets.{rowHash, bucket, Linked}
 use Rattle.rows.specs.declared.Layer.{Layer}
 use Rattle.rows.proofs.Laws.{numberedTo, numbered-length, numbered-none, placed-same, count-most, first-le, kept, turn-later, turn-new}
 use Rattle.rows.proofs.Buckets.{hash-below, Bucketed, bucketed-none, bucketed-later, bucketed-new}
-use Rattle.rows.proofs.number_layer.Statement.{statement}
-use Rattle.rows.proofs.number_layer.Tie as tie
+use Rattle.numbering.proofs.number_layer.Statement.{statement}
+use Rattle.numbering.proofs.number_layer.Tie as tie
 
 -- how many numbers the first h histories have
 abbrev countTo : List ℕ → Layer → ℕ → ℕ

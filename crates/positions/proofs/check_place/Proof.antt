@@ -1,4 +1,4 @@
--- `steps::check_place` meets its contract.
+-- `positions::check_place` meets its contract.
 -- Assumes nothing.
 use mathlib.Core.List.{List}
 use Prim.Native.Nat.{ℕ}
@@ -6,9 +6,9 @@ use native.Mathlib.Omega.{arith}
 use borrow.Author.Needs.{needs}
 use denote.Ref.{now}
 use Rattle.table.proofs.Offsets.{Laid, laid}
-use Rattle.steps.proofs.Steps.{place-above, place-within}
-use Rattle.steps.proofs.check_place.Statement.{statement}
-use Rattle.steps.proofs.check_place.Tie as tie
+use Rattle.positions.proofs.Positions.{place-above, place-within}
+use Rattle.positions.proofs.check_place.Statement.{statement}
+use Rattle.positions.proofs.check_place.Tie as tie
 
 abbrev b₀ : tie.Start → List ℕ
 b₀ c = now (c .args .table)

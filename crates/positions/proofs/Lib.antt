@@ -1,0 +1,2 @@
+-- The proofs of `positions`.
+pub mod Positions
