@@ -1,8 +1,8 @@
 -- What passes the check of a table: exactly the bytes of the right length whose machine is legal and within the limits.
-use mathlib.Core.Path.{_≡_, refl, ap, _∙_}
+use mathlib.Core.Path.{_≡_, refl, sym, ap, _∙_}
 use mathlib.Core.Bool.{Bool, true, false, _||_, cond}
 use mathlib.Core.List.{List}
-use Prim.Native.Nat.{ℕ, zero, suc, _+_, _*_, _/_, _%_, _^_, _≤_, _<_}
+use Prim.Native.Nat.{ℕ, suc, _+_, _*_, _/_, _%_, _^_, _≤_, _<_}
 use native.Mathlib.Nat.{div-lt-iff-lt-mul, div-add-mod', mod-lt}
 use native.Mathlib.Omega.{arith}
 use lib.Dec.{eqb}
@@ -17,11 +17,11 @@ use Rattle.verdict.proofs.Laws.{finds-none, all-accept}
 use Rattle.sizes.specs.Sizes.{inputs, outputs, frames}
 use Rattle.sizes.specs.Sized.{Sized}
 use Rattle.sizes.proofs.Laws.{sized, not-outside, sizes-pass}
-use Rattle.table.specs.Table.{countAt, states, headLength, entriesBelow, entryCount, outputsAt, nextsAt, tableLength, layerPart, entryAt, machine, countsChecked, headChecked, partChecked, outputsChecked, nextsChecked, checked}
+use Rattle.table.specs.Table.{countAt, states, headLength, statesBelow, entriesBelow, entryCount, outputsAt, nextsAt, tableLength, layerPart, entryAt, machine, countsChecked, headChecked, partChecked, outputsChecked, nextsChecked, checked}
 use Rattle.table.proofs.Offsets.{part-word}
 use Rattle.table.proofs.Accepted.{sound}
 use Rattle.layered.specs.Machines.{Machine, Legal}
-use Rattle.layered.specs.Search.{total}
+use Rattle.layered.proofs.Lists.{total-mul}
 use Rattle.folded.proofs.Places.{before, entry-at}
 
 -- ---- tables
@@ -52,9 +52,8 @@ part-passes b limit at start c B =
 -- of the machine that the bytes b are
 module _ (b : List ℕ) where
   pub below-is : (t : ℕ) → entriesBelow b t ≡ before (2 ^ inputs b) (machine b) t
-  unfolding entriesBelow total
-  below-is zero = refl
-  below-is (suc t) = ap (λ e. e + states b t * 2 ^ inputs b) (below-is t)
+  unfolding entriesBelow statesBelow
+  below-is t = sym (total-mul t (2 ^ inputs b) (states b))
 
   -- ---- the bytes of a legal machine within the limits pass the check
 

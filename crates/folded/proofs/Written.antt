@@ -14,9 +14,9 @@ use Rattle.verdict.specs.Judgements.{answer}
 use Rattle.sizes.specs.Sizes.{inputs, outputs, frames}
 use Rattle.layered.specs.Search.{join, tabulate, total}
 use Rattle.layered.specs.Machines.{Machine, entries, tableWords}
-use Rattle.layered.proofs.Lists.{total-mul, tabulate-length, tabulate-at}
+use Rattle.layered.proofs.Lists.{total-cong, total-mul, tabulate-length, tabulate-at}
 use Rattle.layered.proofs.Entries.{entries-length, entries-at}
-use Rattle.table.specs.Table.{countAt, states, headLength, entriesBelow, entryCount, outputsAt, nextsAt, tableLength, entryAt, machine, checked}
+use Rattle.table.specs.Table.{countAt, states, headLength, statesBelow, entriesBelow, entryCount, outputsAt, nextsAt, tableLength, entryAt, machine, checked}
 use Rattle.folded.proofs.Agreement.{Agree, agree-legal}
 use Rattle.folded.proofs.Places.{before, place-below}
 use Rattle.folded.proofs.Checked.{Writable, passes}
@@ -166,9 +166,8 @@ module _ {n m T : ℕ} {M : Machine} (W : Writable n m T M) where
   states-back t b = byte-back (3 + t) (6 + 2 * t) (omega arith) (omega arith) ∙ count-word n m (2 ^ n) T M t b
 
   below-back : (t : ℕ) → t ≤ T → entriesBelow (tableBytes n m T M) t ≡ before (2 ^ n) M t
-  unfolding entriesBelow total
-  below-back zero b = refl
-  below-back (suc t) b = ap₂ _+_ (below-back t (omega arith)) (ap₂ _*_ (states-back t (omega arith)) (ap (λ k. 2 ^ k) inputs-back))
+  unfolding entriesBelow statesBelow
+  below-back t b = ap₂ _*_ (total-cong t _ _ (λ i l. states-back i (omega arith))) (ap (λ k. 2 ^ k) inputs-back) ∙ sym (total-mul t (2 ^ n) (M .states))
 
   count-back : entryCount (tableBytes n m T M) ≡ before (2 ^ n) M T
   unfolding entryCount

@@ -9,10 +9,10 @@ use lib.ListN.{length, length-append}
 use Rattle.sizes.specs.Limits.{mostFrames}
 use Rattle.sizes.specs.Sizes.{frames}
 use Rattle.table.specs.Limits.{mostStates}
-use Rattle.table.specs.Table.{states}
+use Rattle.table.specs.Table.{states, statesBelow}
 use Rattle.table.specs.Sound.{TableHeaded}
 use Rattle.table.proofs.Offsets.{arrays-stand}
-use Rattle.report.specs.Report.{ascii, decimal, field, pairLine, layerLines, statesBelow, totalLine, tableLines, lineRoom, Appended}
+use Rattle.report.specs.Report.{ascii, decimal, field, pairLine, layerLines, totalLine, tableLines, lineRoom, Appended}
 use Rattle.report.proofs.Decimal.{digits-most}
 use Rattle.report.proofs.Appending.{append-then}
 

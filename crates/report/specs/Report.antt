@@ -10,7 +10,7 @@ use lib.Dec.{ltb}
 use lib.ListN.{length}
 use lib.Seq.{sets}
 use Rattle.sizes.specs.Sizes.{frames}
-use Rattle.table.specs.Table.{states}
+use Rattle.table.specs.Table.{states, statesBelow}
 
 -- ---- text and numbers
 
@@ -44,11 +44,6 @@ pairLine a b = field a (code " ") ++ field b (code "\n")
 unfoldable pub layerLines : (table : List ℕ) (t : ℕ) → List ℕ
 layerLines b zero = []
 layerLines b (suc t) = layerLines b t ++ pairLine t (states b t)
-
--- how many states the layers below t have together
-unfoldable pub statesBelow : (table : List ℕ) (t : ℕ) → ℕ
-statesBelow b zero = 0
-statesBelow b (suc t) = statesBelow b t + states b t
 
 -- the last line of a table
 unfoldable pub totalLine : (total : ℕ) → List ℕ

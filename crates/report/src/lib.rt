@@ -1,13 +1,13 @@
 // The lines that the folding program prints, made in a buffer.
 use sizes::Sizes;
+use table::head::states_below;
 use table::head::states_of;
 ghost use mathlib.Core.Path.{_≡_};
 ghost use Prim.Native.Nat.{_+_, _*_, _≤_};
 ghost use lib.ListN.{length};
 ghost use Rattle.sizes.specs.Sizes.{frames};
-ghost use Rattle.table.specs.Limits.{mostStates};
 ghost use Rattle.table.specs.Sound.{TableHeaded};
-ghost use Rattle.report.specs.Report.{decimal, field, pairLine, layerLines, statesBelow, totalLine, tableLines, refusalLine, lineRoom, linesRoom, Appended};
+ghost use Rattle.report.specs.Report.{decimal, field, pairLine, layerLines, totalLine, tableLines, refusalLine, lineRoom, linesRoom, Appended};
 
 // The length of a buffer into which the lines of every table and of every refusal fit.
 pub struct Limits;
@@ -73,18 +73,6 @@ fn append_layers(out: &mut [u8], at: usize, table: &[u8], count: usize) -> usize
         end = append_pair(out, end, t, states_of(table, t));
     }
     end
-}
-
-// How many states the first `count` layers have.
-fn states_below(table: &[u8], count: usize) -> usize
-    requires { ⌜ TableHeaded (now table) × (count ≤ frames (now table) + 1) ⌝ }
-    ensures { λ r. ⌜ (r ≡ statesBelow (now (table .entry)) count) × (r ≤ mostStates * count) ⌝ }
-{
-    let mut states = 0;
-    for t in 0..count {
-        states += states_of(table, t);
-    }
-    states
 }
 
 // The last line of a table.

@@ -1,11 +1,9 @@
 -- Steps: of accepted tables, and what a step answers by its stages. Assumes nothing.
 use mathlib.Core.Path.{_≡_, refl, sym, ap, _∙_}
-use mathlib.Core.Bool.{false}
 use mathlib.Core.List.{List, [], _∷_, _++_}
 use Prim.Native.Nat.{ℕ, suc, _+_, _^_, _≤_, _<_}
 use native.Mathlib.Nat.{zero-add}
 use native.Mathlib.Omega.{arith}
-use lib.Dec.{eqb}
 use lib.ListN.{length}
 use borrow.Author.Tests.{le-ltb, lt-leb, ne-eqb}
 use Rattle.verdict.specs.Judgements.{answer, refusalFigures, figures}
@@ -13,7 +11,7 @@ use Rattle.verdict.specs.declared.Figures.{Figures}
 use Rattle.verdict.specs.declared.Refusal.{Refusal}
 use Rattle.verdict.specs.declared.Verdict.{Verdict}
 use Rattle.verdict.specs.declared.Verdict.the-variants.{Accepted, Refused}
-use Rattle.verdict.proofs.Laws.{never, stop, go-on}
+use Rattle.verdict.proofs.Laws.{never, refusal-number, stop, go-on}
 use Rattle.sizes.specs.Sizes.{inputs, outputs, frames}
 use Rattle.layered.specs.States.{Words, none, more}
 use Rattle.layered.specs.Machines.{feed}
@@ -80,9 +78,7 @@ steps-feed b p e words r = walks b p e 0 0 (sound b p e .legal .start-is) (omega
 -- a step that is refused hands back the position it was given
 hands-back : (b : List ℕ) (t s w : ℕ) (x : Verdict) (r : Refusal) → figures x ≡ stepChecked b t s w → x ≡ Refused r → handedBack (refusalFigures r) t s ≡ stepped b t s w
 unfolding stepped
-hands-back b t s w x r e q =
-    let z : eqb (refusalFigures r .number) 0 ≡ false = ne-eqb _ 0 (λ h. never r (refusalFigures r .place) (ap (λ (n : ℕ). answer n (refusalFigures r .place)) h)) in
-    rw (← e, q, z)
+hands-back b t s w x r e q = rw (← e, q, refusal-number r)
 
 -- a step's answer by its stages: the head refuses
 module _ (b : List ℕ) (t s w : ℕ) (x : Verdict) (ex : figures x ≡ headChecked b) where

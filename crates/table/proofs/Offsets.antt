@@ -3,7 +3,7 @@ use mathlib.Core.Path.{_≡_, refl, ap, _∙_}
 use mathlib.Core.Logic.{⊎-elim}
 use mathlib.Core.List.{List}
 use Prim.Native.Nat.{ℕ, zero, suc, _+_, _*_, _^_, _≤_, _<_}
-use native.Mathlib.Nat.{mul-le-mul, le-trans, le-of-lt, eq-or-lt-of-le}
+use native.Mathlib.Nat.{mul-le-mul, le-trans, le-of-lt, eq-or-lt-of-le, zero-mul, add-mul}
 use native.Mathlib.Omega.{arith}
 use lib.Dec.{lit≤}
 use lib.Pow.{pow-mono}
@@ -11,7 +11,8 @@ use lib.ListN.{length, take, drop}
 use Rattle.words.specs.Words.{wordAt}
 use Rattle.words.proofs.Laws.{number-take, number-drop}
 use Rattle.sizes.specs.Sizes.{inputs, outputs, frames}
-use Rattle.table.specs.Table.{countAt, states, headLength, entriesBelow, entryCount, outputsAt, nextsAt, tableLength}
+use Rattle.layered.specs.Search.{total}
+use Rattle.table.specs.Table.{countAt, states, headLength, statesBelow, entriesBelow, entryCount, outputsAt, nextsAt, tableLength}
 use Rattle.table.specs.Sound.{TableHeaded, layoutOf}
 use Rattle.table.specs.declared.Layout.{Layout}
 
@@ -30,10 +31,15 @@ pub row-small : (S K : ℕ) → S < 65536 → K ≤ 256 → S * K ≤ 16777216
 row-small S K hs hk = le-trans (mul-le-mul (le-of-lt hs) hk) (lit≤ tt)
 
 module _ (b : List ℕ) where
+  -- below the first layer there are no entries
+  pub below-first : entriesBelow b 0 ≡ 0
+  unfolding entriesBelow statesBelow total
+  below-first = zero-mul (2 ^ inputs b)
+
   -- layer t's entries follow those below it
   pub below-next : (t : ℕ) → entriesBelow b (suc t) ≡ entriesBelow b t + states b t * 2 ^ inputs b
-  unfolding entriesBelow
-  below-next t = refl
+  unfolding entriesBelow statesBelow total
+  below-next t = add-mul (total t (states b)) (states b t) (2 ^ inputs b)
 
   -- so more layers have more
   below-mono : (t u : ℕ) → t ≤ u → entriesBelow b t ≤ entriesBelow b u

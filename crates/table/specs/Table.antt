@@ -1,5 +1,5 @@
 -- The table format (document 01's sheet), its judgement, and its meaning as a layered machine.
-use Prim.Native.Nat.{ℕ, zero, suc, _+_, _*_, _/_, _^_}
+use Prim.Native.Nat.{ℕ, suc, _+_, _*_, _/_, _^_}
 use mathlib.Core.Bool.{not, _||_, cond}
 use mathlib.Core.List.{List}
 use lib.Dec.{ltb, leb, eqb}
@@ -9,6 +9,7 @@ use Rattle.verdict.specs.Judgements.{answer, refuse, andThen, refuseFirst, firs
 use Rattle.verdict.specs.declared.Figures.{Figures}
 use Rattle.sizes.specs.Sizes.{inputs, outputs, frames, outside, sizesChecked}
 use Rattle.sizes.specs.Limits.{mostInputs}
+use Rattle.layered.specs.Search.{total}
 use Rattle.layered.specs.Machines.{Machine}
 use Rattle.table.specs.Limits.{sizesLength, endStates, mostStates}
 
@@ -26,10 +27,13 @@ states b t = wordAt b (countAt t)
 unfoldable pub headLength : (T : ℕ) → ℕ
 headLength T = countAt (suc T)
 
--- how many entries the layers below t have
+-- S0 + .. + S(t-1): how many states the layers below t have
+unfoldable pub statesBelow : List ℕ → (t : ℕ) → ℕ
+statesBelow b t = total t (states b)
+
+-- how many entries they have: each state has one for each word
 unfoldable pub entriesBelow : List ℕ → (t : ℕ) → ℕ
-entriesBelow b zero = 0
-entriesBelow b (suc t) = entriesBelow b t + states b t * 2 ^ inputs b
+entriesBelow b t = statesBelow b t * 2 ^ inputs b
 
 -- E of document 01
 unfoldable pub entryCount : List ℕ → ℕ

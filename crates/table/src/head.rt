@@ -16,7 +16,7 @@ ghost use Rattle.verdict.specs.Judgements.{figures};
 ghost use Rattle.sizes.specs.Sizes.{inputs, frames};
 ghost use Rattle.sizes.specs.Limits.{mostFrames};
 ghost use Rattle.table.specs.Limits.{endStates, mostStates};
-ghost use Rattle.table.specs.Table.{states, headLength, entriesBelow, countsChecked, headChecked};
+ghost use Rattle.table.specs.Table.{states, headLength, statesBelow, entriesBelow, countsChecked, headChecked};
 ghost use Rattle.table.specs.Sound.{TableHeaded, layoutOf};
 
 // The length of the head of a table of so many frames.
@@ -61,17 +61,25 @@ fn check_counts(table: &[u8], last: usize) -> Verdict
     Verdict::Accepted(0)
 }
 
-// How many entries the layers below `layer` have, where each state has one for each of `words`.
+// How many states the layers below `layer` have.
+pub fn states_below(table: &[u8], layer: usize) -> usize
+    requires { ⌜ (layer ≤ mostFrames + 1) × (6 + 2 * layer ≤ length (now table)) ⌝ }
+    ensures { λ r. ⌜ (r ≡ statesBelow (now (table .entry)) layer) × (r ≤ 65536 * layer) ⌝ }
+{
+    let mut states = 0;
+    for t in 0..layer {
+        states += states_of(table, t);
+    }
+    states
+}
+
+// How many entries they have, where each state has one for each of `words`.
 pub fn entries_below(table: &[u8], words: usize, layer: usize) -> usize
     requires { ⌜ (words ≡ 2 ^ inputs (now table)) × (words ≤ 256) ⌝ }
     requires { ⌜ (layer ≤ mostFrames) × (6 + 2 * layer ≤ length (now table)) ⌝ }
     ensures { λ r. ⌜ (r ≡ entriesBelow (now (table .entry)) layer) × (r ≤ 268435456) ⌝ }
 {
-    let mut entries = 0;
-    for t in 0..layer {
-        entries += states_of(table, t) * words;
-    }
-    entries
+    states_below(table, layer) * words
 }
 
 // All that is judged before number 5: 1 (six bytes), 2 (n, m, T), 1 (head), 2 (counts), 1 (length).

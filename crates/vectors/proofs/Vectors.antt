@@ -8,6 +8,7 @@ use Rattle.words.specs.Words.{wordAt}
 use Rattle.verdict.specs.Judgements.{refuseFirst, firstRefusal}
 use Rattle.verdict.specs.declared.Figures.{Figures}
 use Rattle.sizes.specs.Sizes.{inputs, outputs, frames, sizesChecked}
+use Rattle.layered.specs.Search.{total}
 use Rattle.layered.specs.Machines.{tableWords}
 use Rattle.layered.specs.States.{count, number, history}
 use Rattle.layered.proofs.Search.{both}
@@ -32,7 +33,7 @@ unfolding folded.foldedBytes tableWords count number history response historyWor
 folded-bytes b = folded.foldedBytes b
 
 abbrev table-checked : List ℕ → Figures
-unfolding table.checked table.headChecked table.countsChecked table.outputsChecked table.nextsChecked table.partChecked table.layerPart table.countAt table.states table.headLength table.entriesBelow table.entryCount table.outputsAt table.nextsAt table.tableLength table.entryAt firstRefusal
+unfolding table.checked table.headChecked table.countsChecked table.outputsChecked table.nextsChecked table.partChecked table.layerPart table.countAt table.states table.headLength table.statesBelow table.entriesBelow table.entryCount table.outputsAt table.nextsAt table.tableLength table.entryAt total firstRefusal
 table-checked b = table.checked b
 
 -- ---- the test

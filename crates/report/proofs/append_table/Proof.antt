@@ -45,7 +45,8 @@ append-layers-requires c κs =
 states-below-requires : tie.Need-states-below-requires
 states-below-requires c κs =
     let r = c .before .before .before .before .before .before .before .before .before .before .before in
-    (start r .pre .1, omega (arith, few r))
+    let a = start r in
+    (omega (arith, few r), omega (arith, few r, a .pre .1 .whole, arrays-stand (now (a .args .table))))
 
 append-total-requires : tie.Need-append-total-requires
 append-total-requires c κs =

@@ -14,7 +14,7 @@ use Rattle.verdict.specs.declared.Figures.{Figures}
 use Rattle.verdict.proofs.Laws.{row-stop, row-on, row-end}
 use Rattle.sizes.specs.Sizes.{inputs, frames}
 use Rattle.table.specs.Table.{states, entriesBelow, nextsAt, layerPart, partChecked, nextsChecked}
-use Rattle.table.proofs.Offsets.{Laid, laid, below-next, layer-in}
+use Rattle.table.proofs.Offsets.{Laid, laid, below-first, below-next, layer-in}
 use Rattle.table.proofs.entries.check_nexts.Statement.{statement}
 use Rattle.table.proofs.entries.check_nexts.Tie as tie
 
@@ -66,12 +66,12 @@ judged c =
     c .check-part .ensures ∙ λ j. partChecked (s j) (l .inv .1 j) (take (k j) (drop (l .inv .1 j) b))
 
 loop-holds : tie.Need-loop-holds Inv-loop μ-loop
-unfolding nextsChecked entriesBelow
+unfolding nextsChecked
 loop-holds c =
     let s = c .before in
     let l = laid₀ s in
     let z : frames (b₀ s) ≡ s .args .layout .frames - 0 = omega arith in
-    (omega arith, omega arith, ap (firstRefusal (judge (b₀ s)) 0) z)
+    (omega arith, omega (arith, below-first (b₀ s)), ap (firstRefusal (judge (b₀ s)) 0) z)
 
 states-of-requires : tie.Need-states-of-requires Inv-loop μ-loop
 states-of-requires c κs = omega (arith, laid₀ (s₀ c))
