@@ -1,28 +1,26 @@
--- Laws of `answerAfter` and `bufferAfter`: too short an `answer` leaves all as it was. Assumes nothing.
+-- Laws of `answerAfter` and `bufferAfter`: what is stored stands in front, and too short an `answer` leaves all as it was. Assumes nothing.
 use mathlib.Core.Path.{_≡_, ap, _∙_}
 use mathlib.Core.List.{List}
 use Prim.Native.Nat.{ℕ, _≤_, _<_}
+use native.Mathlib.Nat.{zero-add}
+use native.Mathlib.Omega.{arith}
 use lib.ListN.{length}
+use lib.Seq.{sets, sets-eq}
 use borrow.Author.Tests.{lt-ltb, le-ltb}
-use Rattle.verdict.specs.declared.Figures.{Figures}
-use Rattle.steps.specs.declared.StepFigures.{StepFigures}
-use Rattle.answers.specs.Answer.{verdictLength, stepLength, answered, stepAnswered, answerAfter, stepAnswerAfter, bufferAfter}
+use Rattle.answers.specs.Answer.{filled, verdictLength, answerAfter, bufferAfter}
 
-pub answer-kept : (f : Figures) (answer : List ℕ) → length answer < verdictLength → answer ≡ answerAfter f answer
+-- numbers stored one behind the other
+pub fills : (numbers answer : List ℕ) → length numbers ≤ length answer → sets answer 0 numbers ≡ filled numbers answer
+fills numbers answer h = sets-eq numbers answer 0 (omega arith) ∙ rw zero-add
+
+pub answer-kept : (numbers answer : List ℕ) → length answer < length numbers → answer ≡ answerAfter numbers answer
 unfolding answerAfter
-answer-kept f answer h = rw (lt-ltb _ _ h)
+answer-kept numbers answer h = rw (lt-ltb _ _ h)
 
-pub answer-put : (f g : Figures) (answer now : List ℕ) → verdictLength ≤ length answer → g ≡ f → now ≡ answered g answer → now ≡ answerAfter f answer
+pub answer-put : (defined numbers answer now : List ℕ) → length defined ≤ length answer → numbers ≡ defined → now ≡ filled numbers answer
+    → now ≡ answerAfter defined answer
 unfolding answerAfter
-answer-put f g answer now h e q = rw (le-ltb _ _ h) (q ∙ ap (λ (f : Figures). answered f answer) e)
-
-pub step-kept : (f : StepFigures) (answer : List ℕ) → length answer < stepLength → answer ≡ stepAnswerAfter f answer
-unfolding stepAnswerAfter
-step-kept f answer h = rw (lt-ltb _ _ h)
-
-pub step-put : (f g : StepFigures) (answer now : List ℕ) → stepLength ≤ length answer → g ≡ f → now ≡ stepAnswered g answer → now ≡ stepAnswerAfter f answer
-unfolding stepAnswerAfter
-step-put f g answer now h e q = rw (le-ltb _ _ h) (q ∙ ap (λ (f : StepFigures). stepAnswered f answer) e)
+answer-put defined numbers answer now h e q = rw (le-ltb _ _ h) (q ∙ ap (λ (l : List ℕ). filled l answer) e)
 
 pub buffer-kept : (answer after before : List ℕ) → length answer < verdictLength → before ≡ bufferAfter answer after before
 unfolding bufferAfter

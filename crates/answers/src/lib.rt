@@ -1,25 +1,28 @@
-// What a call of the C interface leaves in `answer`: number and place, and of a step the further values.
+// What a call of the C interface leaves in `answer`: number and place, and the further values of a step and of a price.
+use price::PriceFigures;
 use steps::StepFigures;
 use verdict::Verdict;
 ghost use mathlib.Core.Path.{_≡_};
 ghost use Prim.Native.Nat.{_≤_};
 ghost use lib.ListN.{length};
 ghost use Rattle.verdict.specs.Judgements.{figures};
-ghost use Rattle.answers.specs.Answer.{verdictLength, stepLength, answered, stepAnswered};
+ghost use Rattle.answers.specs.Answer.{verdictNumbers, stepNumbers, priceNumbers, filled};
 
-// How many numbers a call answers: number and place; a step also output, layer and state.
+// How many numbers a call answers: number and place; a step also output, layer and state; pricing also the cents.
 pub struct Limits;
 
 impl Limits {
     pub const VERDICT: usize = 2;
 
     pub const STEP: usize = 5;
+
+    pub const PRICE: usize = 3;
 }
 
 // Puts the figures of a verdict into `answer`, which has room for them.
 pub fn put(verdict: Verdict, answer: &mut [u64])
-    requires { ⌜ verdictLength ≤ length (now answer) ⌝ }
-    ensures { λ _. ⌜ now (answer .exit) ≡ answered (figures verdict) (now (answer .entry)) ⌝ }
+    requires { ⌜ length (verdictNumbers (figures verdict)) ≤ length (now answer) ⌝ }
+    ensures { λ _. ⌜ now (answer .exit) ≡ filled (verdictNumbers (figures verdict)) (now (answer .entry)) ⌝ }
 {
     let figures = verdict.figures();
     answer[0] = figures.number as u64;
@@ -28,12 +31,22 @@ pub fn put(verdict: Verdict, answer: &mut [u64])
 
 // Puts all figures of a step into `answer`, which has room for them.
 pub fn put_step(step: StepFigures, answer: &mut [u64])
-    requires { ⌜ stepLength ≤ length (now answer) ⌝ }
-    ensures { λ _. ⌜ now (answer .exit) ≡ stepAnswered step (now (answer .entry)) ⌝ }
+    requires { ⌜ length (stepNumbers step) ≤ length (now answer) ⌝ }
+    ensures { λ _. ⌜ now (answer .exit) ≡ filled (stepNumbers step) (now (answer .entry)) ⌝ }
 {
     answer[0] = step.number as u64;
     answer[1] = step.place as u64;
     answer[2] = step.output as u64;
     answer[3] = step.layer as u64;
     answer[4] = step.state as u64;
+}
+
+// Puts all figures of a price into `answer`, which has room for them.
+pub fn put_price(price: PriceFigures, answer: &mut [u64])
+    requires { ⌜ length (priceNumbers price) ≤ length (now answer) ⌝ }
+    ensures { λ _. ⌜ now (answer .exit) ≡ filled (priceNumbers price) (now (answer .entry)) ⌝ }
+{
+    answer[0] = price.number as u64;
+    answer[1] = price.place as u64;
+    answer[2] = price.cents as u64;
 }

@@ -2,6 +2,7 @@
 // further values named; the rest of it stays as before. Where `answer` is too short for that, nothing at all is changed.
 use answers::Limits;
 use answers::put;
+use answers::put_price;
 use answers::put_step;
 use positions::Position;
 use verdict::Verdict;
@@ -13,12 +14,13 @@ ghost use Rattle.table.specs.Table.{checked as tableChecked};
 ghost use Rattle.steps.specs.Steps.{stepped};
 ghost use Rattle.run.specs.Run.{ran, runResult};
 ghost use Rattle.folded.specs.Folded.{foldChecked, foldResult, foldScratch};
+ghost use Rattle.price.specs.Price.{priced};
 ghost use Rattle.unfolded.specs.Unfolded.{unfoldChecked, unfoldResult};
-ghost use Rattle.answers.specs.Answer.{answerAfter, stepAnswerAfter, bufferAfter};
+ghost use Rattle.answers.specs.Answer.{verdictNumbers, stepNumbers, priceNumbers, answerAfter, bufferAfter};
 
 #[no_mangle]
 pub extern "C" fn tff_check_circuit(circuit: &[u8], answer: &mut [u64])
-    ensures { λ _. ⌜ now (answer .exit) ≡ answerAfter (checked (now (circuit .entry))) (now (answer .entry)) ⌝ }
+    ensures { λ _. ⌜ now (answer .exit) ≡ answerAfter (verdictNumbers (checked (now (circuit .entry)))) (now (answer .entry)) ⌝ }
 {
     if answer.len() < Limits::VERDICT {
         return;
@@ -34,7 +36,7 @@ pub extern "C" fn tff_simulate(
     result: &mut [u16],
     answer: &mut [u64],
 )
-    ensures answer { λ _. ⌜ now (answer .exit) ≡ answerAfter (simulated (now (circuit .entry)) (now (words .entry)) (length (now (result .entry)))) (now (answer .entry)) ⌝ }
+    ensures answer { λ _. ⌜ now (answer .exit) ≡ answerAfter (verdictNumbers (simulated (now (circuit .entry)) (now (words .entry)) (length (now (result .entry))))) (now (answer .entry)) ⌝ }
     ensures result { λ _. ⌜ now (result .exit) ≡ bufferAfter (now (answer .entry)) (simulationResult (now (circuit .entry)) (now (words .entry)) (now (result .entry))) (now (result .entry)) ⌝ }
 {
     if answer.len() < Limits::VERDICT {
@@ -46,7 +48,7 @@ pub extern "C" fn tff_simulate(
 
 #[no_mangle]
 pub extern "C" fn tff_check_table(table: &[u8], answer: &mut [u64])
-    ensures { λ _. ⌜ now (answer .exit) ≡ answerAfter (tableChecked (now (table .entry))) (now (answer .entry)) ⌝ }
+    ensures { λ _. ⌜ now (answer .exit) ≡ answerAfter (verdictNumbers (tableChecked (now (table .entry)))) (now (answer .entry)) ⌝ }
 {
     if answer.len() < Limits::VERDICT {
         return;
@@ -57,7 +59,7 @@ pub extern "C" fn tff_check_table(table: &[u8], answer: &mut [u64])
 
 #[no_mangle]
 pub extern "C" fn tff_run(table: &[u8], words: &[u16], result: &mut [u16], answer: &mut [u64])
-    ensures answer { λ _. ⌜ now (answer .exit) ≡ answerAfter (ran (now (table .entry)) (now (words .entry)) (length (now (result .entry)))) (now (answer .entry)) ⌝ }
+    ensures answer { λ _. ⌜ now (answer .exit) ≡ answerAfter (verdictNumbers (ran (now (table .entry)) (now (words .entry)) (length (now (result .entry))))) (now (answer .entry)) ⌝ }
     ensures result { λ _. ⌜ now (result .exit) ≡ bufferAfter (now (answer .entry)) (runResult (now (table .entry)) (now (words .entry)) (now (result .entry))) (now (result .entry)) ⌝ }
 {
     if answer.len() < Limits::VERDICT {
@@ -69,7 +71,7 @@ pub extern "C" fn tff_run(table: &[u8], words: &[u16], result: &mut [u16], answe
 
 #[no_mangle]
 pub extern "C" fn tff_step(table: &[u8], layer: u16, state: u16, word: u16, answer: &mut [u64])
-    ensures { λ _. ⌜ now (answer .exit) ≡ stepAnswerAfter (stepped (now (table .entry)) layer state word) (now (answer .entry)) ⌝ }
+    ensures { λ _. ⌜ now (answer .exit) ≡ answerAfter (stepNumbers (stepped (now (table .entry)) layer state word)) (now (answer .entry)) ⌝ }
 {
     if answer.len() < Limits::STEP {
         return;
@@ -89,7 +91,7 @@ pub extern "C" fn tff_fold(
     result: &mut [u8],
     answer: &mut [u64],
 )
-    ensures answer { λ _. ⌜ now (answer .exit) ≡ answerAfter (foldChecked (now (circuit .entry)) (length (now (scratch .entry))) (length (now (result .entry)))) (now (answer .entry)) ⌝ }
+    ensures answer { λ _. ⌜ now (answer .exit) ≡ answerAfter (verdictNumbers (foldChecked (now (circuit .entry)) (length (now (scratch .entry))) (length (now (result .entry))))) (now (answer .entry)) ⌝ }
     ensures result { λ _. ⌜ now (result .exit) ≡ bufferAfter (now (answer .entry)) (foldResult (now (circuit .entry)) (length (now (scratch .entry))) (now (result .entry))) (now (result .entry)) ⌝ }
     ensures scratch { λ _. ⌜ now (scratch .exit) ≡ bufferAfter (now (answer .entry)) (foldScratch (now (circuit .entry)) (now (scratch .entry)) (length (now (result .entry)))) (now (scratch .entry)) ⌝ }
 {
@@ -101,8 +103,19 @@ pub extern "C" fn tff_fold(
 }
 
 #[no_mangle]
+pub extern "C" fn tff_price(table: &[u8], answer: &mut [u64])
+    ensures { λ _. ⌜ now (answer .exit) ≡ answerAfter (priceNumbers (priced (now (table .entry)))) (now (answer .entry)) ⌝ }
+{
+    if answer.len() < Limits::PRICE {
+        return;
+    }
+    let priced = price::price(table);
+    put_price(priced.figures(), answer);
+}
+
+#[no_mangle]
 pub extern "C" fn tff_unfold(table: &[u8], result: &mut [u8], answer: &mut [u64])
-    ensures answer { λ _. ⌜ now (answer .exit) ≡ answerAfter (unfoldChecked (now (table .entry)) (length (now (result .entry)))) (now (answer .entry)) ⌝ }
+    ensures answer { λ _. ⌜ now (answer .exit) ≡ answerAfter (verdictNumbers (unfoldChecked (now (table .entry)) (length (now (result .entry))))) (now (answer .entry)) ⌝ }
     ensures result { λ _. ⌜ now (result .exit) ≡ bufferAfter (now (answer .entry)) (unfoldResult (now (table .entry)) (now (result .entry))) (now (result .entry)) ⌝ }
 {
     if answer.len() < Limits::VERDICT {

@@ -1,9 +1,10 @@
 -- `answers::put` meets its contract.
 -- Assumes nothing.
-use mathlib.Core.Path.{ap}
+use mathlib.Core.Path.{ap, _∙_}
 use denote.Ref.{now}
 use Rattle.verdict.specs.declared.Figures.{Figures}
-use Rattle.answers.specs.Answer.{answered}
+use Rattle.answers.specs.Answer.{verdictNumbers, filled}
+use Rattle.answers.proofs.Laws.{fills}
 use borrow.Author.Needs.{needs}
 use Rattle.answers.proofs.put.Statement.{statement}
 use Rattle.answers.proofs.put.Tie as tie
@@ -21,7 +22,9 @@ same-length : tie.Need-same-length
 same-length c = search needs
 
 returns : tie.Need-returns
-returns c = ap (λ (f : Figures). answered f (now (c .before .before .args .answer))) (c .figures .ensures)
+returns c =
+    let a = c .before .before in
+    fills (verdictNumbers (c .figures .result)) (now (a .args .answer)) (a .pre) ∙ ap (λ (f : Figures). filled (verdictNumbers f) (now (a .args .answer))) (c .figures .ensures)
 
 pub put-spec : {M : Type 1} → statement M
 put-spec =

@@ -1,7 +1,10 @@
 -- `answers::put_step` meets its contract.
 -- Assumes nothing.
 use native.Mathlib.Omega.{arith}
+use denote.Ref.{now}
 use lib.ListN.{length-set}
+use Rattle.answers.specs.Answer.{stepNumbers}
+use Rattle.answers.proofs.Laws.{fills}
 use borrow.Author.Needs.{needs}
 use Rattle.answers.proofs.put_step.Statement.{statement}
 use Rattle.answers.proofs.put_step.Tie as tie
@@ -25,7 +28,7 @@ same-length : tie.Need-same-length
 same-length c = search needs
 
 returns : tie.Need-returns
-returns c = search needs
+returns c = fills (stepNumbers (c .args .step)) (now (c .args .answer)) (c .pre)
 
 pub put-step-spec : {M : Type 1} → statement M
 put-step-spec =

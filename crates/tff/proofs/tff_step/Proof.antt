@@ -1,13 +1,14 @@
 -- `tff::tff_step` meets its contract.
 -- Assumes nothing.
-use mathlib.Core.Path.{_∙_}
-use Rattle.answers.proofs.Laws.{step-kept, step-put}
+use mathlib.Core.Path.{ap, _∙_}
+use Rattle.answers.specs.Answer.{stepNumbers}
+use Rattle.answers.proofs.Laws.{answer-kept, answer-put}
 use borrow.Author.Needs.{needs}
 use Rattle.tff.proofs.tff_step.Statement.{statement}
 use Rattle.tff.proofs.tff_step.Tie as tie
 
 returns : tie.Need-returns
-returns c = step-kept _ _ (c .if1 .taken)
+returns c = answer-kept _ _ (c .if1 .taken)
 
 step-requires : tie.Need-step-requires
 step-requires c κs = search needs
@@ -26,7 +27,7 @@ returns-2 c =
     let p = c .before .before in
     let f = p .before .before in
     let k = f .before in
-    step-put _ _ _ _ (k .before .if1 .left) (f .figures .ensures ∙ k .step .ensures .0) (p .put-step .ensures)
+    answer-put _ _ _ _ (k .before .if1 .left) (ap stepNumbers (f .figures .ensures ∙ k .step .ensures .0)) (p .put-step .ensures)
 
 pub tff-step-spec : {M : Type 1} → statement M
 tff-step-spec =

@@ -1,0 +1,4 @@
+-- The proofs of `price`: laws by subject, lowest first.
+pub mod Bands
+pub mod Prices
+pub mod Theorems
