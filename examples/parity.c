@@ -1,4 +1,4 @@
-/* Folds parity, reads its table aloud, steps it, and draws gates from it. docs/EXAMPLE.md walks through it.
+/* Folds parity, reads its table aloud, prices it, steps it, and draws gates from it. docs/EXAMPLE.md walks through it.
  *
  *   rt staticlib tff
  *   cc -Iinclude examples/parity.c -Ltarget/staticlib -ltff -o target/parity && target/parity
@@ -29,6 +29,9 @@ int main(void) {
             for (unsigned w = 0; w < 2; w++, entry++)
                 printf("layer %u state %u word %u: output %u, next state %u\n", t, s, w,
                        word(table, entry), word(table, entry + entries));
+
+    tff_price(table, sizeof table, answer, 3);
+    printf("price: %d cents\n", (int)answer[2]);
 
     uint16_t layer = 0, state = 0;
     for (unsigned t = 0; t < frames; t++) {

@@ -16,8 +16,9 @@
  * A slice is passed as a pointer and a number of elements. The pointer is aligned and not null, also
  * where there are no elements. A slice that a call may write to shares no element with another.
  *
- * Each call puts a number and a place into answer[0] and answer[1], tff_step three values more; the
- * rest of answer stays as it was. Where answer is too short for them, nothing at all is changed.
+ * Each call puts a number and a place into answer[0] and answer[1], tff_step three values more,
+ * tff_price one; the rest of answer stays as it was. Where answer is too short for them, nothing at
+ * all is changed.
  *
  *   number  place                       when
  *   0       bytes or words written,     accepted; what follows the result stays as it was
@@ -88,6 +89,13 @@ void tff_run(const uint8_t *table, size_t table_len,
 void tff_step(const uint8_t *table, size_t table_len,
               uint16_t layer, uint16_t state, uint16_t word,
               uint64_t *answer, size_t answer_len);
+
+/* The price of a table in cents. Answers three values: number, place and cents. Charged are the
+ * states of layers 0 to T-1: 1,800 each for the first 32, 950 for the next 224, 320 beyond; every
+ * table adds 12,000. Where T is above 12, this sum rises by 7.5 percent of itself, that part rounded
+ * to the cent, half upward. Refuses as the check, with 0 cents. Accepted: place 0. */
+void tff_price(const uint8_t *table, size_t table_len,
+               uint64_t *answer, size_t answer_len);
 
 /* Puts into result a circuit whose outputs are the table's.
  * Refuses as the check, then 8, 7. Accepted: place is the bytes written. */

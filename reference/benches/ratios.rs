@@ -1,4 +1,5 @@
-//! Times of the proved library beside those of the plain implementation, one line a case.
+//! Times of the proved library beside those of the plain implementation, one line a case; then of
+//! pricing beside checking, both proved.
 //!
 //! The two take turns in one run; a line gives their median times and the ratio of these.
 
@@ -9,14 +10,17 @@ use reference::gen::{any_sequence, circuits, tables, Rng};
 use reference::{Circuit, Sizes};
 
 fn main() {
-    println!(
-        "{:<40} {:>13} {:>13} {:>7}",
-        "case", "proved", "plain", "ratio"
-    );
+    heading("proved", "plain");
     circuit_level();
     table_level();
     fold_level();
     unfold_level();
+    heading("price", "check");
+    price_beside_check();
+}
+
+fn heading(first: &str, second: &str) {
+    println!("{:<40} {first:>13} {second:>13} {:>7}", "case", "ratio");
 }
 
 /// Simulating a circuit with the most gates.
@@ -39,12 +43,9 @@ fn circuit_level() {
     );
 }
 
-/// Checking a table of a million entries.
+/// Checking and pricing a table of a million entries.
 fn table_level() {
-    let sizes = Sizes::new(6, 9, 2);
-    let table = tables::legal(&mut Rng::new(1), sizes, vec![1, 15_624, 1]);
-    assert_eq!(table.head.entries(), 1_000_000);
-    let table = table.to_bytes();
+    let table = million_entries();
     let often = Runs { runs: 21, calls: 5 };
     often.measure(
         "check a table of 1000000 entries",
@@ -52,6 +53,31 @@ fn table_level() {
         |_| tff::check_table(black_box(&table)),
         |_| reference::check_table(black_box(&table)),
     );
+    often.measure(
+        "price a table of 1000000 entries",
+        &mut (),
+        |_| tff::price(black_box(&table)),
+        |_| reference::price(black_box(&table)),
+    );
+}
+
+/// What a price costs beyond the check that it begins with.
+fn price_beside_check() {
+    let table = million_entries();
+    let often = Runs { runs: 21, calls: 5 };
+    often.measure(
+        "a table of 1000000 entries",
+        &mut (),
+        |_| tff::price(black_box(&table)),
+        |_| tff::check_table(black_box(&table)),
+    );
+}
+
+fn million_entries() -> Vec<u8> {
+    let sizes = Sizes::new(6, 9, 2);
+    let table = tables::legal(&mut Rng::new(1), sizes, vec![1, 15_624, 1]);
+    assert_eq!(table.head.entries(), 1_000_000);
+    table.to_bytes()
 }
 
 /// Folding with the most sequences, to few and to many states.
@@ -112,17 +138,17 @@ impl Runs {
         &self,
         case: &str,
         memory: &mut Memory,
-        proved: impl Fn(&mut Memory) -> A,
-        plain: impl Fn(&mut Memory) -> B,
+        first: impl Fn(&mut Memory) -> A,
+        second: impl Fn(&mut Memory) -> B,
     ) {
-        let (mut proved_times, mut plain_times) = (Vec::new(), Vec::new());
+        let (mut first_times, mut second_times) = (Vec::new(), Vec::new());
         for _ in 0..self.runs {
-            proved_times.push(self.time(memory, &proved));
-            plain_times.push(self.time(memory, &plain));
+            first_times.push(self.time(memory, &first));
+            second_times.push(self.time(memory, &second));
         }
-        let [proved, plain] = [proved_times, plain_times].map(median);
-        let ratio = proved / plain;
-        println!("{case:<40} {proved:>10.4} ms {plain:>10.4} ms {ratio:>7.3}");
+        let [first, second] = [first_times, second_times].map(median);
+        let ratio = first / second;
+        println!("{case:<40} {first:>10.4} ms {second:>10.4} ms {ratio:>7.3}");
     }
 
     /// Milliseconds that a call takes.

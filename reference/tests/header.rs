@@ -13,7 +13,9 @@ use std::process::Command;
 use child::written;
 use reference::vectors::PARITY_TABLE;
 use reference::words::{to_bytes, words_at};
-use reference::{check_circuit, check_table, examples, fold, run, simulate, step, unfold, Answer};
+use reference::{
+    check_circuit, check_table, examples, fold, price, run, simulate, step, unfold, Answer,
+};
 use root::root;
 
 /// What the C program in the file `source` of the repository prints.
@@ -60,6 +62,8 @@ fn example_lines() -> String {
             .unwrap();
         }
     }
+
+    writeln!(text, "price: {} cents", price(&table).cents).unwrap();
 
     let (mut layer, mut state) = (0, 0);
     for _ in 0..2 {
@@ -120,6 +124,9 @@ fn calls_lines() -> String {
         text += &line("step", |_, _| {
             step(&table[..length], layer, state, word).into()
         });
+    }
+    for length in [36, 35] {
+        text += &line("price", |_, _| price(&table[..length]).into());
     }
     for (length, result) in [(36, 76), (35, 76), (36, 75)] {
         text += &line("unfold", |_, bytes| {

@@ -6,6 +6,7 @@
 
 mod circuit;
 mod fold;
+mod price;
 mod table;
 mod unfold;
 
@@ -13,6 +14,7 @@ pub mod raw;
 
 pub use circuit::{check_circuit, simulate};
 pub use fold::fold;
+pub use price::{price, Priced};
 pub use table::{check_table, run, step, Stepped};
 pub use unfold::unfold;
 

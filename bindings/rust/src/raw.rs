@@ -58,6 +58,8 @@ extern "C" {
         answer_len: usize,
     );
 
+    pub fn tff_price(table: *const u8, table_len: usize, answer: *mut u64, answer_len: usize);
+
     pub fn tff_unfold(
         table: *const u8,
         table_len: usize,

@@ -1,6 +1,7 @@
 //! Tables to try the implementations on.
 
 use super::{any_sizes, Rng};
+use crate::circuit::{simulate, Circuit};
 use crate::sizes::Sizes;
 use crate::table::{Head, Table};
 use crate::unfold::gates_needed;
@@ -47,6 +48,65 @@ pub fn any_counts(rng: &mut Rng, sizes: &Sizes, most: usize) -> Vec<u16> {
             }
         })
         .collect()
+}
+
+/// Legal counts with `charged` states before the last layer together, spread at random. The layers
+/// between the first and the last must be able to hold them, at least one each.
+pub fn counts_with(rng: &mut Rng, frames: usize, charged: usize) -> Vec<u16> {
+    let mut counts = vec![1; frames + 1];
+    let mut growing: Vec<usize> = (1..frames).collect();
+    let mut left = charged - frames;
+    while left > 0 {
+        let chosen = rng.below(growing.len());
+        let count = &mut counts[growing[chosen]];
+        let more = rng.between(1, left.min(usize::from(Table::MOST_STATES - *count)));
+        *count += more as u16;
+        left -= more;
+        if *count == Table::MOST_STATES {
+            growing.swap_remove(chosen);
+        }
+    }
+    counts
+}
+
+/// The same table with one state more in an inner layer, which nothing enters.
+pub fn with_spare_state(table: &Table, layer: usize) -> Table {
+    let mut larger = table.clone();
+    let end = table.head.entries_of(layer).end;
+    let words = table.head.sizes.input_words();
+    larger.head.counts[layer] += 1;
+    for entries in [&mut larger.output_words, &mut larger.next_states] {
+        entries.splice(end..end, vec![0; words]);
+    }
+    larger
+}
+
+/// The table of a circuit in which each history has a state of its own.
+pub fn each_history(circuit: &Circuit) -> Table {
+    let sizes = circuit.sizes;
+    let mut counts: Vec<u16> = (0..sizes.frames)
+        .map(|layer| sizes.histories(layer) as u16)
+        .collect();
+    counts.push(1);
+    let mut table = Table {
+        head: Head { sizes, counts },
+        output_words: Vec::new(),
+        next_states: Vec::new(),
+    };
+    for layer in 0..sizes.frames {
+        for history in 0..sizes.histories(layer + 1) {
+            let mut words = sizes.history_words(layer + 1, history);
+            words.resize(sizes.frames, 0);
+            let mut outputs = vec![0; sizes.frames];
+            simulate(&circuit.to_bytes(), &words, &mut outputs);
+            table.output_words.push(outputs[layer]);
+            let ends = layer + 1 == sizes.frames;
+            table
+                .next_states
+                .push(if ends { 0 } else { history as u16 });
+        }
+    }
+    table
 }
 
 /// Gives some states of a layer the entries of an earlier one.

@@ -69,6 +69,9 @@ int main(void) {
     CALL(step, table, 36, 2, 0, 1);
     CALL(step, table, 36, 1, 0, 2);
 
+    CALL(price, table, 36);
+    CALL(price, table, 35);
+
     CALL(unfold, table, 36, bytes, 76);
     CALL(unfold, table, 35, bytes, 76);
     CALL(unfold, table, 36, bytes, 75);
