@@ -3,7 +3,7 @@ use mathlib.Core.Path.{_≡_, ap, ap₂, _∙_, subst}
 use mathlib.Core.Bool.{Bool, true, false, cond}
 use mathlib.Core.List.{List, [], _∷_, _++_}
 use Prim.Native.Nat.{ℕ, _+_, _*_, _-_, _≤_, _<_, min, max}
-use native.Mathlib.Nat.{le-refl}
+use native.Mathlib.Nat.{le-refl, le-trans}
 use native.Mathlib.Decide.{decLt}
 use native.Mathlib.Numerals.{add-one}
 use native.Mathlib.Omega.{arith}
@@ -83,10 +83,14 @@ walk-last k h =
     let m : min k (last .width) ≡ k = omega arith in
     rw (m, total-each k beyond) (omega arith)
 
--- all of them
+-- however many bands stand before it
+walk-bands : (l : List Band) (k : ℕ) → k ≤ last .width → walked (l ++ (last ∷ [])) k ≡ total k (stateCents l)
+walk-bands [] k h = walk-last k h
+walk-bands (band ∷ rest) k h = walk-band band rest (rest ++ (last ∷ [])) k (λ j l. walk-bands rest j (le-trans l h))
+
 pub walked-all : (k : ℕ) → k ≤ last .width → walked tariff k ≡ statesCents k
 unfolding statesCents
-walked-all k h = walk-band _ _ _ k (λ i a. walk-band _ _ _ i (λ j b. walk-last j (omega arith)))
+walked-all = walk-bands bands
 
 -- ---- no state costs more than the dearest
 

@@ -39,14 +39,15 @@ risen T sum = sum + cond (ltb plainFrames T) (rise sum) 0
 unfoldable pub price : (T k : ℕ) → ℕ
 price T k = risen T (base + statesCents k)
 
--- number, place and cents that pricing returns: only the table's checks refuse, and then the cents are 0
+-- number, place and cents after a judgement: the price where it accepts, 0 cents where it refuses
 abbrev pub pricedAfter : Figures → List ℕ → PriceFigures
 pricedAfter f b = record { number = f .number; place = f .place; cents = cond (eqb (f .number) 0) (price (frames b) (charged b)) 0 }
 
+-- what pricing returns: only the table's checks refuse
 unfoldable pub priced : List ℕ → PriceFigures
 priced b = pricedAfter (checked b) b
 
--- what they are for each case of its answer
+-- number, place and cents of each case of its answer
 abbrev pub priceFigures : Priced → PriceFigures
 priceFigures (Cents c) = record { number = 0; place = 0; cents = c }
 priceFigures (Refused r) = record { number = refusalFigures r .number; place = refusalFigures r .place; cents = 0 }

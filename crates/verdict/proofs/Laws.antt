@@ -19,6 +19,7 @@ use Rattle.verdict.specs.declared.Refusal.the-variants.{Length, Size, Li
 
 -- ---- stages one after the other
 
+-- the number of a refusal is not 0
 pub refusal-number : (r : Refusal) → eqb (refusalFigures r .number) 0 ≡ false
 refusal-number (Length p) = refl
 refusal-number (Size p) = refl

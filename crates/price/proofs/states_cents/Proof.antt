@@ -4,7 +4,7 @@ use mathlib.Core.Path.{_≡_}
 use mathlib.Core.Logic.{⊎-elim}
 use Prim.Native.Nat.{ℕ, _+_, _*_, _-_, _≤_, _<_, min}
 use native.Mathlib.Omega.{arith}
-use lib.ListN.{getD, drop}
+use lib.ListN.{length, getD, drop}
 use Rattle.price.specs.Price.{statesCents}
 use Rattle.price.specs.declared.Band.{Band}
 use Rattle.price.proofs.Bands.{tariff, walked, walk-on, walked-all, cents-most}
@@ -12,10 +12,10 @@ use Rattle.price.proofs.states_cents.Statement.{statement}
 use Rattle.price.proofs.states_cents.Tie as tie
 
 abbrev Inv-loop : tie.InvT-loop
-Inv-loop states cents₀ left₀ count i₀ cents left i = (i ≤ 3) × (left ≤ states) × (cents + walked (drop i tariff) left ≡ statesCents states)
+Inv-loop states cents₀ left₀ count i₀ cents left i = (i ≤ length tariff) × (left ≤ states) × (cents + walked (drop i tariff) left ≡ statesCents states)
 
 abbrev μ-loop : tie.MeasureT-loop
-μ-loop states cents₀ left₀ count i₀ cents left i = 3 - i
+μ-loop states cents₀ left₀ count i₀ cents left i = length tariff - i
 
 loop-holds : tie.Need-loop-holds Inv-loop μ-loop
 loop-holds c = (omega arith, omega arith, omega (arith, walked-all (c .args .states) (omega arith)))
@@ -70,7 +70,7 @@ returns : tie.Need-returns Inv-loop μ-loop
 unfolding walked
 returns c =
     let l = c .before .loop in
-    let e : l .i ≡ 3 = omega arith in
+    let e : l .i ≡ length tariff = omega arith in
     omega (arith, rw e at (l .inv .2))
 
 pub states-cents-spec : {M : Type 1} → statement M
