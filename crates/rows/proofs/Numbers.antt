@@ -1,21 +1,15 @@
 -- Numbers by rows are the state numbers of a response, where the entries are the response's outputs and next states. Assumes nothing.
 use mathlib.Core.Path.{_≡_, refl, sym, ap, ap₂, _∙_}
-use mathlib.Core.Bool.{Bool, _&&_}
+use mathlib.Core.Bool.{_&&_}
 use Prim.Native.Nat.{ℕ, zero, suc, _+_, _*_, _^_, _<_}
-use native.Mathlib.Nat.{le-refl, le-suc, le-trans}
 use native.Mathlib.Omega.{arith}
 use lib.Dec.{eqb}
-use Rattle.layered.specs.Search.{every, tally}
+use Rattle.layered.specs.Search.{tally}
 use Rattle.layered.specs.States.{smallest, first, count, number, same-row}
-use Rattle.layered.proofs.Search.{least-cong, tally-cong}
+use Rattle.layered.proofs.Search.{every-cong, least-cong, tally-cong}
 use Rattle.layered.proofs.States.{digit-below, smallest-le}
 use Rattle.layered.proofs.Theorems.{rows}
 use Rattle.rows.specs.Rows.{equalRows, firstWith, isFirst, rowNumber, rowCount}
-
-every-cong : (n : ℕ) (p q : ℕ → Bool) → ((i : ℕ) → i < n → p i ≡ q i) → every n p ≡ every n q
-unfolding every
-every-cong zero p q e = refl
-every-cong (suc n) p q e = ap₂ _&&_ (every-cong n p q (λ i h. e i (le-trans h (le-suc n)))) (e n (le-refl _))
 
 module _ (K T : ℕ) (y : ℕ → ℕ → ℕ) (t : ℕ) (b : t < T) (out next : ℕ → ℕ) (O : (i : ℕ) → i < K ^ suc t → out i ≡ y (suc t) i)
     (N : (i : ℕ) → i < K ^ suc t → next i ≡ number K T y (suc t) i) where

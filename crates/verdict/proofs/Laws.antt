@@ -1,5 +1,5 @@
 -- Laws of judgements: one after the other, the first that refuses, and what acceptance tells. Assumes nothing.
-use mathlib.Core.Path.{_≡_, refl, sym, ap, _∙_}
+use mathlib.Core.Path.{_≡_, refl, sym, ap, ap₂, _∙_}
 use mathlib.Core.Bool.{Bool, true, false, cond}
 use mathlib.Core.List.{List, _++_}
 use Prim.Native.Nat.{ℕ, zero, suc, _+_, _-_, _≤_, _<_}
@@ -60,6 +60,14 @@ both-accept f g p e = go (eqb (f .number) 0) refl e
     go true q h = (f .place, ap (λ (n : ℕ). answer n (f .place)) (eqb-true _ 0 q), h)
     go false q h = absurd (eqb-false _ 0 q (ap (λ (f : Figures). f .number) h))
 
+-- the second of two judgements matters only where the first accepts
+pub then-cong : (f g h : Figures) → ((p : ℕ) → f ≡ answer 0 p → g ≡ h) → andThen f g ≡ andThen f h
+then-cong f g h k = go (eqb (f .number) 0) refl
+  where
+    go : (t : Bool) → eqb (f .number) 0 ≡ t → cond t g f ≡ cond t h f
+    go true e = k (f .place) (ap (λ (n : ℕ). answer n (f .place)) (eqb-true (f .number) 0 e))
+    go false e = refl
+
 -- the test of a judgement that accepts fails
 pub passed : (t : Bool) (k p : ℕ) (f : Figures) (q : ℕ) → eqb k 0 ≡ false → refuse t k p f ≡ answer 0 q → (t ≡ false) × (f ≡ answer 0 q)
 passed true k p f q z e = absurd (eqb-false k 0 z (ap (λ (f : Figures). f .number) e))
@@ -86,6 +94,15 @@ module _ (test : ℕ → Bool) (number : ℕ) (place : ℕ → ℕ) (rest : Figu
   pub first-none : (k n : ℕ) → n ≤ k → refuseFirst test number place rest k (n - k) ≡ rest
   unfolding refuseFirst
   first-none k n h = let z : n - k ≡ 0 = omega arith in rw z
+
+  -- where the test fails before k, it is looked for from k on
+  from : (k n : ℕ) → k ≤ n → ((j : ℕ) → j < k → test j ≡ false) → refuseFirst test number place rest 0 n ≡ refuseFirst test number place rest k (n - k)
+  from zero n h f = ap (refuseFirst test number place rest 0) (omega arith)
+  from (suc k) n h f = rw (← add-one k) (from k n (omega arith) (λ j l. f j (omega arith)) ∙ first-later k n h (f k (omega arith)))
+
+  -- k is the first index at which it holds
+  pub first-is : (k n : ℕ) → k < n → ((j : ℕ) → j < k → test j ≡ false) → test k ≡ true → refuseFirst test number place rest 0 n ≡ answer number (place k)
+  first-is k n h f t = from k n (omega arith) f ∙ first-here k n h t
 
   -- where it accepts, the test fails at each index, and the rest accepts
   pub none-found : (p k c : ℕ) → eqb number 0 ≡ false → refuseFirst test number place rest k c ≡ answer 0 p
@@ -151,6 +168,14 @@ finds-none test number place rest k (suc c) e =
     ap (λ (t : Bool). refuse t number (place k) (refuseFirst test number place rest (suc k) c)) (e k (le-refl k) (omega arith))
     ∙ finds-none test number place rest (suc k) c (λ j lo hi. e j (omega arith) (omega arith))
 
+-- tests that agree at each index find the same
+pub first-cong : (f g : ℕ → Bool) (number : ℕ) (place : ℕ → ℕ) (rest : Figures) (k c : ℕ) → ((j : ℕ) → k ≤ j → j < k + c → f j ≡ g j)
+    → refuseFirst f number place rest k c ≡ refuseFirst g number place rest k c
+unfolding refuseFirst
+first-cong f g number place rest k zero e = refl
+first-cong f g number place rest k (suc c) e =
+    ap₂ (λ t r. refuse t number (place k) r) (e k (le-refl k) (omega arith)) (first-cong f g number place rest (suc k) c (λ j lo hi. e j (omega arith) (omega arith)))
+
 -- where each judgement accepts with place 0, the row does
 pub all-accept : (f : ℕ → Figures) (k c : ℕ) → ((j : ℕ) → k ≤ j → j < k + c → f j ≡ answer 0 0) → firstRefusal f k c ≡ answer 0 0
 unfolding firstRefusal
@@ -158,3 +183,23 @@ all-accept f k zero e = refl
 all-accept f k (suc c) e =
     ap (λ (g : Figures). andThen g (firstRefusal f (suc k) c)) (e k (le-refl k) (omega arith))
     ∙ all-accept f (suc k) c (λ j lo hi. e j (omega arith) (omega arith))
+
+-- ---- numbers below a bound
+
+module _ (k : ℕ) where
+  pub under-refuse : (t : Bool) (number place : ℕ) (f : Figures) → number < k → f .number < k → refuse t number place f .number < k
+  under-refuse true number place f l m = l
+  under-refuse false number place f l m = m
+
+  pub under-then : (f g : Figures) → f .number < k → g .number < k → andThen f g .number < k
+  under-then f g l m = go (eqb (f .number) 0)
+    where
+      go : (t : Bool) → cond t g f .number < k
+      go true = m
+      go false = l
+
+  pub under-first : (test : ℕ → Bool) (number : ℕ) (place : ℕ → ℕ) (rest : Figures) (i c : ℕ) → number < k → rest .number < k
+      → refuseFirst test number place rest i c .number < k
+  unfolding refuseFirst
+  under-first test number place rest i zero l m = m
+  under-first test number place rest i (suc c) l m = under-refuse (test i) number (place i) _ l (under-first test number place rest (suc i) c l m)
