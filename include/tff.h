@@ -7,7 +7,7 @@
  *            Signal 0 is false, input i of frame t is signal (t-1)*n + i, gate g is signal n*T + g,
  *            with i, t and g from 1. A literal is twice a signal, plus 1 if inverted. Gate g is the
  *            AND of its two literals, each below 2*(n*T + g). The last m*T gates are the outputs,
- *            frame by frame; none reaches an input of a later frame.
+ *            frame by frame; none depends on an input of a later frame.
  *   table:   n, m, T; T+1 state counts, first and last 1, others 1 to 32,768; all output words
  *            (below 2^m); all next states (below the next layer's count), by layer, state, word.
  *
@@ -26,8 +26,8 @@
  *   1       length given                not the length that the format asks for
  *   2       byte offset                 first size or count out of limits; n*T above 16 counts at T
  *   3       byte offset                 first literal that is too high, in the order of the file
- *   4       output index from 0         first output whose gates reach an input of a later frame,
- *                                       even without effect
+ *   4       output index from 0         first output that looks ahead: two sequences agree up to
+ *                                       its frame and differ in it
  *   5       byte offset                 first output word, else first next state, out of range
  *   6       numbers needed              scratch too short
  *   7       bytes or words needed       result too short

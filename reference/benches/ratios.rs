@@ -6,7 +6,7 @@
 use std::hint::black_box;
 use std::time::Instant;
 
-use reference::gen::{any_sequence, circuits, tables, Rng};
+use reference::gen::{any_sequence, circuits, look_ahead, tables, Rng};
 use reference::{Circuit, Sizes};
 
 fn main() {
@@ -23,7 +23,7 @@ fn heading(first: &str, second: &str) {
     println!("{:<40} {first:>13} {second:>13} {:>7}", "case", "ratio");
 }
 
-/// Simulating a circuit with the most gates.
+/// Checking and simulating a circuit with the most gates.
 fn circuit_level() {
     let sizes = Sizes::new(2, 4, 8);
     let mut rng = Rng::new(1);
@@ -34,12 +34,28 @@ fn circuit_level() {
         runs: 21,
         calls: 500,
     };
+    check_line("check 4096 gates", &often, &circuit);
     let mut result = vec![0; sizes.frames];
     often.measure(
         "simulate 4096 gates",
         &mut result,
         |result| tff::simulate(black_box(&circuit), &words, result),
         |result| reference::simulate(black_box(&circuit), &words, result),
+    );
+    // Outputs lead to later inputs without effect, which all 65536 sequences have to show.
+    let clean = circuits::legal(&mut rng, sizes, 200);
+    let crossed = look_ahead::crossed_out(&mut rng, &clean, Circuit::MOST_GATES).to_bytes();
+    let few = Runs { runs: 3, calls: 1 };
+    check_line("check 4096 gates, crossed out", &few, &crossed);
+}
+
+fn check_line(case: &str, runs: &Runs, circuit: &[u8]) {
+    assert_eq!(reference::check_circuit(circuit), (0, 0));
+    runs.measure(
+        case,
+        &mut (),
+        |_| tff::check_circuit(black_box(circuit)),
+        |_| reference::check_circuit(black_box(circuit)),
     );
 }
 

@@ -9,7 +9,8 @@ pub const LENGTH: u64 = 1;
 pub const SIZE: u64 = 2;
 /// A literal that is too high; place: its byte offset.
 pub const LITERAL: u64 = 3;
-/// An output that looks ahead; place: its index from 0.
+/// An output that looks ahead: it can differ where all words up to its frame agree; place: its index
+/// from 0.
 pub const LOOKS_AHEAD: u64 = 4;
 /// An output word or next state out of range; place: its byte offset.
 pub const ENTRY: u64 = 5;

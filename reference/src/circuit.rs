@@ -102,23 +102,51 @@ impl Circuit {
         }
     }
 
+    /// An output looks ahead where two sequences agree in the words up to its frame and differ in it.
     fn judge_outputs(&self) -> Result<(), Answer> {
-        let latest = self.latest_frames();
-        let outputs = &latest[latest.len() - self.sizes.output_gates()..];
-        match (0..outputs.len()).find(|&index| outputs[index] > index / self.sizes.outputs + 1) {
-            Some(index) => Err(refused(LOOKS_AHEAD, index)),
+        let doubtful = self.outputs_reaching_later_inputs();
+        if doubtful.is_empty() {
+            return Ok(());
+        }
+        let sequences = self.outputs_on_all_sequences();
+        match doubtful
+            .into_iter()
+            .find(|&output| looks_ahead(&self.sizes, &sequences, output))
+        {
+            Some(output) => Err(refused(LOOKS_AHEAD, output)),
             None => Ok(()),
         }
     }
 
-    /// The latest frame of each signal.
-    fn latest_frames(&self) -> Vec<usize> {
-        let mut latest = vec![0];
-        latest.extend((0..self.sizes.input_signals()).map(|input| input / self.sizes.inputs + 1));
+    /// The outputs whose gates lead to an input of a later frame, ascending; no others can look ahead.
+    pub fn outputs_reaching_later_inputs(&self) -> Vec<usize> {
+        let reached = self.inputs_reached();
+        let outputs = &reached[reached.len() - self.sizes.output_gates()..];
+        (0..outputs.len())
+            .filter(|&output| {
+                let up_to_frame = (output / self.sizes.outputs + 1) * self.sizes.inputs;
+                outputs[output] >> up_to_frame != 0
+            })
+            .collect()
+    }
+
+    /// The set of inputs that each signal's gates lead to: bit k for input k, counted from 0 over all
+    /// frames.
+    fn inputs_reached(&self) -> Vec<u32> {
+        let mut reached = vec![0];
+        reached.extend((0..self.sizes.input_signals()).map(|input| 1 << input));
         for (&left, &right) in self.left.iter().zip(&self.right) {
-            latest.push(latest[usize::from(left / 2)].max(latest[usize::from(right / 2)]));
+            reached.push(reached[usize::from(left / 2)] | reached[usize::from(right / 2)]);
         }
-        latest
+        reached
+    }
+
+    /// The output words on every sequence, by the sequence's number.
+    pub fn outputs_on_all_sequences(&self) -> Vec<Vec<u16>> {
+        (0..self.sizes.histories(self.sizes.frames))
+            .map(|sequence| self.sizes.history_words(self.sizes.frames, sequence))
+            .map(|words| self.outputs_on(&words))
+            .collect()
     }
 
     /// The output words on `words`, one a frame.
@@ -154,6 +182,102 @@ impl Circuit {
     }
 }
 
+/// Whether, after some history that ends in the output's frame, two continuations differ in the
+/// output. The sequences that begin with a history stand together.
+fn looks_ahead(sizes: &Sizes, sequences: &[Vec<u16>], output: usize) -> bool {
+    let (frame, bit) = (output / sizes.outputs, output % sizes.outputs);
+    let value = |words: &[u16]| words[frame] >> bit & 1;
+    sequences
+        .chunks(sizes.histories(sizes.frames - frame - 1))
+        .any(|with_history| {
+            let first = value(&with_history[0]);
+            with_history.iter().any(|words| value(words) != first)
+        })
+}
+
 fn literal_value(values: &[bool], literal: u16) -> bool {
     values[usize::from(literal / 2)] != (literal % 2 == 1)
+}
+
+#[cfg(test)]
+mod tests {
+    use super::*;
+    use crate::gen::{circuits, look_ahead, Rng};
+
+    /// The first output that looks ahead, straight from the definition: over all pairs of sequences.
+    fn first_by_pairs(circuit: &Circuit) -> Option<usize> {
+        let sizes = circuit.sizes;
+        let sequences: Vec<(Vec<u16>, Vec<u16>)> = (0..sizes.histories(sizes.frames))
+            .map(|sequence| sizes.history_words(sizes.frames, sequence))
+            .map(|words| (words.clone(), circuit.outputs_on(&words)))
+            .collect();
+        (0..sizes.output_gates()).find(|output| {
+            let (frame, bit) = (output / sizes.outputs, output % sizes.outputs);
+            sequences.iter().any(|(words, outputs)| {
+                sequences.iter().any(|(other_words, other_outputs)| {
+                    words[..=frame] == other_words[..=frame]
+                        && outputs[frame] >> bit & 1 != other_outputs[frame] >> bit & 1
+                })
+            })
+        })
+    }
+
+    /// How many circuits reach no later input, reach one without effect, and look ahead.
+    #[derive(Debug, Default)]
+    struct Kinds {
+        clean: usize,
+        without_effect: usize,
+        looking: usize,
+    }
+
+    impl Kinds {
+        fn judge(&mut self, circuit: &Circuit) {
+            let first = first_by_pairs(circuit);
+            let expected = first.map_or((0, 0), |output| (LOOKS_AHEAD, output as u64));
+            assert_eq!(check_circuit(&circuit.to_bytes()), expected);
+            if first.is_some() {
+                self.looking += 1;
+            } else if circuit.outputs_reaching_later_inputs().is_empty() {
+                self.clean += 1;
+            } else {
+                self.without_effect += 1;
+            }
+        }
+
+        fn expect_each(&self, least: usize) {
+            let each = [self.clean, self.without_effect, self.looking];
+            assert!(each.iter().all(|&count| count >= least), "{self:?}");
+        }
+    }
+
+    #[test]
+    fn looking_ahead_is_judged_as_defined() {
+        let mut rng = Rng::new(1);
+        let mut kinds = Kinds::default();
+        for _ in 0..3_000 {
+            kinds.judge(&look_ahead::any_heedless(&mut rng, 6, 20));
+        }
+        kinds.expect_each(300);
+    }
+
+    #[test]
+    fn looking_ahead_is_judged_as_defined_among_many_sequences() {
+        let mut rng = Rng::new(2);
+        let mut kinds = Kinds::default();
+        for (inputs, frames) in [(1, 10), (2, 5), (5, 2), (3, 3)] {
+            let sizes = Sizes::new(inputs, 2, frames);
+            let early = look_ahead::outputs_before_last_frame(&sizes);
+            let circuit = circuits::legal(&mut rng, sizes, 60);
+            let looking = look_ahead::inverted_on(
+                &circuit,
+                rng.below(early),
+                rng.below(sizes.histories(frames)),
+            );
+            kinds.judge(&circuit);
+            for circuit in [circuit, looking] {
+                kinds.judge(&look_ahead::crossed_out(&mut rng, &circuit, 400));
+            }
+        }
+        kinds.expect_each(4);
+    }
 }

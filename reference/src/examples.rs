@@ -13,6 +13,16 @@ pub fn parity() -> Circuit {
     }
 }
 
+/// Parity, whose first output passes through a gate of the second input and its opposite, without
+/// effect.
+pub fn crossed() -> Circuit {
+    Circuit {
+        sizes: Sizes::new(1, 1, 2),
+        left: vec![4, 2, 3, 9, 2, 13],
+        right: vec![5, 5, 4, 11, 7, 1],
+    }
+}
+
 /// One frame whose output is its input.
 pub fn identity() -> Circuit {
     let gates = Gates::new(Sizes::new(1, 1, 1));

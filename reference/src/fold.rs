@@ -40,7 +40,7 @@ pub fn successors(sizes: &Sizes, history: usize) -> Range<usize> {
 /// The table whose states are the classes of equivalent histories.
 pub fn table_by_definition(circuit: &Circuit) -> Table {
     let sizes = circuit.sizes;
-    let sequences = outputs_on_all_sequences(circuit);
+    let sequences = circuit.outputs_on_all_sequences();
     let states: Vec<Vec<u16>> = (0..=sizes.frames)
         .map(|layer| states_of_layer(&sizes, &sequences, layer))
         .collect();
@@ -64,14 +64,6 @@ pub fn table_by_definition(circuit: &Circuit) -> Table {
         }
     }
     table
-}
-
-/// The output words on every sequence, by the sequence's number.
-fn outputs_on_all_sequences(circuit: &Circuit) -> Vec<Vec<u16>> {
-    let sizes = circuit.sizes;
-    (0..sizes.histories(sizes.frames))
-        .map(|sequence| circuit.outputs_on(&sizes.history_words(sizes.frames, sequence)))
-        .collect()
 }
 
 /// The state of each history of `layer` words. Two histories have one state when all their

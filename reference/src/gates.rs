@@ -28,6 +28,16 @@ impl Gates {
         }
     }
 
+    /// The gates of `circuit`, to go on from, and the literals of its outputs.
+    pub fn reopened(circuit: &Circuit) -> (Gates, Vec<u16>) {
+        // The first literal that is too high for a gate is the gate's own.
+        let outputs = (circuit.first_output()..circuit.gates())
+            .map(|gate| circuit.literal_limit(gate) as u16)
+            .collect();
+        let circuit = circuit.clone();
+        (Gates { circuit }, outputs)
+    }
+
     pub fn count(&self) -> usize {
         self.circuit.gates()
     }

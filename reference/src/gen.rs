@@ -1,6 +1,7 @@
 //! Generators of test cases. Equal seeds give equal cases.
 
 pub mod circuits;
+pub mod look_ahead;
 pub mod tables;
 
 use crate::sizes::Sizes;

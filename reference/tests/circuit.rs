@@ -1,21 +1,20 @@
 //! The proved check and simulation of circuits against the plain ones.
 
+#[path = "common/circuit_calls.rs"]
+mod circuit_calls;
 mod common;
 #[path = "common/evaluator.rs"]
 mod evaluator;
+#[path = "common/faults.rs"]
+mod faults;
 
+use circuit_calls::CIRCUIT;
 use common::{seeds, Seen};
-use evaluator::{sizes_around_the_limits, Evaluator};
+use faults::sizes_around_the_limits;
+use reference::gates::{not, FALSE};
 use reference::gen::{all_sizes, any_sizes, circuits, damaged, sizes_with, Rng};
 use reference::words::{set_word, to_bytes, word_at};
 use reference::{examples, vectors, Circuit, Gates, Sizes};
-
-const CIRCUIT: Evaluator = Evaluator {
-    plain_check: reference::check_circuit,
-    plain_evaluate: reference::simulate,
-    proved_check: tff::raw::tff_check_circuit,
-    proved_evaluate: tff::raw::tff_simulate,
-};
 
 #[test]
 fn the_given_vectors_hold() {
@@ -159,31 +158,59 @@ fn the_first_high_literal_in_file_order_is_named() {
 }
 
 #[test]
-fn each_output_may_reach_its_own_frame_and_no_later_one() {
+fn each_output_may_show_its_own_frame_and_no_later_one() {
     for seed in seeds(100) {
         let mut rng = Rng::new(seed);
-        let sizes = any_sizes(&mut rng, Sizes::MOST_SIGNALS);
-        // Outputs over constants alone, so that the one that is changed is the first to look ahead.
-        let mut circuit = Gates::new(sizes).finish(&vec![0; sizes.output_gates()]);
+        let sizes = any_sizes(&mut rng, 8);
         for output in 0..sizes.output_gates() {
-            let own = (output / sizes.outputs + 1) * sizes.inputs;
             for signal in 1..=sizes.input_signals() {
-                circuit.left[output] = 2 * signal as u16 + 1;
-                let fault = (signal > own).then_some([4, output as u64]);
-                CIRCUIT.finds(seed, &circuit.to_bytes(), fault);
+                finds_one_input_shown(seed, sizes, output, signal);
             }
-            circuit.left[output] = 0;
         }
     }
 }
 
 #[test]
-fn looking_ahead_without_effect_is_refused_but_unread_gates_do_not_matter() {
-    let sizes = Sizes::new(1, 1, 2);
-    // An inner gate over the second input and false; the first output reads it or does not.
-    for (read, fault) in [(6, Some([4, 0])), (2, None)] {
+fn each_output_may_show_its_own_frame_among_the_most_sequences() {
+    for (inputs, frames) in [(1, 16), (2, 8), (4, 4), (8, 2)] {
+        let sizes = Sizes::new(inputs, 2, frames);
+        for output in 0..sizes.output_gates() {
+            let own = last_input_of(&sizes, output);
+            finds_one_input_shown(0, sizes, output, own);
+            if own < sizes.input_signals() {
+                finds_one_input_shown(0, sizes, output, own + 1);
+            }
+        }
+    }
+}
+
+/// The last input signal that an output's frame has.
+fn last_input_of(sizes: &Sizes, output: usize) -> usize {
+    (output / sizes.outputs + 1) * sizes.inputs
+}
+
+/// One output is an input's opposite and all others are false, so that no other can look ahead.
+fn finds_one_input_shown(seed: u64, sizes: Sizes, output: usize, signal: usize) {
+    let mut outputs = vec![FALSE; sizes.output_gates()];
+    outputs[output] = not(2 * signal as u16);
+    let file = Gates::new(sizes).finish(&outputs).to_bytes();
+    let ahead = signal > last_input_of(&sizes, output);
+    CIRCUIT.finds(seed, &file, ahead.then_some([4, output as u64]));
+}
+
+#[test]
+fn reaching_a_later_input_without_effect_is_no_reason() {
+    // An inner gate over the second input and false; the first output reads that gate, or the second
+    // input itself, or neither.
+    for (read, fault) in [
+        (6, None),
+        (7, None),
+        (4, Some([4, 0])),
+        (5, Some([4, 0])),
+        (2, None),
+    ] {
         let circuit = Circuit {
-            sizes,
+            sizes: Sizes::new(1, 1, 2),
             left: vec![4, read, 4],
             right: vec![0, 1, 1],
         };
@@ -193,22 +220,27 @@ fn looking_ahead_without_effect_is_refused_but_unread_gates_do_not_matter() {
 
 #[test]
 fn circuits_with_careless_literals_are_judged() {
-    let seen = CIRCUIT.judges(40_000, |rng| {
-        let sizes = any_sizes(rng, Sizes::MOST_SIGNALS);
-        let gates = sizes.output_gates() + rng.below(20);
-        let circuit = circuits::careless(rng, sizes, gates);
-        (circuit.to_bytes(), sizes)
-    });
-    seen.expect(&[0, 3, 4]);
+    // Where outputs may look ahead, the plain check goes through all sequences.
+    for (count, most_signals) in [(40_000, 9), (1_000, Sizes::MOST_SIGNALS)] {
+        let seen = CIRCUIT.judges(count, |rng| {
+            let sizes = any_sizes(rng, most_signals);
+            let gates = sizes.output_gates() + rng.below(20);
+            let circuit = circuits::careless(rng, sizes, gates);
+            (circuit.to_bytes(), sizes)
+        });
+        seen.expect(&[0, 3, 4]);
+    }
 }
 
 #[test]
 fn damaged_circuits_are_judged() {
-    let seen = CIRCUIT.judges(60_000, |rng| {
-        let circuit = circuits::any_legal(rng, 16, 12);
-        (damaged(rng, &circuit.to_bytes()), circuit.sizes)
-    });
-    seen.expect(&[0, 1, 2, 3, 4]);
+    for (count, most_signals) in [(60_000, 9), (3_000, Sizes::MOST_SIGNALS)] {
+        let seen = CIRCUIT.judges(count, |rng| {
+            let circuit = circuits::any_legal(rng, most_signals, 12);
+            (damaged(rng, &circuit.to_bytes()), circuit.sizes)
+        });
+        seen.expect(&[0, 1, 2, 3, 4]);
+    }
 }
 
 #[test]

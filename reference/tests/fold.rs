@@ -1,65 +1,18 @@
 //! The proved fold against the plain one.
 
 mod common;
+#[path = "common/folding.rs"]
+mod folding;
 #[path = "common/outputs.rs"]
 mod outputs;
 
-use common::{compare, seeds, short_answers_change_nothing, Case, Room, Seen};
+use common::{seeds, short_answers_change_nothing, Room, Seen};
+use folding::{ample, call_fold, fold, fold_case, scratch_needed};
 use outputs::{assert_same_outputs, folded};
 use reference::gen::{any_sizes, circuits, damaged, sizes_with, Rng};
 use reference::vectors::{self, PARITY_FOLDED, PARITY_TABLE};
 use reference::words::to_bytes;
 use reference::{examples, Circuit, Sizes, Table};
-
-fn call_fold(circuit: &[u8], scratch: &mut [u16], result: &mut [u8], answer: &mut [u64]) {
-    // SAFETY: each pointer and length is that of one slice.
-    unsafe {
-        tff::raw::tff_fold(
-            circuit.as_ptr(),
-            circuit.len(),
-            scratch.as_mut_ptr(),
-            scratch.len(),
-            result.as_mut_ptr(),
-            result.len(),
-            answer.as_mut_ptr(),
-            answer.len(),
-        )
-    }
-}
-
-fn fold_case(seed: u64, file: &[u8]) -> Case<'_> {
-    Case {
-        call: "fold",
-        seed,
-        file,
-        words: &[],
-    }
-}
-
-/// Folds with both implementations.
-fn fold(seed: u64, file: &[u8], room: Room) -> [u64; 2] {
-    compare(
-        &fold_case(seed, file),
-        room,
-        |scratch, result| reference::fold(file, scratch, result).into(),
-        |scratch, result, answer| call_fold(file, scratch, result, answer),
-    )
-}
-
-/// Room that suffices for every circuit of these sizes, and some more.
-fn ample(sizes: &Sizes) -> Room {
-    let longest: usize = (1..=sizes.frames)
-        .map(|length| sizes.histories(length))
-        .sum();
-    Room {
-        numbers: scratch_needed(sizes) + 3,
-        bytes: 8 + 2 * sizes.frames + 4 * longest + 5,
-    }
-}
-
-fn scratch_needed(sizes: &Sizes) -> usize {
-    2 * sizes.histories(sizes.frames)
-}
 
 /// A legal circuit is folded with ample room; gives the bytes written.
 fn accepts(seed: u64, circuit: &Circuit) -> usize {

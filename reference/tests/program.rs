@@ -24,9 +24,10 @@ fn compare(input: &[u8]) {
     assert_eq!(run_program(input), printed(input), "{} bytes", input.len());
 }
 
-fn example_files() -> [(&'static str, Circuit); 3] {
+fn example_files() -> [(&'static str, Circuit); 4] {
     [
         ("parity", examples::parity()),
+        ("crossed", examples::crossed()),
         ("adder", examples::adder()),
         ("s27", examples::s27()),
     ]
@@ -43,7 +44,7 @@ fn example_files_are_the_circuits_they_are_named_after() {
 
 #[test]
 fn examples_print_the_counts_of_the_papers() {
-    let counts = [[1, 2, 1, 0], [1, 2, 2, 1], [1, 4, 4, 1]];
+    let counts = [[1, 2, 1, 0], [1, 2, 1, 0], [1, 2, 2, 1], [1, 4, 4, 1]];
     for ((name, circuit), counts) in example_files().into_iter().zip(counts) {
         let mut expected = String::from("layer states\n");
         for (layer, count) in counts.iter().filter(|&&count| count > 0).enumerate() {

@@ -3,9 +3,12 @@
 mod common;
 #[path = "common/evaluator.rs"]
 mod evaluator;
+#[path = "common/faults.rs"]
+mod faults;
 
 use common::{compare, seeds, short_answers_change_nothing, Case, Room, Seen};
-use evaluator::{sizes_around_the_limits, Evaluator};
+use evaluator::Evaluator;
+use faults::sizes_around_the_limits;
 use reference::gen::{all_sizes, damaged, sizes_with, tables, Rng};
 use reference::table::Head;
 use reference::vectors::PARITY_TABLE;

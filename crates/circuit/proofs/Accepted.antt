@@ -14,7 +14,7 @@ use Rattle.verdict.proofs.Laws.{both-accept, passed, none-found}
 use Rattle.sizes.specs.Sizes.{inputs, outputs, frames, outside, sizesChecked}
 use Rattle.sizes.specs.Sized.{Sized}
 use Rattle.sizes.proofs.Laws.{inside, sized}
-use Rattle.circuit.specs.Circuit.{gates, leftsAt, rightsAt, circuitLength, literalAt, allInputs, allOutputs, admissible, headChecked, literalsChecked, lookAheadChecked, looksAhead, checked}
+use Rattle.circuit.specs.Circuit.{gates, leftsAt, rightsAt, circuitLength, literalAt, allInputs, allOutputs, admissible, headChecked, literalsChecked, lookAheadChecked, looksAhead, formChecked, checked}
 use Rattle.circuit.specs.WellFormed.{CircuitHeaded, HeadOf, LegalGates, WellFormed}
 use Rattle.circuit.specs.declared.Head.{Head}
 
@@ -60,21 +60,30 @@ pub none-ahead : (b : List ℕ) (p : ℕ) → lookAheadChecked b ≡ answer 0 p 
 unfolding lookAheadChecked
 none-ahead b p e q h = none-found (looksAhead b) 4 _ (answer 0 0) p 0 (allOutputs b) refl e .0 q zero-le (omega arith)
 
--- all that a circuit's acceptance tells
-pub record Accepted (b : List ℕ) : Type 0 where
+-- all that is known of a circuit that passes every check but 4
+pub record Formed (b : List ℕ) : Type 0 where
   pub head : CircuitHeaded b
   pub sizes : Sized mostInputs (inputs b) (outputs b) (frames b)
   pub literals : LegalGates b
-  pub causal : (q : ℕ) → q < allOutputs b → looksAhead b q ≡ false
 
-pub well-formed : {b : List ℕ} {h : Head} → Accepted b → HeadOf b h → WellFormed b h
-well-formed A H = record { headed = A .head; head-is = H; legal = A .literals }
+pub formed : (b : List ℕ) (p : ℕ) → formChecked b ≡ answer 0 p → Formed b
+unfolding formChecked
+formed b p e =
+    let h = both-accept (headChecked mostInputs b) _ p e in
+    let l = both-accept (literalsChecked b (leftsAt b)) (literalsChecked b (rightsAt b)) p (h .2) in
+    let k = headed b (h .0) 8 (omega arith) (h .1) in
+    record { head = k .0; sizes = k .1; literals = legal b (l .0) p (l .1) (l .2) }
+
+pub well-formed : {b : List ℕ} {h : Head} → Formed b → HeadOf b h → WellFormed b h
+well-formed F H = record { headed = F .head; head-is = H; legal = F .literals }
+
+-- all that a circuit's acceptance tells
+pub record Accepted (b : List ℕ) : Type 0 where
+  pub form : Formed b
+  pub causal : (q : ℕ) → q < allOutputs b → looksAhead b q ≡ false
 
 pub accepted : (b : List ℕ) (p : ℕ) → checked b ≡ answer 0 p → Accepted b
 unfolding checked
 accepted b p e =
-    let h = both-accept (headChecked mostInputs b) _ p e in
-    let l = both-accept (literalsChecked b (leftsAt b)) _ p (h .2) in
-    let r = both-accept (literalsChecked b (rightsAt b)) (lookAheadChecked b) p (l .2) in
-    let k = headed b (h .0) 8 (omega arith) (h .1) in
-    record { head = k .0; sizes = k .1; literals = legal b (l .0) (r .0) (l .1) (r .1); causal = none-ahead b p (r .2) }
+    let f = both-accept (formChecked b) (lookAheadChecked b) p e in
+    record { form = formed b (f .0) (f .1); causal = none-ahead b p (f .2) }

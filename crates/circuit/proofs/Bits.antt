@@ -1,12 +1,15 @@
--- Bits of a word, from the lowest. Assumes nothing.
+-- Bits of a word, from the lowest, and the word of its bits. Assumes nothing.
 use mathlib.Core.Path.{_≡_, refl, sym, ap, _∙_}
 use mathlib.Core.Bool.{Bool, true, false, cond}
-use Prim.Native.Nat.{ℕ, suc, _/_, _%_, _^_}
+use mathlib.Core.List.{List, [], _∷_}
+use Prim.Native.Nat.{ℕ, zero, suc, _+_, _*_, _/_, _%_, _^_, _<_}
 use native.Mathlib.Nat.{pow-zero, pow-suc, mul-comm, div-one, div-div-eq-div-mul}
+use native.Mathlib.Decide.{ℕ-discrete}
 use native.Mathlib.Omega.{arith}
 use lib.Dec.{eqb}
+use lib.ListN.{length, getD}
 use borrow.Author.Tests.{eqb-true, eqb-false}
-use Rattle.circuit.specs.Lists.{bit}
+use Rattle.circuit.specs.Lists.{bit, packed}
 
 pub bit-zero : (w : ℕ) → bit w 0 ≡ eqb (w % 2) 1
 unfolding bit
@@ -23,3 +26,53 @@ digit w = go (eqb (w % 2) 1) refl
     go : (t : Bool) → eqb (w % 2) 1 ≡ t → cond t 1 0 ≡ w % 2
     go true e = sym (eqb-true (w % 2) 1 e)
     go false e = let n : w % 2 ≡ 1 → ⊥ = eqb-false (w % 2) 1 e in omega (arith, n)
+
+-- ---- the word of a list of bits
+
+pub bit-none : (j : ℕ) → bit 0 j ≡ false
+bit-none zero = bit-zero 0
+bit-none (suc j) = bit-suc 0 j ∙ bit-none j
+
+-- a digit below the others
+lowest : (v : Bool) (x : ℕ) → eqb ((cond v 1 0 + 2 * x) % 2) 1 ≡ v
+lowest true x = let e : (1 + 2 * x) % 2 ≡ 1 = omega arith in ap (λ k. eqb k 1) e
+lowest false x = let e : (0 + 2 * x) % 2 ≡ 0 = omega arith in ap (λ k. eqb k 1) e
+
+above : (v : Bool) (x : ℕ) → (cond v 1 0 + 2 * x) / 2 ≡ x
+above true x = omega arith
+above false x = omega arith
+
+pub bit-packed : (l : List Bool) (j : ℕ) → bit (packed l) j ≡ getD l j false
+unfolding packed
+bit-packed [] j = bit-none j
+bit-packed (v ∷ l) zero = bit-zero _ ∙ lowest v (packed l)
+bit-packed (v ∷ l) (suc j) = bit-suc _ j ∙ ap (λ x. bit x j) (above v (packed l)) ∙ bit-packed l j
+
+-- a word below 2^m is what its m bits pack to
+pub packed-bits : (m w : ℕ) (vs : List Bool) → w < 2 ^ m → length vs ≡ m → ((j : ℕ) → j < m → getD vs j false ≡ bit w j) → packed vs ≡ w
+unfolding packed
+packed-bits zero w [] h l e = let z : w < 1 = rw (pow-zero 2) at h in omega arith
+packed-bits zero w (v ∷ vs) h l e = absurd (omega arith)
+packed-bits (suc m) w [] h l e = absurd (omega arith)
+packed-bits (suc m) w (v ∷ vs) h l e =
+    let h′ : w < 2 ^ m * 2 = rw (pow-suc 2 m) at h in
+    let d : cond v 1 0 ≡ w % 2 = ap (λ v. cond v 1 0) (e 0 (omega arith) ∙ bit-zero w) ∙ digit w in
+    omega (arith, d, packed-bits m (w / 2) vs (omega arith) (omega arith) (λ j q. e (suc j) (omega arith) ∙ bit-suc w j))
+
+-- numbers of n bits that differ do so in a bit
+pub bits-apart : (n w u : ℕ) → w < 2 ^ n → u < 2 ^ n → ¬ (w ≡ u) → (j : ℕ) × (j < n) × ¬ (bit w j ≡ bit u j)
+bits-apart zero w u hw hu d = absurd (d (omega (arith, pow-zero 2)))
+bits-apart (suc n) w u hw hu d = go (ℕ-discrete (w % 2) (u % 2)) (bits-apart n (w / 2) (u / 2) (omega (arith, pow-suc 2 n)) (omega (arith, pow-suc 2 n)))
+  where
+    go : Dec (w % 2 ≡ u % 2) → (¬ (w / 2 ≡ u / 2) → (j : ℕ) × (j < n) × ¬ (bit (w / 2) j ≡ bit (u / 2) j)) → (j : ℕ) × (j < suc n) × ¬ (bit w j ≡ bit u j)
+    go (yes e) ih =
+        let r = ih (λ q. d (omega arith)) in
+        (suc (r .0), omega (arith, r .1), λ q. r .2 (sym (bit-suc w (r .0)) ∙ q ∙ bit-suc u (r .0)))
+    go (no e) ih = (0, omega arith, λ q. e (sym (digit w) ∙ ap (λ y. cond y 1 0) (sym (bit-zero w) ∙ q ∙ bit-zero u) ∙ digit u))
+
+pub equal-bits : (n w u : ℕ) → w < 2 ^ n → u < 2 ^ n → ((j : ℕ) → j < n → bit w j ≡ bit u j) → w ≡ u
+equal-bits n w u hw hu e = go (ℕ-discrete w u)
+  where
+    go : Dec (w ≡ u) → w ≡ u
+    go (yes q) = q
+    go (no d) = let r = bits-apart n w u hw hu d in absurd (r .2 (e (r .0) (r .1)))

@@ -1,20 +1,20 @@
--- Laws of the definitions: arrays that are filled from the front, literals, latest frames, values and output words. Assumes nothing.
+-- Laws of the definitions: arrays that are filled from the front, literals, values and output words. Assumes nothing.
 use mathlib.Core.Path.{_≡_, refl, sym, ap, ap₂, _∙_}
 use mathlib.Core.Bool.{Bool, true, false, not, _&&_, cond}
 use mathlib.Core.List.{List, [], _∷_, _++_}
-use Prim.Native.Nat.{ℕ, zero, suc, _+_, _*_, _-_, _/_, _^_, _≤_, _<_, max}
+use Prim.Native.Nat.{ℕ, zero, suc, _+_, _*_, _-_, _/_, _^_, _≤_, _<_}
 use native.Mathlib.Nat.{mul-comm, mul-zero, mul-suc, mul-le-mul-left, lt-of-lt-of-le, pow-suc}
 use native.Mathlib.Numerals.{add-one}
 use native.Mathlib.Omega.{arith}
 use lib.ListN.{length, getD, take, drop, set, length-append, take-append-drop}
 use lib.Seq.{take-suc-set, getD-take, drop-cons, take-take, take-nil}
 use lib.Pow.{pow-mono}
-use lib.Dec.{ltb, lit<}
+use lib.Dec.{lit<}
 use borrow.Author.Tests.{ltb-true, lt-ltb, le-ltb}
 use Rattle.words.specs.Words.{wordAt}
 use Rattle.sizes.specs.Sizes.{inputs, outputs, frames}
 use Rattle.circuit.specs.Lists.{grown, listed, packed}
-use Rattle.circuit.specs.Circuit.{gates, leftsAt, rightsAt, literalAt, allInputs, allOutputs, gateSignal, outputSignal, frameOf, admissible, inputFrames, laterFrame, latestFrames, looksAhead, inputValues, literalValue, gateValue, signalValues, outputWord, outputWords}
+use Rattle.circuit.specs.Circuit.{gates, leftsAt, rightsAt, literalAt, allInputs, allOutputs, gateSignal, outputSignal, admissible, inputValues, literalValue, gateValue, signalValues, outputWord, outputWords}
 use Rattle.circuit.specs.Limits.{circuitHead, mostSignals}
 use Rattle.circuit.specs.WellFormed.{CircuitHeaded, LegalGates, GateOf}
 
@@ -88,22 +88,6 @@ signals-fit b h = omega arith
 pub inputs-fit : (b : List ℕ) (n base k : ℕ) → n ≡ inputs b → base ≡ 1 + allInputs b → k ≡ frames b → base - 1 ≤ k * n
 unfolding allInputs
 inputs-fit b n base k en eb ek = rw (en, eb, ek, mul-comm (frames b) (inputs b)) (omega arith)
-
--- ---- latest frames
-
-pub latest-more : (b v : List ℕ) (g n l r : ℕ) → n < length v → take n v ≡ latestFrames b g
-    → l ≡ literalAt b (leftsAt b) g → r ≡ literalAt b (rightsAt b) g → l / 2 < n → r / 2 < n
-    → (j : ℕ) → j ≡ n + 1 → take j (set v n (max (getD v (l / 2) 0) (getD v (r / 2) 0))) ≡ latestFrames b (g + 1)
-unfolding latestFrames laterFrame
-latest-more b v g n l r room e el er hl hr j ej =
-    fill-grown (inputFrames (inputs b) (allInputs b)) (laterFrame b) v n g _ room e
-    (rw (← e, ← el, ← er, getD-take n v (l / 2) 0 hl, getD-take n v (r / 2) 0 hr)) j (g + 1) ej refl
-
--- output q's frame against its latest frame, which the array v holds at `at`
-pub ahead-is : (b v : List ℕ) (m f at q : ℕ) → take (gateSignal b (gates b)) v ≡ latestFrames b (gates b) → m ≡ outputs b → f ≡ frameOf m q
-    → at ≡ outputSignal b q → at < gateSignal b (gates b) → looksAhead b q ≡ ltb f (getD v at 0)
-unfolding looksAhead
-ahead-is b v m f at q e em ef ea h = rw (← e, ← em, ← ef, ← ea, getD-take (gateSignal b (gates b)) v at 0 h)
 
 -- ---- words of bits
 

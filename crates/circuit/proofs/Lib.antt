@@ -4,4 +4,6 @@ pub mod Laws
 pub mod Lists
 pub mod Accepted
 pub mod Stages
+pub mod Ahead
+pub mod Judged
 pub mod Causal

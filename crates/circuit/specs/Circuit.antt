@@ -1,8 +1,8 @@
 -- The circuit format (document 01's chart), its judgement, and its outputs on a sequence. Gates, inputs and outputs are counted from 0 here, and from 1
--- in document 01; frames are counted from 1 where a latest frame is meant, and from 0 where an output word is.
-use Prim.Native.Nat.{ℕ, suc, _+_, _*_, _-_, _/_, _%_, max}
+-- in document 01; frames are counted from 1 by `frameOf`, and from 0 where an output word is meant.
+use Prim.Native.Nat.{ℕ, suc, _+_, _*_, _-_, _/_, _%_, _^_}
 use mathlib.Core.List.{List, [], _∷_}
-use mathlib.Core.Bool.{Bool, false, not, _&&_, cond}
+use mathlib.Core.Bool.{Bool, false, not, _&&_, cond, Bool·beq}
 use lib.ListN.{length, getD, take, drop}
 use lib.Dec.{ltb, eqb}
 use Rattle.words.specs.Words.{wordAt}
@@ -10,8 +10,10 @@ use Rattle.verdict.specs.Judgements.{answer, refuse, andThen, refuseFirst}
 use Rattle.verdict.specs.declared.Figures.{Figures}
 use Rattle.sizes.specs.Sizes.{inputs, outputs, frames, outside, sizesChecked}
 use Rattle.sizes.specs.Limits.{mostInputs}
+use Rattle.layered.specs.Search.{every}
+use Rattle.layered.specs.Histories.{historyWords}
 use Rattle.circuit.specs.Limits.{circuitHead, mostGates}
-use Rattle.circuit.specs.Lists.{grown, listed, bit, packed}
+use Rattle.circuit.specs.Lists.{grown, listed, bit, packed, blockStart}
 
 -- ---- where things stand
 
@@ -71,33 +73,12 @@ admissible b g literal = ltb literal (2 * gateSignal b g)
 unfoldable pub literalsChecked : List ℕ → (start : ℕ) → Figures
 literalsChecked b start = refuseFirst (λ g. not (admissible b g (literalAt b start g))) 3 (λ g. start + 2 * g) (answer 0 0) 0 (gates b)
 
--- the latest frames of the constant and the inputs
-unfoldable pub inputFrames : (n count : ℕ) → List ℕ
-inputFrames n count = listed (0 ∷ []) (frameOf n) count
-
--- the later of the latest frames of gate g's operands, given those of the signals before it
-unfoldable pub laterFrame : List ℕ → List ℕ → (g : ℕ) → ℕ
-laterFrame b fs g = max (getD fs (literalAt b (leftsAt b) g / 2) 0) (getD fs (literalAt b (rightsAt b) g / 2) 0)
-
--- the latest frames of the constant, the inputs and the first k gates
-unfoldable pub latestFrames : List ℕ → (k : ℕ) → List ℕ
-latestFrames b k = grown (inputFrames (inputs b) (allInputs b)) (laterFrame b) k
-
--- output q looks ahead: its latest frame is later than its own
-unfoldable pub looksAhead : List ℕ → (q : ℕ) → Bool
-looksAhead b q = ltb (frameOf (outputs b) q) (getD (latestFrames b (gates b)) (outputSignal b q) 0)
-
--- 4
-unfoldable pub lookAheadChecked : List ℕ → Figures
-lookAheadChecked b = refuseFirst (looksAhead b) 4 (λ q. q) (answer 0 0) 0 (allOutputs b)
-
--- 1 (head), 2, 1, 3, 4
-unfoldable pub checked : List ℕ → Figures
-checked b =
+-- every check but 4: 1 (head), 2, 1, 3
+unfoldable pub formChecked : List ℕ → Figures
+formChecked b =
     andThen (headChecked mostInputs b)
     (andThen (literalsChecked b (leftsAt b))
-    (andThen (literalsChecked b (rightsAt b))
-    (lookAheadChecked b)))
+    (literalsChecked b (rightsAt b)))
 
 -- ---- the outputs on a sequence
 
@@ -124,3 +105,34 @@ outputWord b words t = packed (take (outputs b) (drop (outputSignal b (outputs b
 -- the circuit's outputs on a sequence
 unfoldable pub outputWords : List ℕ → (words : List ℕ) → List ℕ
 outputWords b words = listed [] (outputWord b words) (frames b)
+
+-- ---- 4: all sequences are numbered, the first word highest, so that those that agree up to a frame are neighbours
+
+-- output q on a sequence: a bit of its frame's output word
+unfoldable pub outputBit : List ℕ → (words : List ℕ) (q : ℕ) → Bool
+outputBit b words q = bit (outputWord b words (q / outputs b)) (q % outputs b)
+
+-- output q on the sequence x
+unfoldable pub outputOn : List ℕ → (q x : ℕ) → Bool
+outputOn b q x = outputBit b (historyWords (2 ^ inputs b) (frames b) x) q
+
+-- how many inputs there are in the frames after that of output q
+unfoldable pub laterInputs : List ℕ → (q : ℕ) → ℕ
+laterInputs b q = inputs b * (frames b - frameOf (outputs b) q)
+
+-- output q is on the sequence x what it is on the first of those that agree with x up to its frame: their block has all later inputs in it
+unfoldable pub asFirst : List ℕ → (q x : ℕ) → Bool
+asFirst b q x = Bool·beq (outputOn b q x) (outputOn b q (blockStart (laterInputs b q) x))
+
+-- output q looks ahead: on some sequence it is not what it is on the first that agrees with this one up to its frame
+unfoldable pub looksAhead : List ℕ → (q : ℕ) → Bool
+looksAhead b q = not (every (2 ^ allInputs b) (asFirst b q))
+
+-- 4
+unfoldable pub lookAheadChecked : List ℕ → Figures
+lookAheadChecked b = refuseFirst (looksAhead b) 4 (λ q. q) (answer 0 0) 0 (allOutputs b)
+
+-- ---- the whole check: 1 (head), 2, 1, 3, 4
+
+unfoldable pub checked : List ℕ → Figures
+checked b = andThen (formChecked b) (lookAheadChecked b)

@@ -1,4 +1,4 @@
--- Lists that are made one element at a time, and words as bits.
+-- Lists that are made one element at a time, words as bits, and blocks of numbers.
 use Prim.Native.Nat.{ℕ, zero, suc, _+_, _*_, _/_, _%_, _^_}
 use mathlib.Core.List.{List, [], _∷_, _++_}
 use mathlib.Core.Bool.{Bool, cond}
@@ -20,3 +20,7 @@ bit w j = eqb (w / 2 ^ j % 2) 1
 unfoldable pub packed : List Bool → ℕ
 packed [] = 0
 packed (v ∷ vs) = cond v 1 0 + 2 * packed vs
+
+-- numbers in blocks of 2 ^ bits: the first of the block of x
+unfoldable pub blockStart : (bits x : ℕ) → ℕ
+blockStart bits x = x / 2 ^ bits * 2 ^ bits

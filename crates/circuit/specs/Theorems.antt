@@ -1,17 +1,34 @@
--- What an accepted circuit is to the theory of layered states: its response, and that its outputs are the response's.
-use Prim.Native.Nat.{ℕ, zero, suc, _-_, _/_, _%_, _^_, _<_}
+-- What number 4 means, and what an accepted circuit is to the theory of layered states: its response, and that its outputs are the response's.
+use Prim.Native.Nat.{ℕ, _-_, _^_, _<_}
 use mathlib.Core.Path.{_≡_}
-use mathlib.Core.List.{List, [], _∷_, _++_}
-use lib.ListN.{replicate}
+use mathlib.Core.Logic.{_↔_}
+use mathlib.Core.List.{List, _++_}
+use lib.ListN.{take, replicate}
 use Rattle.verdict.specs.Judgements.{answer}
 use Rattle.sizes.specs.Sizes.{inputs, outputs, frames}
 use Rattle.layered.specs.States.{Words, outputs as outputsOf}
-use Rattle.circuit.specs.Circuit.{checked, outputWord, outputWords}
+use Rattle.layered.specs.Histories.{historyWords}
+use Rattle.circuit.specs.Circuit.{allOutputs, frameOf, outputWord, outputWords, outputBit, formChecked, checked}
 
--- the words of the history h of t words, its first word highest
-unfoldable pub historyWords : (K t h : ℕ) → List ℕ
-historyWords K zero h = []
-historyWords K (suc t) h = historyWords K t (h / K) ++ (h % K ∷ [])
+-- ---- number 4
+
+-- two sequences agree up to the frame of output q and differ in it (document 02, point 2)
+unfoldable pub DependsOnLater : List ℕ → (q : ℕ) → Type 0
+DependsOnLater b q =
+    (c d : List ℕ) × Words (2 ^ inputs b) (frames b) c × Words (2 ^ inputs b) (frames b) d
+    × (take (frameOf (outputs b) q) c ≡ take (frameOf (outputs b) q) d) × ¬ (outputBit b c q ≡ outputBit b d q)
+
+-- number 4 at q, exactly when every other check passes and q is the first output for which there are two such sequences
+unfoldable pub FirstAhead : List ℕ → Type 0
+FirstAhead b = (q : ℕ)
+    → (checked b ≡ answer 4 q) ↔ ((formChecked b ≡ answer 0 0) × (q < allOutputs b) × DependsOnLater b q × ((r : ℕ) → r < q → ¬ DependsOnLater b r))
+
+-- circuits of valid literals, equal sizes and equal outputs on every sequence are judged alike, whatever their gates
+unfoldable pub JudgedAlike : List ℕ → Type 0
+JudgedAlike b = (d : List ℕ) → formChecked b ≡ answer 0 0 → formChecked d ≡ answer 0 0 → inputs d ≡ inputs b → outputs d ≡ outputs b → frames d ≡ frames b
+    → ((c : List ℕ) → Words (2 ^ inputs b) (frames b) c → outputWords b c ≡ outputWords d c) → checked b ≡ checked d
+
+-- ---- the response
 
 -- the output word of frame t, from 1, on the words of the history h of t words followed by zero words
 unfoldable pub response : List ℕ → (t h : ℕ) → ℕ

@@ -1,19 +1,17 @@
-// Circuits over frames ("charts" in document 01): the check of a circuit.
+// Circuits over frames ("charts" in document 01): the format, and every check but that of number 4.
 use sizes::Sizes;
 use sizes::is_outside;
 use verdict::Refusal;
 use verdict::Verdict;
 use words::read;
 ghost use mathlib.Core.Path.{_≡_};
-ghost use Prim.Native.Nat.{_+_, _*_, _-_, _≤_, _<_, max};
-ghost use lib.ListN.{length, take};
+ghost use Prim.Native.Nat.{_+_, _*_, _≤_, _<_};
+ghost use lib.ListN.{length};
 ghost use Rattle.verdict.specs.Judgements.{figures};
 ghost use Rattle.sizes.specs.Limits.{mostOutputs, mostBits};
-ghost use Rattle.circuit.specs.Limits.{mostGates};
 ghost use Rattle.circuit.specs.Lists.{bit};
-ghost use Rattle.circuit.specs.Circuit.{gates, gateSignal, frameOf, headChecked, literalsChecked, inputFrames, latestFrames, lookAheadChecked, checked};
+ghost use Rattle.circuit.specs.Circuit.{gates, headChecked, literalsChecked, formChecked};
 ghost use Rattle.circuit.specs.WellFormed.{CircuitHeaded, HeadOf, WellFormed, GateOf};
-ghost use Rattle.circuit.specs.Theorems.{AcceptedCausal};
 
 // The limits on the length of a circuit's head and on its gates, and the most signals there can be.
 pub struct Limits;
@@ -113,71 +111,9 @@ pub fn read_gate(circuit: &[u8], head: Head, g: usize) -> Gate
     Gate { left, right }
 }
 
-// The frame, from 1, of item i of a row with `per` items to a frame.
-fn frame_of(per: usize, i: usize) -> usize
-    requires { ⌜ (1 ≤ per) × (i ≤ mostGates) ⌝ }
-    ensures { λ r. ⌜ r ≡ frameOf per i ⌝ }
-{
-    i / per + 1
-}
-
-// The later of two frames.
-fn later(a: usize, b: usize) -> usize
-    ensures { λ r. ⌜ r ≡ max a b ⌝ }
-{
-    if a < b { b } else { a }
-}
-
-// The latest frames of the constant and of `count` inputs.
-fn input_frames(inputs: usize, count: usize) -> [usize; Limits::SIGNALS]
-    requires { ⌜ (1 ≤ inputs) × (count ≤ mostBits) ⌝ }
-    ensures { λ r. ⌜ take (1 + count) r ≡ inputFrames inputs count ⌝ }
-{
-    let mut latest = [0; Limits::SIGNALS];
-    for i in 0..count {
-        latest[1 + i] = frame_of(inputs, i);
-    }
-    latest
-}
-
-// The latest frames of all signals.
-fn latest_frames(circuit: &[u8], head: Head) -> [usize; Limits::SIGNALS]
-    requires { ⌜ WellFormed (now circuit) head ⌝ }
-    ensures { λ r. ⌜ take (gateSignal (now (circuit .entry)) (gates (now (circuit .entry)))) r ≡ latestFrames (now (circuit .entry)) (gates (now (circuit .entry))) ⌝ }
-{
-    let count = head.gates;
-    let base = head.base;
-    let mut latest = input_frames(head.inputs, base - 1);
-    for g in 0..count {
-        let gate = read_gate(circuit, head, g);
-        let left = gate.left / 2;
-        let right = gate.right / 2;
-        latest[base + g] = later(latest[left], latest[right]);
-    }
-    latest
-}
-
-// Number 4: no output of a frame has gates that reach an input of a later frame.
-fn check_look_ahead(circuit: &[u8], head: Head) -> Verdict
-    requires { ⌜ WellFormed (now circuit) head ⌝ }
-    ensures { λ r. ⌜ figures r ≡ lookAheadChecked (now (circuit .entry)) ⌝ }
-{
-    let latest = latest_frames(circuit, head);
-    let outputs = head.outputs;
-    let total = head.total;
-    let first = head.base + (head.gates - total);
-    for q in 0..total {
-        if frame_of(outputs, q) < latest[first + q] {
-            return Verdict::Refused(Refusal::LookAhead(q));
-        }
-    }
-    Verdict::Accepted(0)
-}
-
-// The verdict on a circuit.
-pub fn check(circuit: &[u8]) -> Verdict
-    ensures verdict { λ r. ⌜ figures r ≡ checked (now (circuit .entry)) ⌝ }
-    ensures causal { λ r. ⌜ AcceptedCausal (now (circuit .entry)) ⌝ }
+// Every check of a circuit but that of number 4.
+pub fn check_form(circuit: &[u8]) -> Verdict
+    ensures { λ r. ⌜ figures r ≡ formChecked (now (circuit .entry)) ⌝ }
 {
     let judged = check_head(circuit, sizes::Limits::INPUTS);
     let Verdict::Accepted(_) = judged else {
@@ -188,11 +124,7 @@ pub fn check(circuit: &[u8]) -> Verdict
     let Verdict::Accepted(_) = lefts else {
         return lefts;
     };
-    let rights = check_literals(circuit, head, Limits::HEAD + 2 * head.gates);
-    let Verdict::Accepted(_) = rights else {
-        return rights;
-    };
-    check_look_ahead(circuit, head)
+    check_literals(circuit, head, Limits::HEAD + 2 * head.gates)
 }
 
 // Bit j of a word.

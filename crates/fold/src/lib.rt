@@ -1,6 +1,6 @@
 // Folds a circuit into its table of layered states: the fewest at every layer.
+use causal::check;
 use circuit::Head;
-use circuit::check;
 use classify::Plan;
 use classify::classify;
 use emit::clear;

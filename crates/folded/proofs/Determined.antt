@@ -13,13 +13,14 @@ use Rattle.layered.specs.Machines.{Legal, feed, Gives, folded}
 use Rattle.layered.proofs.States.{some-words, words-more, number-decides, number-below, history-is, history-least}
 use Rattle.layered.proofs.Machines.{legal, gives, fewest}
 use Rattle.circuit.specs.Circuit.{outputWords}
-use Rattle.circuit.specs.Theorems.{historyWords, response, Causal}
+use Rattle.layered.specs.Histories.{historyWords, historyNumber}
+use Rattle.circuit.specs.Theorems.{response, Causal}
 use Rattle.table.specs.Table.{states, machine}
 use Rattle.folded.specs.Folded.{foldedBytes}
 use Rattle.layered.specs.Machines.{reached}
-use Rattle.folded.specs.Theorems.{historyNumber, stateOf, Smallest, Folding}
+use Rattle.folded.specs.Theorems.{stateOf, Smallest, Folding}
 use Rattle.layered.proofs.Feeding.{words-length, words-append, words-whole, reached-append, reached-below, feed-then}
-use Rattle.folded.proofs.Histories.{numbered-append, number-words, history-below, outputs-then}
+use Rattle.layered.proofs.Histories.{numbered-append, number-words, history-below, outputs-then}
 use Rattle.folded.proofs.Agreement.{Agree}
 use Rattle.folded.proofs.Checked.{Writable, passed-table}
 use Rattle.folded.proofs.Written.{Below, tableBytes}

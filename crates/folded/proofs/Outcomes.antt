@@ -20,65 +20,14 @@ use Rattle.sizes.specs.Sizes.{inputs, outputs, frames, outside, sizesChecked}
 use Rattle.sizes.specs.Sized.{Sized}
 use Rattle.circuit.specs.Circuit.{gates, leftsAt, rightsAt, circuitLength, allOutputs, headChecked, literalsChecked, lookAheadChecked, checked}
 use Rattle.circuit.proofs.Accepted.{accepted as circuitAccepted}
+use Rattle.circuit.proofs.Judged.{checked-number}
 use Rattle.folded.specs.Folded.{foldedBytes, scratchNeeded, foldChecked, foldResult, foldScratch}
-
--- ---- the numbers that a circuit's check can answer
-
-module _ (k : ℕ) where
-  under-refuse : (t : Bool) (number place : ℕ) (f : Figures) → number < k → f .number < k → refuse t number place f .number < k
-  under-refuse true number place f l m = l
-  under-refuse false number place f l m = m
-
-  under-then : (f g : Figures) → f .number < k → g .number < k → andThen f g .number < k
-  under-then f g l m = go (eqb (f .number) 0)
-    where
-      go : (t : Bool) → cond t g f .number < k
-      go true = m
-      go false = l
-
-  under-first : (test : ℕ → Bool) (number : ℕ) (place : ℕ → ℕ) (rest : Figures) (i c : ℕ) → number < k → rest .number < k
-      → refuseFirst test number place rest i c .number < k
-  unfolding refuseFirst
-  under-first test number place rest i zero l m = m
-  under-first test number place rest i (suc c) l m = under-refuse (test i) number (place i) _ l (under-first test number place rest (suc i) c l m)
-
-sizes-number : (most n m T : ℕ) → sizesChecked most n m T .number < 5
-unfolding sizesChecked
-sizes-number most n m T =
-    under-refuse 5 (outside 1 most n) 2 0 _ (lit< tt)
-    (under-refuse 5 (outside 1 mostOutputs m) 2 2 _ (lit< tt)
-    (under-refuse 5 (outside 1 mostFrames T) 2 4 _ (lit< tt)
-    (under-refuse 5 (ltb mostBits (n * T)) 2 4 _ (lit< tt) (lit< tt))))
-
-head-number : (most : ℕ) (b : List ℕ) → headChecked most b .number < 5
-unfolding headChecked
-head-number most b =
-    under-refuse 5 (ltb (length b) circuitHead) 1 (length b) _ (lit< tt)
-    (under-then 5 (sizesChecked most (inputs b) (outputs b) (frames b)) _ (sizes-number most _ _ _)
-    (under-refuse 5 (outside (allOutputs b) mostGates (gates b)) 2 6 _ (lit< tt)
-    (under-refuse 5 (not (eqb (length b) (circuitLength b))) 1 (length b) _ (lit< tt) (lit< tt))))
-
-literals-number : (b : List ℕ) (start : ℕ) → literalsChecked b start .number < 5
-unfolding literalsChecked
-literals-number b start = under-first 5 _ 3 _ (answer 0 0) 0 (gates b) (lit< tt) (lit< tt)
-
-ahead-number : (b : List ℕ) → lookAheadChecked b .number < 5
-unfolding lookAheadChecked
-ahead-number b = under-first 5 _ 4 _ (answer 0 0) 0 (allOutputs b) (lit< tt) (lit< tt)
-
--- it is 4 at most, so never 7
-circuit-number : (b : List ℕ) → checked b .number < 5
-unfolding checked
-circuit-number b =
-    under-then 5 (headChecked mostInputs b) _ (head-number mostInputs b)
-    (under-then 5 (literalsChecked b (leftsAt b)) _ (literals-number b (leftsAt b))
-    (under-then 5 (literalsChecked b (rightsAt b)) (lookAheadChecked b) (literals-number b (rightsAt b)) (ahead-number b)))
 
 -- ---- what acceptance tells
 
 -- of a circuit
 pub circuit-sized : (b : List ℕ) (p : ℕ) → checked b ≡ answer 0 p → Sized mostInputs (inputs b) (outputs b) (frames b)
-circuit-sized b p e = circuitAccepted b p e .sizes
+circuit-sized b p e = circuitAccepted b p e .form .sizes
 
 -- of folding
 pub record Accepted (b : List ℕ) (scratchRoom resultRoom p : ℕ) : Type 0 where
@@ -132,7 +81,7 @@ circuit-refused b scratch result x r e q =
     let f : Figures = figures x in
     let a = circuit-answer b (length scratch) (length result) x r e q in
     let n₀ : eqb (f .number) 0 ≡ false = ne-eqb (f .number) 0 (λ z. never r (f .place) (sym (ap figures q) ∙ ap (λ n. answer n (f .place)) z)) in
-    let n₇ : eqb (f .number) 7 ≡ false = ne-eqb (f .number) 7 (λ z. omega (arith, circuit-number b, ap (λ (f : Figures). f .number) e)) in
+    let n₇ : eqb (f .number) 7 ≡ false = ne-eqb (f .number) 7 (λ z. omega (arith, checked-number b, ap (λ (f : Figures). f .number) e)) in
     record { figures-are = a; scratch-left = rw (← a, n₀, n₇); result-left = rw (← a, n₀) }
 
 module _ (b scratch result : List ℕ) (p : ℕ) (C : checked b ≡ answer 0 p) where

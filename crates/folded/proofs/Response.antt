@@ -11,10 +11,9 @@ use Rattle.layered.specs.States.{Words, none, more, outputs, Equivalent, count,
 use Rattle.layered.specs.Machines.{folded}
 use Rattle.layered.proofs.States.{digit-below, empty-below, number-decides, number-below, number-order, history-is, history-least, equivalent-step}
 use Rattle.layered.proofs.Machines.{number-first}
-use Rattle.circuit.specs.Theorems.{historyWords}
+use Rattle.layered.specs.Histories.{historyWords, historyNumber}
 use Rattle.layered.specs.Machines.{reached}
-use Rattle.folded.specs.Theorems.{historyNumber}
-use Rattle.folded.proofs.Histories.{history-below, number-words, outputs-then}
+use Rattle.layered.proofs.Histories.{history-below, number-words, outputs-then}
 use Rattle.layered.proofs.Feeding.{words-whole}
 
 module _ (K T : ℕ) (y : ℕ → ℕ → ℕ) where

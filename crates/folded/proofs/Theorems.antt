@@ -16,12 +16,13 @@ use Rattle.layered.proofs.States.{number-decides, number-order, history-is}
 use Rattle.layered.proofs.Machines.{legal, gives, fewest, unique}
 use Rattle.layered.proofs.Canonical.{canonical}
 use Rattle.circuit.specs.Circuit.{outputWords}
-use Rattle.circuit.specs.Theorems.{historyWords, response, Causal, AcceptedCausal}
+use Rattle.layered.specs.Histories.{historyWords, historyNumber}
+use Rattle.circuit.specs.Theorems.{response, Causal, AcceptedCausal}
 use Rattle.table.specs.Table.{states, machine, checked}
 use Rattle.folded.specs.Folded.{foldedBytes, foldChecked}
-use Rattle.folded.specs.Theorems.{historyNumber, stateOf, Smallest, Folding, Canonical, Foldings}
+use Rattle.folded.specs.Theorems.{stateOf, Smallest, Folding, Canonical, Foldings}
 use Rattle.circuit.proofs.Causal.{causal}
-use Rattle.folded.proofs.Histories.{number-words, history-below}
+use Rattle.layered.proofs.Histories.{number-words, history-below}
 use Rattle.layered.proofs.Feeding.{words-length}
 use Rattle.folded.proofs.Agreement.{Agree, agree-renumberings, agree-reached, agree-gives}
 use Rattle.folded.proofs.Written.{tableBytes, fits, inputs-back, outputs-back, frames-back, machine-back, bytes-pass}

@@ -16,7 +16,8 @@ use Rattle.circuit.specs.Examples.{parity, silent, delayed}
 use Rattle.circuit.specs.Circuit.{gates, leftsAt, rightsAt, literalAt, allInputs, allOutputs, gateSignal, outputSignal, inputValues, literalValue, gateValue, signalValues, outputWord, outputWords}
 use Rattle.sizes.specs.Sizes.{inputs, outputs, frames}
 use Rattle.table.specs.Table.{states, machine}
-use Rattle.folded.specs.Theorems.{historyNumber, stateOf, Smallest, Folding}
+use Rattle.layered.specs.Histories.{historyNumber}
+use Rattle.folded.specs.Theorems.{stateOf, Smallest, Folding}
 use Rattle.folded.proofs.Checked.{passed-table}
 
 -- ---- outputs

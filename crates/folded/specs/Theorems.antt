@@ -1,23 +1,19 @@
 -- Demands 2 and 3, of the bytes. b is a circuit; t are the bytes that folding it wrote. The table is the machine that the bytes are, with
 -- start 0; its states are those that it reaches when fed; the outputs of a circuit are what its simulation gives.
-use Prim.Native.Nat.{ℕ, _+_, _*_, _-_, _^_, _≤_, _<_}
+use Prim.Native.Nat.{ℕ, _-_, _^_, _≤_, _<_}
 use mathlib.Core.Path.{_≡_}
 use mathlib.Core.Logic.{_↔_}
-use mathlib.Core.List.{List, [], _∷_, _++_}
+use mathlib.Core.List.{List, _++_}
 use lib.ListN.{length, take, drop}
 use Rattle.verdict.specs.Judgements.{answer}
 use Rattle.sizes.specs.Sizes.{inputs, outputs, frames}
 use Rattle.layered.specs.States.{Words}
+use Rattle.layered.specs.Histories.{historyNumber}
 use Rattle.layered.specs.Machines.{Machine, Legal, Gives, Renumbered}
 use Rattle.circuit.specs.Circuit.{outputWords}
 use Rattle.table.specs.Table.{states, machine, checked}
 use Rattle.layered.specs.Machines.{reached}
 use Rattle.folded.specs.Folded.{foldChecked, foldResult}
-
--- the number of the history h followed by the words c: first word highest
-unfoldable pub historyNumber : (K h : ℕ) → List ℕ → ℕ
-historyNumber K h [] = h
-historyNumber K h (w ∷ c) = historyNumber K (h * K + w) c
 
 -- the state of the table that the history c comes to
 unfoldable pub stateOf : List ℕ → List ℕ → ℕ

@@ -1,4 +1,4 @@
--- Bits of a conjunction, of a complement, of a packed list and of a part of a number. Assumes nothing.
+-- Bits of a conjunction, of a complement and of a part of a number. Assumes nothing.
 use mathlib.Core.Path.{_≡_, refl, ap, _∙_}
 use mathlib.Core.Bool.{Bool, true, false, not, _&&_, cond}
 use mathlib.Core.List.{List, [], _∷_}
@@ -59,27 +59,6 @@ bit-not x j w hj h =
     let below : q < 2 ^ suc k = shr-lt (suc k) j (rw ew at h) in
     ap (λ i. eqb (i % 2) 1) (complement-shr x j k w ew h)
     ∙ digit-not ((2 ^ suc k - 1 - q) % 2) (q % 2) (omega (arith, pow-suc 2 k))
-
--- ---- a packed list
-
-pub bit-none : (j : ℕ) → bit 0 j ≡ false
-bit-none zero = bit-zero 0
-bit-none (suc j) = bit-suc 0 j ∙ bit-none j
-
--- a digit below the others
-lowest : (v : Bool) (x : ℕ) → eqb ((cond v 1 0 + 2 * x) % 2) 1 ≡ v
-lowest true x = let e : (1 + 2 * x) % 2 ≡ 1 = omega arith in ap (λ k. eqb k 1) e
-lowest false x = let e : (0 + 2 * x) % 2 ≡ 0 = omega arith in ap (λ k. eqb k 1) e
-
-above : (v : Bool) (x : ℕ) → (cond v 1 0 + 2 * x) / 2 ≡ x
-above true x = omega arith
-above false x = omega arith
-
-pub bit-packed : (l : List Bool) (j : ℕ) → bit (packed l) j ≡ getD l j false
-unfolding packed
-bit-packed [] j = bit-none j
-bit-packed (v ∷ l) zero = bit-zero _ ∙ lowest v (packed l)
-bit-packed (v ∷ l) (suc j) = bit-suc _ j ∙ ap (λ x. bit x j) (above v (packed l)) ∙ bit-packed l j
 
 -- ---- a part: n bits of x from bit a on
 

@@ -15,12 +15,12 @@ use Rattle.sizes.specs.Sizes.{inputs, frames}
 use Rattle.layered.proofs.Rows.{pow-mul}
 use Rattle.circuit.specs.Lists.{grown, bit, packed}
 use Rattle.circuit.specs.Circuit.{gates, leftsAt, rightsAt, literalAt, allInputs, gateSignal, inputValues, literalValue, signalValues}
-use Rattle.circuit.specs.Theorems.{historyWords}
-use Rattle.circuit.proofs.Bits.{digit}
-use Rattle.circuit.proofs.Causal.{words-more}
+use Rattle.layered.specs.Histories.{historyWords}
+use Rattle.circuit.proofs.Bits.{digit, bit-none, bit-packed}
+use Rattle.layered.proofs.Histories.{history-word, history-zeros}
 use Rattle.circuit.proofs.Laws.{fill-grown, values-more}
 use Rattle.lanes.specs.Lanes.{lane, literalLanes, sequence, Lanes, SignalLanes}
-use Rattle.lanes.proofs.Bits.{bit-none, bit-and, bit-not, bit-packed, bit-part}
+use Rattle.lanes.proofs.Bits.{bit-and, bit-not, bit-part}
 
 -- ---- an element of a list under a function
 
@@ -43,43 +43,14 @@ pub lane-length : (v : List ℕ) (j : ℕ) → length (lane j v) ≡ length v
 unfolding lane
 lane-length v j = length-map v (λ y. bit y j)
 
+pub lane-at : (v : List ℕ) (j s : ℕ) → s < length v → getD (lane j v) s false ≡ bit (getD v s 0) j
+unfolding lane
+lane-at v j s h = map-at (λ y. bit y j) v s 0 false h
+
 -- the digit that is packed next, as the code has it
 pub digit-is : (f : ℕ → ℕ) (v : List ℕ) (i j : ℕ) → i < length v → f (getD v i 0) / 2 ^ j % 2 ≡ cond (getD (map (λ x. bit (f x) j) v) i false) 1 0
 unfolding bit
 digit-is f v i j h = sym (digit (f (getD v i 0) / 2 ^ j)) ∙ ap (λ y. cond y 1 0) (sym (map-at (λ x. bit (f x) j) v i 0 false h))
-
--- ---- the words of a history
-
-module _ (K : ℕ) where
-  history-length : (t h : ℕ) → length (historyWords K t h) ≡ t
-  unfolding historyWords
-  history-length zero h = refl
-  history-length (suc t) h = length-append (historyWords K t (h / K)) _ ∙ add-one _ ∙ ap suc (history-length t (h / K))
-
-  -- word f, with d words after it
-  history-word : (d t h f : ℕ) → t ≡ suc (f + d) → getD (historyWords K t h) f 0 ≡ h / K ^ d % K
-  unfolding historyWords
-  history-word zero t h f e =
-      let e′ : t ≡ suc f = omega arith in
-      rw (e′, pow-zero K, div-one h) (getD-at (historyWords K f (h / K)) (h % K) [] 0 f (history-length f (h / K)))
-  history-word (suc d) t h f e =
-      let e′ : t ≡ suc (suc (f + d)) = omega arith in
-      rw e′
-      (List·getD-append (historyWords K (suc (f + d)) (h / K)) _ 0 f (omega (arith, history-length (suc (f + d)) (h / K)))
-      ∙ history-word d (suc (f + d)) (h / K) f refl
-      ∙ ap (λ x. x % K) (div-div-eq-div-mul h K (K ^ d) ∙ ap (λ x. h / x) (mul-comm K (K ^ d) ∙ sym (pow-suc K d))))
-
-  -- d zero words more
-  history-zeros : 0 < K → (t h d : ℕ) → historyWords K (t + d) (h * K ^ d) ≡ historyWords K t h ++ replicate d 0
-  history-zeros p t h zero = rw (add-zero t, pow-zero K, mul-one h) (sym (append-nil (historyWords K t h)))
-  history-zeros p t h (suc d) =
-      let more : h * K ^ suc d ≡ h * K ^ d * K + 0 = ap (λ k. h * k) (pow-suc K d) ∙ sym (mul-assoc h (K ^ d) K) ∙ sym (add-zero (h * K ^ d * K)) in
-      let zeros : _≡_ {A = List ℕ} (replicate d 0 ++ (0 ∷ [])) (replicate (suc d) 0) = replicate-append-replicate d 1 0 ∙ ap (λ k. replicate k 0) (add-one d) in
-      ap₂ (historyWords K) (omega arith) more
-      ∙ words-more K (t + d) (h * K ^ d) 0 p
-      ∙ ap (λ s. s ++ (0 ∷ [])) (history-zeros p t h d)
-      ∙ append-assoc (historyWords K t h) (replicate d 0) (0 ∷ [])
-      ∙ ap (λ s. historyWords K t h ++ s) zeros
 
 -- ---- inputs
 

@@ -8,7 +8,7 @@ use lib.Dec.{eqb}
 use Rattle.sizes.specs.Sizes.{inputs, frames}
 use Rattle.circuit.specs.Lists.{bit}
 use Rattle.circuit.specs.Circuit.{gates, gateSignal, signalValues}
-use Rattle.circuit.specs.Theorems.{historyWords}
+use Rattle.layered.specs.Histories.{historyWords}
 use Rattle.lanes.specs.Limits.{laneCount}
 
 -- lane j of each number

@@ -1,5 +1,9 @@
--- How many histories are simulated side by side: the bits of a signal's number. In src/ it is the associated constant of `Limits`.
-use Prim.Native.Nat.{ℕ}
+-- How many histories are simulated side by side, a lane each: the bits of a signal's number; and the bits of a lane's. In src/ they are the
+-- associated constants of `Limits`.
+use Prim.Native.Nat.{ℕ, _^_}
+
+abbrev pub laneBits : ℕ
+laneBits = 6
 
 abbrev pub laneCount : ℕ
-laneCount = 64
+laneCount = 2 ^ laneBits

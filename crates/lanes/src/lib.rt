@@ -14,11 +14,13 @@ ghost use Rattle.circuit.specs.WellFormed.{WellFormed};
 ghost use Rattle.lanes.specs.Limits.{laneCount};
 ghost use Rattle.lanes.specs.Lanes.{lane, literalLanes, sequence, Lanes, SignalLanes};
 
-// How many histories are simulated side by side: the bits of a number.
+// How many histories are simulated side by side, a lane each: the bits of a number; and the bits of a lane's number.
 pub struct Limits;
 
 impl Limits {
-    pub const LANES: usize = 64;
+    pub const BITS: usize = 6;
+
+    pub const LANES: usize = 1 << Limits::BITS;
 }
 
 // Room for the lanes of all signals.

@@ -1,7 +1,7 @@
 // The simulation of a circuit on a sequence of input words ("playing" in document 01).
+use causal::check;
 use circuit::Head;
 use circuit::Limits;
-use circuit::check;
 use circuit::is_set;
 use circuit::read_gate;
 use sizes::check_sequence;

@@ -25,7 +25,7 @@ pub extern "C" fn tff_check_circuit(circuit: &[u8], answer: &mut [u64])
     if answer.len() < Limits::VERDICT {
         return;
     }
-    let verdict: Verdict = circuit::check(circuit);
+    let verdict: Verdict = causal::check(circuit);
     put(verdict, answer);
 }
 

@@ -2,16 +2,17 @@
 use mathlib.Core.Path.{_≡_, refl, sym, ap, ap₂, _∙_}
 use mathlib.Core.Bool.{Bool, true, false, not, _&&_, cond}
 use mathlib.Core.Logic.{⊎-elim}
-use mathlib.Core.List.{List, [], _∷_}
-use Prim.Native.Nat.{ℕ, zero, suc, _*_, _/_, _%_, _^_, _<_}
-use native.Mathlib.Nat.{le-of-suc-le-suc, eq-or-lt-of-le, le-refl, le-suc, le-trans, pow-zero, pow-suc}
+use mathlib.Core.List.{List, []}
+use Prim.Native.Nat.{ℕ, zero, suc, _^_, _<_}
+use native.Mathlib.Nat.{le-of-suc-le-suc, eq-or-lt-of-le, le-refl, le-suc, le-trans}
 use native.Mathlib.Omega.{arith}
 use lib.Dec.{eqb}
-use lib.ListN.{length, getD}
+use lib.ListN.{length}
 use borrow.Author.Tests.{eqb-true, eqb-false}
-use Rattle.circuit.specs.Lists.{listed, bit, packed}
-use Rattle.circuit.proofs.Bits.{bit-zero, bit-suc, digit}
+use Rattle.circuit.specs.Lists.{listed, bit}
+use Rattle.circuit.proofs.Bits.{packed-bits}
 use Rattle.layered.specs.Search.{every}
+use Rattle.layered.proofs.Search.{every-true, every-each}
 use Rattle.circuit.proofs.Lists.{listed-length, listed-at}
 
 -- ---- truth values
@@ -43,48 +44,20 @@ same-eq true v e = sym e
 same-eq false true e = e
 same-eq false false e = refl
 
-and-both : (a v : Bool) → (a && v) ≡ true → (a ≡ true) × (v ≡ true)
-and-both true v e = (refl, e)
-and-both false true e = (e, refl)
-and-both false false e = (e, e)
-
 -- ---- every
 
 module _ (p : ℕ → Bool) where
-  every-true : (n : ℕ) → ((i : ℕ) → i < n → p i ≡ true) → every n p ≡ true
-  unfolding every
-  every-true zero h = refl
-  every-true (suc n) h = ap₂ _&&_ (every-true n (λ i l. h i (le-trans l (le-suc n)))) (h n (le-refl (suc n)))
-
-  every-each : (n : ℕ) → every n p ≡ true → (i : ℕ) → i < n → p i ≡ true
-  unfolding every
-  every-each zero e i h = absurd (omega arith)
-  every-each (suc n) e i h =
-      let q = and-both (every n p) (p n) e in
-      ⊎-elim (λ (j : i ≡ n). rw j (q .1)) (λ (l : i < n). every-each n (q .0) i l) (eq-or-lt-of-le (le-of-suc-le-suc h))
-
   -- where the test holds of all others, that of i decides
   pub every-one : (n i : ℕ) → i < n → ((j : ℕ) → j < n → (j ≡ i → ⊥) → p j ≡ true) → every n p ≡ p i
   unfolding every
   every-one zero i h o = absurd (omega arith)
   every-one (suc n) i h o =
       ⊎-elim
-      (λ (q : i ≡ n). rw (q, every-true n (λ j l. o j (le-trans l (le-suc n)) (λ k. absurd (omega arith)))))
+      (λ (q : i ≡ n). rw (q, every-true p n (λ j l. o j (le-trans l (le-suc n)) (λ k. absurd (omega arith)))))
       (λ (l : i < n). ap₂ _&&_ (every-one n i l (λ j k d. o j (le-trans k (le-suc n)) d)) (o n (le-refl (suc n)) (λ k. absurd (omega arith))) ∙ and-true (p i))
       (eq-or-lt-of-le (le-of-suc-le-suc h))
 
 -- ---- bits
-
--- a word below 2^m is what its m bits pack to
-pub packed-bits : (m w : ℕ) (vs : List Bool) → w < 2 ^ m → length vs ≡ m → ((j : ℕ) → j < m → getD vs j false ≡ bit w j) → packed vs ≡ w
-unfolding packed
-packed-bits zero w [] h l e = let z : w < 1 = rw (pow-zero 2) at h in omega arith
-packed-bits zero w (v ∷ vs) h l e = absurd (omega arith)
-packed-bits (suc m) w [] h l e = absurd (omega arith)
-packed-bits (suc m) w (v ∷ vs) h l e =
-    let h′ : w < 2 ^ m * 2 = rw (pow-suc 2 m) at h in
-    let d : cond v 1 0 ≡ w % 2 = ap (λ v. cond v 1 0) (e 0 (omega arith) ∙ bit-zero w) ∙ digit w in
-    omega (arith, d, packed-bits m (w / 2) vs (omega arith) (omega arith) (λ j q. e (suc j) (omega arith) ∙ bit-suc w j))
 
 -- words below 2^n with the same n bits are the same
 pub same-bits : (n w x : ℕ) → w < 2 ^ n → x < 2 ^ n → every n (λ i. same (bit w i) (bit x i)) ≡ eqb x w

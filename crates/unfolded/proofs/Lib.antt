@@ -4,7 +4,6 @@ pub mod Gates
 pub mod Frames
 pub mod Drawings
 pub mod Written
-pub mod Ahead
 pub mod Bits
 pub mod Values
 pub mod Counts

@@ -1,8 +1,8 @@
--- The bytes of a circuit of given gates, read back: sizes, literals, latest frames and values are those of the gates.
+-- The bytes of a circuit of given gates, read back: sizes, literals and values are those of the gates.
 use mathlib.Core.Path.{_≡_, refl, sym, ap, ap₂, _∙_}
-use mathlib.Core.Bool.{false, not, _&&_}
+use mathlib.Core.Bool.{not, _&&_}
 use mathlib.Core.List.{List, [], _∷_, _++_, map}
-use Prim.Native.Nat.{ℕ, zero, suc, _+_, _*_, _/_, _≤_, _<_, max}
+use Prim.Native.Nat.{ℕ, zero, suc, _+_, _*_, _≤_, _<_}
 use native.Mathlib.Omega.{arith}
 use lib.ListN.{length, getD, take, length-append, length-map, List·getD-append, List·getD-map}
 use lib.Seq.{getD-append-add, take-suc, take-length}
@@ -15,7 +15,7 @@ use Rattle.sizes.specs.Sizes.{inputs, outputs, frames}
 use Rattle.sizes.specs.Sized.{Sized}
 use Rattle.circuit.specs.Limits.{mostGates}
 use Rattle.circuit.specs.Lists.{grown}
-use Rattle.circuit.specs.Circuit.{gates, leftsAt, rightsAt, circuitLength, literalAt, allInputs, allOutputs, gateSignal, outputSignal, admissible, headChecked, literalsChecked, lookAheadChecked, inputFrames, laterFrame, latestFrames, looksAhead, inputValues, literalValue, gateValue, signalValues, checked}
+use Rattle.circuit.specs.Circuit.{gates, leftsAt, rightsAt, circuitLength, literalAt, allInputs, allOutputs, gateSignal, outputSignal, admissible, headChecked, literalsChecked, formChecked, inputValues, literalValue, gateValue, signalValues}
 use Rattle.verdict.proofs.Laws.{finds-none}
 use Rattle.sizes.proofs.Laws.{not-outside, sizes-pass}
 use Rattle.unfolded.specs.Unfolded.{drawing, drawn, circuitWords}
@@ -80,10 +80,6 @@ module _
 
     grown-run : (k : ℕ) → k ≡ length gs → grown start next k ≡ run meet read start gs
     grown-run k q = grown-runs k (omega arith) ∙ ap (λ k. run meet read start (take k gs)) q ∙ ap (run meet read start) (take-length gs)
-
--- what is read of a literal's latest frame
-unfoldable pub frameRead : List ℕ → ℕ → ℕ
-frameRead fs l = getD fs (l / 2) 0
 
 -- ---- the bytes
 
@@ -151,15 +147,7 @@ module _ (n m T : ℕ) (gs : List (ℕ × ℕ)) where
         ∙ ap (λ i. getD (circuitWords n m T gs) i 0) p
         ∙ getD-append-add (lefts gs) (rights gs) g 0
 
-    -- ---- latest frames and values
-
-    pub frames-run : latestFrames circuitBytes (gates circuitBytes) ≡ run max frameRead (inputFrames n (n * T)) gs
-    unfolding latestFrames laterFrame frameRead
-    frames-run =
-        ap₂ (λ n k. grown (inputFrames n k) (laterFrame circuitBytes) (gates circuitBytes)) inputs-back all-inputs-back
-        ∙ grown-run max frameRead (inputFrames n (n * T)) (laterFrame circuitBytes) gs
-        (λ fs g h. ap₂ (λ l r. max (getD fs (l / 2) 0) (getD fs (r / 2) 0)) (lefts-back g h ∙ left-at gs g) (rights-back g h ∙ right-at gs g))
-        (gates circuitBytes) gates-back
+    -- ---- values
 
     pub values-run : (c : List ℕ) → signalValues circuitBytes c (gates circuitBytes) ≡ run _&&_ literalValue (inputValues c n (n * T)) gs
     unfolding signalValues gateValue
@@ -196,13 +184,15 @@ module _ (n m T : ℕ) (gs : List (ℕ × ℕ)) where
             eq-eqb (8 + 4 * length gs) (8 + 4 * length gs) refl,
           )
 
-      -- where no output looks ahead, all is accepted
-      pub circuit-passes : ((q : ℕ) → q < m * T → looksAhead circuitBytes q ≡ false) → checked circuitBytes ≡ answer 0 0
-      unfolding checked lookAheadChecked
-      circuit-passes F =
-          rw
-          (head-passes, literals-pass (leftsAt circuitBytes) (lefts gs) lefts-back (λ g h. admitted-at D g h .0), literals-pass (rightsAt circuitBytes) (rights gs) rights-back (λ g h. admitted-at D g h .1))
-          (finds-none (looksAhead circuitBytes) 4 _ (answer 0 0) 0 (allOutputs circuitBytes) (λ q lo hi. F q (omega (arith, all-outputs-back))))
+      -- every check but 4
+      pub form-passes : formChecked circuitBytes ≡ answer 0 0
+      unfolding formChecked
+      form-passes =
+          rw (
+            head-passes,
+            literals-pass (leftsAt circuitBytes) (lefts gs) lefts-back (λ g h. admitted-at D g h .0),
+            literals-pass (rightsAt circuitBytes) (rights gs) rights-back (λ g h. admitted-at D g h .1),
+          )
 
 -- ---- the drawn circuit
 

@@ -1,2 +1,3 @@
 -- The figures hold.
+pub mod Quick
 pub mod Vectors

@@ -114,16 +114,40 @@ pub fn with_outputs(sizes: Sizes, output: impl Fn(usize, usize) -> u16) -> Circu
             .map(|history| match_history(&mut gates, &sizes, frame + 1, history))
             .collect();
         for bit in 0..sizes.outputs {
-            let set = (0..matches.len()).filter(|&history| output(frame, history) >> bit & 1 == 1);
-            let unmatched = gates.chain(set.map(|history| not(matches[history])));
-            outputs.push(unmatched.map_or(FALSE, not));
+            let set = |history: &usize| output(frame, *history) >> bit & 1 == 1;
+            outputs.push(one_of(&mut gates, &matches, set));
         }
     }
     gates.finish(&outputs)
 }
 
+/// A circuit that gives any outputs, whether or not they look ahead: `output(frame, sequence)` is the
+/// output word of `frame`, from 0, on a sequence.
+pub fn with_outputs_by_sequence(sizes: Sizes, output: impl Fn(usize, usize) -> u16) -> Circuit {
+    let mut gates = Gates::new(sizes);
+    let matches: Vec<u16> = (0..sizes.histories(sizes.frames))
+        .map(|sequence| match_history(&mut gates, &sizes, sizes.frames, sequence))
+        .collect();
+    let mut outputs = Vec::new();
+    for frame in 0..sizes.frames {
+        for bit in 0..sizes.outputs {
+            let set = |sequence: &usize| output(frame, *sequence) >> bit & 1 == 1;
+            outputs.push(one_of(&mut gates, &matches, set));
+        }
+    }
+    gates.finish(&outputs)
+}
+
+/// True when one of the chosen literals is.
+fn one_of(gates: &mut Gates, literals: &[u16], chosen: impl Fn(&usize) -> bool) -> u16 {
+    let inverted = (0..literals.len())
+        .filter(chosen)
+        .map(|index| not(literals[index]));
+    gates.chain(inverted).map_or(FALSE, not)
+}
+
 /// True when the first `length` words are those of `history`.
-fn match_history(gates: &mut Gates, sizes: &Sizes, length: usize, history: usize) -> u16 {
+pub fn match_history(gates: &mut Gates, sizes: &Sizes, length: usize, history: usize) -> u16 {
     let words = sizes.history_words(length, history);
     let mut literals = Vec::new();
     for (frame, word) in words.into_iter().enumerate() {
@@ -141,15 +165,32 @@ fn match_history(gates: &mut Gates, sizes: &Sizes, length: usize, history: usize
 
 /// A legal circuit with up to three literals changed, so that it may refer to later signals or frames.
 pub fn careless(rng: &mut Rng, sizes: Sizes, gates: usize) -> Circuit {
-    let mut circuit = legal(rng, sizes, gates);
-    for _ in 0..rng.between(0, 3) {
-        let any_gate = rng.below(gates);
-        let any_output = rng.between(circuit.first_output(), gates - 1);
-        let gate = rng.pick(&[any_gate, any_output]);
-        let limit = circuit.literal_limit(gate);
-        let legal = rng.below(limit);
+    let circuit = legal(rng, sizes, gates);
+    with_changed_literals(rng, circuit, 3, |rng, limit| {
+        let valid = rng.below(limit);
         let high = rng.pick(&[limit - 1, limit, limit + 1, usize::from(u16::MAX)]);
-        let literal = rng.pick(&[legal, legal, high]) as u16;
+        rng.pick(&[valid, valid, high])
+    })
+}
+
+/// A legal circuit with up to eight literals changed to other valid ones, so that it may look ahead.
+pub fn heedless(rng: &mut Rng, sizes: Sizes, gates: usize) -> Circuit {
+    let circuit = legal(rng, sizes, gates);
+    with_changed_literals(rng, circuit, 8, Rng::below)
+}
+
+/// Changes up to `most` literals; `literal` is given the limit below which one is valid.
+fn with_changed_literals(
+    rng: &mut Rng,
+    mut circuit: Circuit,
+    most: usize,
+    literal: fn(&mut Rng, usize) -> usize,
+) -> Circuit {
+    for _ in 0..rng.between(0, most) {
+        let any_gate = rng.below(circuit.gates());
+        let any_output = rng.between(circuit.first_output(), circuit.gates() - 1);
+        let gate = rng.pick(&[any_gate, any_output]);
+        let literal = literal(rng, circuit.literal_limit(gate)) as u16;
         if rng.one_in(2) {
             circuit.left[gate] = literal;
         } else {
@@ -224,7 +265,8 @@ pub fn many_states(sizes: Sizes, gates: usize) -> Circuit {
     made.finish(&outputs)
 }
 
-fn choose(gates: &mut Gates, choice: u16, first: u16, second: u16) -> u16 {
+/// Multiplexer: `first` where `choice` holds, else `second`.
+pub fn choose(gates: &mut Gates, choice: u16, first: u16, second: u16) -> u16 {
     let first = gates.and(choice, first);
     let second = gates.and(not(choice), second);
     gates.or(first, second)
@@ -242,4 +284,26 @@ fn lengthened(gates: &mut Gates, literal: u16, count: usize) -> u16 {
         same = gates.and(same, TRUE);
     }
     same
+}
+
+#[cfg(test)]
+mod tests {
+    use super::*;
+
+    #[test]
+    fn outputs_by_sequence_are_given() {
+        let mut rng = Rng::new(1);
+        for sizes in [(1, 3, 4), (2, 2, 2), (3, 1, 1)].map(|(n, m, t)| Sizes::new(n, m, t)) {
+            let outputs: Vec<Vec<u16>> = (0..sizes.histories(sizes.frames))
+                .map(|_| {
+                    (0..sizes.frames)
+                        .map(|_| rng.below(1 << sizes.outputs) as u16)
+                        .collect()
+                })
+                .collect();
+            let circuit =
+                with_outputs_by_sequence(sizes, |frame, sequence| outputs[sequence][frame]);
+            assert_eq!(circuit.outputs_on_all_sequences(), outputs);
+        }
+    }
 }

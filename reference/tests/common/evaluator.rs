@@ -9,18 +9,6 @@ type ProvedCheck = unsafe extern "C" fn(*const u8, usize, *mut u64, usize);
 type ProvedEvaluate =
     unsafe extern "C" fn(*const u8, usize, *const u16, usize, *mut u16, usize, *mut u64, usize);
 
-/// Triples of sizes, legal and not.
-pub fn sizes_around_the_limits() -> Vec<[u16; 3]> {
-    let up_to = |last: u16| (0..=last).chain([255, 256, u16::MAX]);
-    let mut all = Vec::new();
-    for inputs in up_to(10) {
-        for outputs in up_to(18) {
-            all.extend(up_to(18).map(|frames| [inputs, outputs, frames]));
-        }
-    }
-    all
-}
-
 /// The calls for one kind of file, plain and proved.
 pub struct Evaluator {
     pub plain_check: fn(&[u8]) -> Answer,
@@ -110,49 +98,6 @@ impl Evaluator {
             seen.note(self.evaluate(seed, &file, &words, sizes.frames));
         }
         seen
-    }
-
-    /// Of a legal file, every other length is refused.
-    pub fn judges_lengths(&self, seed: u64, file: &[u8]) {
-        let longer = [file, &[0; 9]].concat();
-        for length in 0..longer.len() {
-            let fault = (length != file.len()).then_some([1, length as u64]);
-            self.finds(seed, &longer[..length], fault);
-        }
-    }
-
-    /// Lists and results of lengths around the number of frames, with words around their limit.
-    pub fn judges_words_and_result(&self, seed: u64, file: &[u8], sizes: &Sizes) -> Seen {
-        let mut rng = Rng::new(seed);
-        let mut seen = Seen::default();
-        let last = sizes.input_words() as u16 - 1;
-        let lengths = [0, sizes.frames - 1, sizes.frames, sizes.frames + 1];
-        for list in lengths {
-            for high in [last, last + 1, u16::MAX] {
-                let mut words = any_sequence(&mut rng, sizes);
-                words.resize(list, high);
-                if list > 0 {
-                    words[rng.below(list)] = high;
-                }
-                for length in lengths {
-                    seen.note(self.evaluate(seed, file, &words, length));
-                }
-            }
-        }
-        seen
-    }
-
-    /// The first word above the highest is named, wherever it stands.
-    pub fn names_the_first_high_word(&self, seed: u64, file: &[u8], sizes: &Sizes) {
-        let highest = sizes.input_words() as u16 - 1;
-        let mut words = vec![highest; sizes.frames];
-        let answer = self.evaluate(seed, file, &words, sizes.frames);
-        assert_eq!(answer, [0, sizes.frames as u64]);
-        for index in (0..sizes.frames).rev() {
-            words[index] = highest + 1;
-            let answer = self.evaluate(seed, file, &words, sizes.frames);
-            assert_eq!(answer, [9, index as u64]);
-        }
     }
 
     /// Calls with an answer too short leave everything as it was.

@@ -46,12 +46,12 @@ known : (c : tie.After-enum-told) → Accepted (now (entry c .args .circuit))
 known c = accepted (now (entry c .args .circuit)) (c .enum-told .given .0 .0) (passed c)
 
 read-requires : tie.Need-read-requires
-read-requires c κs = known c .head
+read-requires c κs = known c .form .head
 
 histories-requires : tie.Need-histories-requires
 histories-requires c κs =
     let e = c .before in
-    bits-fit _ (known e .head) _ _ (c .read .ensures .inputs-is) (omega (arith, c .read .ensures))
+    bits-fit _ (known e .form .head) _ _ (c .read .ensures .inputs-is) (omega (arith, c .read .ensures))
 
 -- half of the scratch that is needed
 half : (c : tie.After-histories) → c .histories .result ≡ 2 ^ allInputs (now (entry (c .before .before) .args .circuit))
@@ -60,7 +60,7 @@ half c =
     c .histories .ensures ∙ ap₂ (λ (n t : ℕ). (2 ^ n) ^ t) (r .read .ensures .inputs-is) (r .read .ensures .frames-is) ∙ sym (half-is _)
 
 mul-needed : tie.Need-mul-needed
-mul-needed c = omega (arith, half c, half-is (now (entry (c .before .before) .args .circuit)), power-fits _ _ (known (c .before .before) .head .sizes .bits-to))
+mul-needed c = omega (arith, half c, half-is (now (entry (c .before .before) .args .circuit)), power-fits _ _ (known (c .before .before) .form .head .sizes .bits-to))
 
 -- what is needed of the scratch
 needs-are : (c : tie.After-histories) → 2 * c .histories .result ≡ scratchNeeded (now (entry (c .before .before) .args .circuit))
@@ -91,7 +91,7 @@ fold-in-requires c κs =
     let h = k .before in
     let r = h .before in
     let e = r .before in
-    (well-formed (known e) (r .read .ensures), (ap (λ (f : Figures). f .number) (passed e), rw length-take (omega (arith, needs-are h, k .if1 .left))))
+    (well-formed (known e .form) (r .read .ensures), (ap (λ (f : Figures). f .number) (passed e), rw length-take (omega (arith, needs-are h, k .if1 .left))))
 
 same-length : tie.Need-same-length
 same-length c = search needs

@@ -35,10 +35,10 @@ known c =
     accepted _ (c .enum-told .given .0 .0) (accepts (k .check .result) _ (c .enum-told .given .0 .0) (k .check .ensures .0) (c .enum-told .given .1))
 
 read-requires : tie.Need-read-requires
-read-requires c κs = known c .head
+read-requires c κs = known c .form .head
 
 check-sequence-requires : tie.Need-check-sequence-requires
-check-sequence-requires c κs = omega (arith, known (c .before) .sizes, c .read .ensures)
+check-sequence-requires c κs = omega (arith, known (c .before) .form .sizes, c .read .ensures)
 
 enum-told-3 : tie.Need-enum-told-3
 enum-told-3 c = search needs
@@ -75,7 +75,7 @@ write-outputs-requires c κs =
     let s = c .before .before .before in
     let r = s .before in
     let f = fed₁ (c .before) in
-    (well-formed (known (r .before)) (r .read .ensures), (f .0 .as-many, f .1))
+    (well-formed (known (r .before) .form) (r .read .ensures), (f .0 .as-many, f .1))
 
 same-length : tie.Need-same-length
 same-length c = search needs

@@ -1,16 +1,17 @@
--- `circuit::input_frames` meets its contract. The invariant: the elements so far are those of the definition.
+-- `latest::input_frames` meets its contract. The invariant: the elements so far are those of the definition.
 -- Assumes nothing.
 use mathlib.Core.Path.{_≡_, refl}
 use mathlib.Core.List.{_∷_, []}
 use Prim.Native.Nat.{_+_, _-_, _≤_}
 use native.Mathlib.Omega.{arith}
 use lib.ListN.{length, take, length-set}
 use Rattle.circuit.specs.Limits.{mostSignals}
 use Rattle.circuit.specs.Lists.{grown}
-use Rattle.circuit.specs.Circuit.{frameOf, inputFrames}
+use Rattle.circuit.specs.Circuit.{frameOf}
+use Rattle.latest.specs.Latest.{inputFrames}
 use Rattle.circuit.proofs.Laws.{fill-grown}
-use Rattle.circuit.proofs.input_frames.Statement.{statement}
-use Rattle.circuit.proofs.input_frames.Tie as tie
+use Rattle.latest.proofs.input_frames.Statement.{statement}
+use Rattle.latest.proofs.input_frames.Tie as tie
 
 abbrev Inv-loop : tie.InvT-loop
 Inv-loop inputs count latest₀ i₀ latest i = (i ≤ count) × (length latest ≡ mostSignals) × (take (1 + i) latest ≡ inputFrames inputs i)

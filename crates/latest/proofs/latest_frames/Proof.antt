@@ -1,4 +1,4 @@
--- `circuit::latest_frames` meets its contract. The invariant: the latest frames of the signals before gate g are in the array.
+-- `latest::latest_frames` meets its contract. The invariant: the latest frames of the signals before gate g are in the array.
 -- Assumes nothing.
 use mathlib.Core.Path.{_≡_, ap, _∙_}
 use mathlib.Core.List.{List}
@@ -7,11 +7,13 @@ use native.Mathlib.Omega.{arith}
 use borrow.Author.Needs.{needs}
 use denote.Ref.{now}
 use lib.ListN.{length, take, set, length-set}
 use Rattle.circuit.specs.Limits.{mostSignals}
-use Rattle.circuit.specs.Circuit.{gates, inputFrames, laterFrame, latestFrames}
-use Rattle.circuit.proofs.Laws.{signals-none, signals-all, latest-more}
-use Rattle.circuit.proofs.latest_frames.Statement.{statement}
-use Rattle.circuit.proofs.latest_frames.Tie as tie
+use Rattle.circuit.specs.Circuit.{gates}
+use Rattle.latest.specs.Latest.{inputFrames, laterFrame, latestFrames}
+use Rattle.circuit.proofs.Laws.{signals-none, signals-all}
+use Rattle.latest.proofs.Laws.{latest-more}
+use Rattle.latest.proofs.latest_frames.Statement.{statement}
+use Rattle.latest.proofs.latest_frames.Tie as tie
 
 abbrev Inv-loop : tie.InvT-loop
 Inv-loop circuit head count base latest₀ g₀ latest g =

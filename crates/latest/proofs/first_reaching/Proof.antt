@@ -1,21 +1,23 @@
--- `circuit::check_look_ahead` meets its contract. The invariant: what the definition says of all outputs is what it says of those from q on.
+-- `latest::first_reaching` meets its contract. The invariant: no output before q reaches a later frame.
 -- Assumes nothing.
-use mathlib.Core.Path.{_≡_, sym, ap, _∙_}
-use Prim.Native.Nat.{_+_, _-_, _≤_}
+use mathlib.Core.Path.{_≡_, sym, _∙_}
+use mathlib.Core.Bool.{false}
+use Prim.Native.Nat.{ℕ, _+_, _-_, _≤_, _<_}
+use native.Mathlib.Numerals.{add-one}
 use native.Mathlib.Omega.{arith}
 use borrow.Author.Tests.{lt-ltb, le-ltb}
 use denote.Ref.{now}
 use lib.Dec.{ltb}
 use lib.ListN.{getD}
-use Rattle.verdict.specs.Judgements.{answer, refuseFirst}
-use Rattle.verdict.proofs.Laws.{first-here, first-later, first-none}
-use Rattle.circuit.specs.Circuit.{allOutputs, looksAhead, lookAheadChecked}
-use Rattle.circuit.proofs.Laws.{ahead-is, output-at, output-in}
-use Rattle.circuit.proofs.check_look_ahead.Statement.{statement}
-use Rattle.circuit.proofs.check_look_ahead.Tie as tie
+use Rattle.layered.proofs.Search.{below-suc, least-is}
+use Rattle.circuit.proofs.Laws.{output-at, output-in}
+use Rattle.latest.specs.Latest.{reachesLater}
+use Rattle.latest.proofs.Laws.{reaches-is}
+use Rattle.latest.proofs.first_reaching.Statement.{statement}
+use Rattle.latest.proofs.first_reaching.Tie as tie
 
 abbrev Inv-loop : tie.InvT-loop
-Inv-loop circuit latest outputs total first q₀ q = (q ≤ total) × (lookAheadChecked circuit ≡ refuseFirst (looksAhead circuit) 4 (λ q. q) (answer 0 0) q (total - q))
+Inv-loop circuit latest outputs total first q₀ q = (q ≤ total) × ((i : ℕ) → i < q → reachesLater circuit i ≡ false)
 
 abbrev μ-loop : tie.MeasureT-loop
 μ-loop circuit latest outputs total first q₀ q = total - q
@@ -30,11 +32,7 @@ add-first : tie.Need-add-first Inv-loop μ-loop
 add-first c = omega arith
 
 loop-holds : tie.Need-loop-holds Inv-loop μ-loop
-unfolding lookAheadChecked
-loop-holds c =
-    let a = c .before .before .before .before .args in
-    let z : allOutputs (now (a .circuit)) ≡ a .head .total - 0 = omega (arith, c .before .before .before .before .pre) in
-    (omega arith, ap (refuseFirst (looksAhead (now (a .circuit))) 4 (λ q. q) (answer 0 0) 0) z)
+loop-holds c = (omega arith, λ i h. absurd (omega arith))
 
 -- the entry, from a turn
 abbrev start : tie.In-loop Inv-loop μ-loop → tie.Start Inv-loop μ-loop
@@ -54,7 +52,7 @@ array-read-if1 c = omega (arith, start (c .before) .pre)
 
 -- the test of a turn is the definition's
 test : (c : tie.After-frame-of Inv-loop μ-loop)
-    → looksAhead (now (start (c .before) .args .circuit)) (c .before .before .loop .q)
+    → reachesLater (now (start (c .before) .args .circuit)) (c .before .before .loop .q)
     ≡ ltb (c .frame-of .result)
     (getD (c .before .before .before .before .before .latest-frames .result) (start (c .before) .args .head .base + (start (c .before) .args .head .gates - start (c .before) .args .head .total) + c .before .before .loop .q) 0)
 test c =
@@ -63,12 +61,14 @@ test c =
     let h = a .args .head in
     let q = c .before .before .loop .q in
     let e = output-at b (h .base) (h .gates) (h .total) q (a .pre .head-is .base-is) (a .pre .head-is .gates-is) (a .pre .head-is .total-is) in
-    ahead-is b (c .before .before .before .before .before .latest-frames .result) (h .outputs) (c .frame-of .result) (h .base + (h .gates - h .total) + q) q
+    reaches-is b (c .before .before .before .before .before .latest-frames .result) (h .outputs) (c .frame-of .result) (h .base + (h .gates - h .total) + q) q
     (c .before .before .before .before .before .latest-frames .ensures) (a .pre .head-is .outputs-is) (c .frame-of .ensures) e
     (omega (arith, e, output-in b q (a .pre .headed .outputs-to) (omega (arith, a .pre))))
 
 returns : tie.Need-returns Inv-loop μ-loop
-returns c = sym (c .before .before .before .loop .inv .1 ∙ first-here _ _ _ _ _ _ (omega arith) (test (c .before) ∙ lt-ltb _ _ (c .if1 .taken)))
+returns c =
+    let l = c .before .before .before .loop in
+    sym (least-is _ (l .q) _ (omega (arith, start (c .before .before) .pre)) (l .inv .1) (λ h. test (c .before) ∙ lt-ltb _ _ (c .if1 .taken)))
 
 add-q : tie.Need-add-q Inv-loop μ-loop
 add-q c = omega arith
@@ -77,13 +77,18 @@ loop-less : tie.Need-loop-less Inv-loop μ-loop
 loop-less c = omega arith
 
 loop-again : tie.Need-loop-again Inv-loop μ-loop
-loop-again c = (omega arith, c .before .before .before .loop .inv .1 ∙ first-later _ _ _ _ _ _ (omega arith) (test (c .before) ∙ le-ltb _ _ (c .if1 .left)))
+loop-again c =
+    let l = c .before .before .before .loop in
+    (omega arith, rw (add-one (l .q)) (below-suc {P = λ i. reachesLater (now (start (c .before .before) .args .circuit)) i ≡ false} (l .inv .1) (test (c .before) ∙ le-ltb _ _ (c .if1 .left))))
 
 returns-2 : tie.Need-returns-2 Inv-loop μ-loop
-returns-2 c = sym (c .before .loop .inv .1 ∙ first-none _ _ _ _ _ _ (omega arith))
+returns-2 c =
+    let s = c .before .before .before .before .before .before in
+    let l = c .before .loop in
+    sym (least-is _ (s .args .head .total) _ (omega (arith, s .pre)) (λ i h. l .inv .1 i (omega (arith, l .inv .0))) (λ h. absurd (omega (arith, s .pre))))
 
-pub check-look-ahead-spec : {M : Type 1} → statement M
-check-look-ahead-spec =
+pub first-reaching-spec : {M : Type 1} → statement M
+first-reaching-spec =
     tie.close
     (tie.spec
     Inv-loop

@@ -1,12 +1,12 @@
--- `circuit::frame_of` meets its contract.
+-- `latest::frame_of` meets its contract.
 -- Assumes nothing.
 use native.Mathlib.Nat.{div-le-self}
 use native.Mathlib.Numerals.{add-one}
 use native.Mathlib.Omega.{arith}
 use Rattle.circuit.specs.Circuit.{frameOf}
 use borrow.Author.Needs.{needs}
-use Rattle.circuit.proofs.frame_of.Statement.{statement}
-use Rattle.circuit.proofs.frame_of.Tie as tie
+use Rattle.latest.proofs.frame_of.Statement.{statement}
+use Rattle.latest.proofs.frame_of.Tie as tie
 
 div-result : tie.Need-div-result
 div-result c = search needs

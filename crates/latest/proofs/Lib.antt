@@ -1,0 +1,3 @@
+-- The proofs of `latest`: laws by subject, lowest first.
+pub mod Laws
+pub mod Unreached

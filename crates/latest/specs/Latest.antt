@@ -1,0 +1,26 @@
+-- The latest frames that signals depend on by their gates (document 01): no part of what number 4 means, since an input that is reached may
+-- have no effect; but an output whose gates reach no later input cannot look ahead.
+use Prim.Native.Nat.{ℕ, _/_, max}
+use mathlib.Core.List.{List, [], _∷_}
+use mathlib.Core.Bool.{Bool}
+use lib.ListN.{getD}
+use lib.Dec.{ltb}
+use Rattle.sizes.specs.Sizes.{inputs, outputs}
+use Rattle.circuit.specs.Lists.{grown, listed}
+use Rattle.circuit.specs.Circuit.{gates, leftsAt, rightsAt, literalAt, allInputs, outputSignal, frameOf}
+
+-- the latest frames of the constant and the inputs
+unfoldable pub inputFrames : (n count : ℕ) → List ℕ
+inputFrames n count = listed (0 ∷ []) (frameOf n) count
+
+-- the later of the latest frames of gate g's operands, given those of the signals before it
+unfoldable pub laterFrame : List ℕ → List ℕ → (g : ℕ) → ℕ
+laterFrame b fs g = max (getD fs (literalAt b (leftsAt b) g / 2) 0) (getD fs (literalAt b (rightsAt b) g / 2) 0)
+
+-- the latest frames of the constant, the inputs and the first k gates
+unfoldable pub latestFrames : List ℕ → (k : ℕ) → List ℕ
+latestFrames b k = grown (inputFrames (inputs b) (allInputs b)) (laterFrame b) k
+
+-- the gates of output q reach an input of a later frame than its own
+unfoldable pub reachesLater : List ℕ → (q : ℕ) → Bool
+reachesLater b q = ltb (frameOf (outputs b) q) (getD (latestFrames b (gates b)) (outputSignal b q) 0)
