@@ -1,14 +1,22 @@
 -- Laws of latest frames as the code has them. Assumes nothing.
 use mathlib.Core.Path.{_≡_, refl}
-use mathlib.Core.List.{List}
+use mathlib.Core.List.{List, [], _∷_}
 use Prim.Native.Nat.{ℕ, _+_, _/_, _<_, max}
+use native.Mathlib.Omega.{arith}
 use lib.ListN.{length, getD, take, set}
 use lib.Seq.{getD-take}
 use lib.Dec.{ltb}
 use Rattle.sizes.specs.Sizes.{inputs, outputs}
+use Rattle.circuit.specs.Lists.{grown}
 use Rattle.circuit.specs.Circuit.{gates, leftsAt, rightsAt, literalAt, allInputs, gateSignal, outputSignal, frameOf}
 use Rattle.circuit.proofs.Laws.{fill-grown}
 use Rattle.latest.specs.Latest.{inputFrames, laterFrame, latestFrames, reachesLater}
+
+-- only the constant is stored
+pub inputs-none : (n : ℕ) (v : List ℕ) → 0 < length v → take (1 + 0) (set v 0 0) ≡ inputFrames n 0
+unfolding inputFrames grown
+inputs-none n [] p = absurd (omega arith)
+inputs-none n (x ∷ v) p = refl
 
 pub latest-more : (b v : List ℕ) (g n l r : ℕ) → n < length v → take n v ≡ latestFrames b g
     → l ≡ literalAt b (leftsAt b) g → r ≡ literalAt b (rightsAt b) g → l / 2 < n → r / 2 < n

@@ -3,11 +3,11 @@ use circuit::Head;
 use circuit::Limits;
 use circuit::read_gate;
 ghost use mathlib.Core.Path.{_≡_};
-ghost use Prim.Native.Nat.{_+_, _≤_, max};
-ghost use lib.ListN.{take};
+ghost use Prim.Native.Nat.{_+_, _≤_, _<_, max};
+ghost use lib.ListN.{length, take, replicate};
 ghost use Rattle.sizes.specs.Limits.{mostBits};
 ghost use Rattle.layered.specs.Search.{least};
-ghost use Rattle.circuit.specs.Limits.{mostGates};
+ghost use Rattle.circuit.specs.Limits.{mostGates, mostSignals};
 ghost use Rattle.circuit.specs.Circuit.{gates, gateSignal, allOutputs, frameOf};
 ghost use Rattle.circuit.specs.WellFormed.{WellFormed};
 ghost use Rattle.latest.specs.Latest.{inputFrames, latestFrames, reachesLater};
@@ -21,39 +21,45 @@ pub fn frame_of(per: usize, i: usize) -> usize
 }
 
 // The later of two frames.
-fn later(a: usize, b: usize) -> usize
+fn later(a: u8, b: u8) -> u8
     ensures { λ r. ⌜ r ≡ max a b ⌝ }
 {
     if a < b { b } else { a }
 }
 
-// The latest frames of the constant and of `count` inputs.
-fn input_frames(inputs: usize, count: usize) -> [usize; Limits::SIGNALS]
-    requires { ⌜ (1 ≤ inputs) × (count ≤ mostBits) ⌝ }
-    ensures { λ r. ⌜ take (1 + count) r ≡ inputFrames inputs count ⌝ }
+// Room for the latest frames of all signals.
+fn room() -> [u8; Limits::SIGNALS]
+    ensures { λ r. ⌜ r ≡ replicate mostSignals 0 ⌝ }
 {
-    let mut latest = [0; Limits::SIGNALS];
-    for i in 0..count {
-        latest[1 + i] = frame_of(inputs, i);
-    }
-    latest
+    [0; Limits::SIGNALS]
 }
 
-// The latest frames of all signals.
-fn latest_frames(circuit: &[u8], head: Head) -> [usize; Limits::SIGNALS]
+// Stores the latest frames of the constant and of `count` inputs.
+fn store_inputs(inputs: usize, count: usize, latest: &mut [u8])
+    requires { ⌜ (1 ≤ inputs) × (count ≤ mostBits) × (count < length (now latest)) ⌝ }
+    ensures { λ _. ⌜ take (1 + count) (now (latest .exit)) ≡ inputFrames inputs count ⌝ }
+{
+    latest[0] = 0;
+    for i in 0..count {
+        latest[1 + i] = frame_of(inputs, i) as u8;
+    }
+}
+
+// Stores the latest frames of all signals.
+fn store_signals(circuit: &[u8], head: Head, latest: &mut [u8])
     requires { ⌜ WellFormed (now circuit) head ⌝ }
-    ensures { λ r. ⌜ take (gateSignal (now (circuit .entry)) (gates (now (circuit .entry)))) r ≡ latestFrames (now (circuit .entry)) (gates (now (circuit .entry))) ⌝ }
+    requires { ⌜ mostSignals ≤ length (now latest) ⌝ }
+    ensures { λ _. ⌜ take (gateSignal (now (circuit .entry)) (gates (now (circuit .entry)))) (now (latest .exit)) ≡ latestFrames (now (circuit .entry)) (gates (now (circuit .entry))) ⌝ }
 {
     let count = head.gates;
     let base = head.base;
-    let mut latest = input_frames(head.inputs, base - 1);
+    store_inputs(head.inputs, base - 1, latest);
     for g in 0..count {
         let gate = read_gate(circuit, head, g);
         let left = gate.left / 2;
         let right = gate.right / 2;
         latest[base + g] = later(latest[left], latest[right]);
     }
-    latest
 }
 
 // The first output whose gates reach an input of a later frame; the number of outputs where there is none.
@@ -61,12 +67,13 @@ pub fn first_reaching(circuit: &[u8], head: Head) -> usize
     requires { ⌜ WellFormed (now circuit) head ⌝ }
     ensures { λ r. ⌜ r ≡ least (allOutputs (now (circuit .entry))) (reachesLater (now (circuit .entry))) ⌝ }
 {
-    let latest = latest_frames(circuit, head);
+    let mut latest = room();
+    store_signals(circuit, head, &mut latest);
     let outputs = head.outputs;
     let total = head.total;
     let first = head.base + (head.gates - total);
     for q in 0..total {
-        if frame_of(outputs, q) < latest[first + q] {
+        if (frame_of(outputs, q) as u8) < latest[first + q] {
             return q;
         }
     }

@@ -1,16 +1,20 @@
 -- `latest::first_reaching` meets its contract. The invariant: no output before q reaches a later frame.
 -- Assumes nothing.
-use mathlib.Core.Path.{_≡_, sym, _∙_}
+use mathlib.Core.Path.{_≡_, sym, ap, _∙_}
 use mathlib.Core.Bool.{false}
-use Prim.Native.Nat.{ℕ, _+_, _-_, _≤_, _<_}
+use mathlib.Core.List.{List}
+use Prim.Native.Nat.{ℕ, suc, _+_, _-_, _/_, _≤_, _<_}
 use native.Mathlib.Numerals.{add-one}
 use native.Mathlib.Omega.{arith}
 use borrow.Author.Tests.{lt-ltb, le-ltb}
+use borrow.Author.Needs.{needs}
 use denote.Ref.{now}
 use lib.Dec.{ltb}
 use lib.ListN.{getD}
 use Rattle.layered.proofs.Search.{below-suc, least-is}
 use Rattle.circuit.proofs.Laws.{output-at, output-in}
+use Rattle.circuit.specs.Circuit.{frameOf}
+use Rattle.circuit.proofs.Ahead.{output-parts}
 use Rattle.latest.specs.Latest.{reachesLater}
 use Rattle.latest.proofs.Laws.{reaches-is}
 use Rattle.latest.proofs.first_reaching.Statement.{statement}
@@ -22,47 +26,62 @@ Inv-loop circuit latest outputs total first q₀ q = (q ≤ total) × ((i : ℕ)
 abbrev μ-loop : tie.MeasureT-loop
 μ-loop circuit latest outputs total first q₀ q = total - q
 
-latest-frames-requires : tie.Need-latest-frames-requires Inv-loop μ-loop
-latest-frames-requires c κs = c .before .pre
+room-requires : tie.Need-room-requires Inv-loop μ-loop
+room-requires c κs = tt
+
+slice-aggregate-store-signals : tie.Need-slice-aggregate-store-signals Inv-loop μ-loop
+slice-aggregate-store-signals c = search needs
+
+store-signals-requires : tie.Need-store-signals-requires Inv-loop μ-loop
+store-signals-requires c κs = (c .before .before .before .pre, omega (arith, slice-aggregate-store-signals c))
 
 sub-first : tie.Need-sub-first Inv-loop μ-loop
-sub-first c = omega arith
+sub-first c = omega (arith, c .before .before .before .before .before .before .pre)
 
 add-first : tie.Need-add-first Inv-loop μ-loop
-add-first c = omega arith
+add-first c = omega (arith, c .before .before .before .before .before .before .before .pre)
 
 loop-holds : tie.Need-loop-holds Inv-loop μ-loop
 loop-holds c = (omega arith, λ i h. absurd (omega arith))
 
 -- the entry, from a turn
 abbrev start : tie.In-loop Inv-loop μ-loop → tie.Start Inv-loop μ-loop
-start c = c .before .before .before .before .before .before
+start c = c .before .before .before .before .before .before .before .before .before
 
 frame-of-requires : tie.Need-frame-of-requires Inv-loop μ-loop
 frame-of-requires c κs = omega (arith, start c .pre)
 
+cast-if1 : tie.Need-cast-if1 Inv-loop μ-loop
+unfolding frameOf
+cast-if1 c =
+    let s = start (c .before) in
+    let q = c .before .before .loop .q in
+    let p = output-parts (now (s .args .circuit)) (s .pre .headed) q (omega (arith, s .pre)) in
+    omega (arith, c .frame-of .ensures ∙ ap (λ m. suc (q / m)) (s .pre .head-is .outputs-is), p .0, s .pre .headed .sizes .frames-to)
+
 add-if1 : tie.Need-add-if1 Inv-loop μ-loop
 add-if1 c = omega (arith, start (c .before) .pre)
 
-mul-if1 : tie.Need-mul-if1 Inv-loop μ-loop
-mul-if1 c = omega (arith, start (c .before) .pre)
-
 array-read-if1 : tie.Need-array-read-if1 Inv-loop μ-loop
 array-read-if1 c = omega (arith, start (c .before) .pre)
+
+-- what is stored of all signals
+abbrev latest : tie.After-frame-of Inv-loop μ-loop → List ℕ
+latest c = c .before .before .before .before .before .before .store-signals .last .1 .1 .0
 
 -- the test of a turn is the definition's
 test : (c : tie.After-frame-of Inv-loop μ-loop)
     → reachesLater (now (start (c .before) .args .circuit)) (c .before .before .loop .q)
     ≡ ltb (c .frame-of .result)
-    (getD (c .before .before .before .before .before .latest-frames .result) (start (c .before) .args .head .base + (start (c .before) .args .head .gates - start (c .before) .args .head .total) + c .before .before .loop .q) 0)
+    (getD (latest c) (start (c .before) .args .head .base + (start (c .before) .args .head .gates - start (c .before) .args .head .total) + c .before .before .loop .q) 0)
 test c =
     let a = start (c .before) in
     let b = now (a .args .circuit) in
     let h = a .args .head in
     let q = c .before .before .loop .q in
     let e = output-at b (h .base) (h .gates) (h .total) q (a .pre .head-is .base-is) (a .pre .head-is .gates-is) (a .pre .head-is .total-is) in
-    reaches-is b (c .before .before .before .before .before .latest-frames .result) (h .outputs) (c .frame-of .result) (h .base + (h .gates - h .total) + q) q
-    (c .before .before .before .before .before .latest-frames .ensures) (a .pre .head-is .outputs-is) (c .frame-of .ensures) e
+    reaches-is b (latest c) (h .outputs) (c .frame-of .result) (h .base + (h .gates - h .total) + q) q
+    (c .before .before .before .before .before .before .store-signals .ensures) (a .pre .head-is .outputs-is) (c .frame-of .ensures) e
     (omega (arith, e, output-in b q (a .pre .headed .outputs-to) (omega (arith, a .pre))))
 
 returns : tie.Need-returns Inv-loop μ-loop
@@ -83,7 +102,7 @@ loop-again c =
 
 returns-2 : tie.Need-returns-2 Inv-loop μ-loop
 returns-2 c =
-    let s = c .before .before .before .before .before .before in
+    let s = c .before .before .before .before .before .before .before .before .before in
     let l = c .before .loop in
     sym (least-is _ (s .args .head .total) _ (omega (arith, s .pre)) (λ i h. l .inv .1 i (omega (arith, l .inv .0))) (λ h. absurd (omega (arith, s .pre))))
 
@@ -93,13 +112,15 @@ first-reaching-spec =
     (tie.spec
     Inv-loop
     μ-loop
-    latest-frames-requires
+    room-requires
+    slice-aggregate-store-signals
+    store-signals-requires
     sub-first
     add-first
     loop-holds
     frame-of-requires
+    cast-if1
     add-if1
-    mul-if1
     array-read-if1
     returns
     add-q

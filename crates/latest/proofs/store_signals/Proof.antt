@@ -1,0 +1,138 @@
+-- `latest::store_signals` meets its contract. The invariant: the latest frames of the signals before gate g are stored.
+-- Assumes nothing.
+use mathlib.Core.Path.{_≡_, refl, ap, _∙_}
+use mathlib.Core.List.{List}
+use Prim.Native.Nat.{ℕ, _+_, _-_, _/_, _≤_, _<_}
+use native.Mathlib.Omega.{arith}
+use denote.Ref.{now}
+use lib.ListN.{length, take, set, length-set}
+use Rattle.circuit.specs.Limits.{mostSignals}
+use Rattle.circuit.specs.Circuit.{gates}
+use Rattle.circuit.proofs.Laws.{signals-none, signals-all}
+use Rattle.latest.specs.Latest.{inputFrames, laterFrame, latestFrames}
+use Rattle.latest.proofs.Laws.{latest-more}
+use Rattle.latest.proofs.store_signals.Statement.{statement}
+use Rattle.latest.proofs.store_signals.Tie as tie
+
+abbrev Inv-loop : tie.InvT-loop
+Inv-loop circuit head latest₀ count base g₀ latest g =
+    (g ≤ count) × (mostSignals ≤ length latest) × (length latest ≡ length latest₀) × (take (base + g) latest ≡ latestFrames circuit g)
+
+abbrev μ-loop : tie.MeasureT-loop
+μ-loop circuit head latest₀ count base g₀ latest g = count - g
+
+sub-store-inputs : tie.Need-sub-store-inputs Inv-loop μ-loop
+sub-store-inputs c = omega (arith, c .before .before .pre)
+
+store-inputs-requires : tie.Need-store-inputs-requires Inv-loop μ-loop
+store-inputs-requires c κs = let s = c .before .before .before in (omega (arith, s .pre), omega (arith, s .pre), omega (arith, s .pre))
+
+loop-holds : tie.Need-loop-holds Inv-loop μ-loop
+unfolding latestFrames
+loop-holds c =
+    let s = c .before .before .before .before .before .before in
+    let b = now (s .args .circuit) in
+    let h = s .args .head in
+    let k = c .before .before .store-inputs in (
+      omega arith,
+      omega (arith, k .kept .1 .1 .0, s .pre),
+      refl,
+      signals-none inputFrames (laterFrame b) b (k .last .1 .1 .0) (h .inputs) (h .base) (s .pre .0 .head-is .inputs-is) (s .pre .0 .head-is .base-is) (k .ensures),
+    )
+
+-- in a turn: the entry, the circuit and the gate
+abbrev start : tie.In-loop Inv-loop μ-loop → tie.Start Inv-loop μ-loop
+start c = c .before .before .before .before .before .before .before .before
+
+abbrev b₀ : tie.In-loop Inv-loop μ-loop → List ℕ
+b₀ c = now (start c .args .circuit)
+
+abbrev g₁ : tie.In-loop Inv-loop μ-loop → ℕ
+g₁ c = c .before .loop .g
+
+gate : (c : tie.In-loop Inv-loop μ-loop) → g₁ c < gates (b₀ c)
+gate c = omega (arith, c, start c .pre)
+
+-- there is room for every gate
+room : (c : tie.In-loop Inv-loop μ-loop) → start c .args .head .base + g₁ c < mostSignals
+room c = omega (arith, gate c, start c .pre)
+
+read-gate-requires : tie.Need-read-gate-requires Inv-loop μ-loop
+read-gate-requires c κs = (start c .pre .0, gate c)
+
+-- once the gate's literals are read: its operands are before it
+left-in : (c : tie.After-read-gate Inv-loop μ-loop) → c .read-gate .result .left / 2 < start (c .before) .args .head .base + g₁ (c .before)
+left-in c = omega (arith, c .read-gate .ensures .left-before, start (c .before) .pre)
+
+right-in : (c : tie.After-read-gate Inv-loop μ-loop) → c .read-gate .result .right / 2 < start (c .before) .args .head .base + g₁ (c .before)
+right-in c = omega (arith, c .read-gate .ensures .right-before, start (c .before) .pre)
+
+slice-read-later : tie.Need-slice-read-later Inv-loop μ-loop
+slice-read-later c = let r = c .before .before .before in omega (arith, left-in r, room (r .before), r .before .before .loop .inv .1)
+
+slice-read-later-2 : tie.Need-slice-read-later-2 Inv-loop μ-loop
+slice-read-later-2 c = let r = c .before .before .before .before in omega (arith, right-in r, room (r .before), r .before .before .loop .inv .1)
+
+later-requires : tie.Need-later-requires Inv-loop μ-loop
+later-requires c κs = tt
+
+-- at the end of a turn: where the literals were read
+abbrev told : tie.After-later Inv-loop μ-loop → tie.After-read-gate Inv-loop μ-loop
+told c = c .before .before .before .before .before
+
+add-latest : tie.Need-add-latest Inv-loop μ-loop
+add-latest c = omega (arith, room (told c .before))
+
+slice-write-latest : tie.Need-slice-write-latest Inv-loop μ-loop
+slice-write-latest c = omega (arith, room (told c .before), told c .before .before .loop .inv .1)
+
+add-g : tie.Need-add-g Inv-loop μ-loop
+add-g c = omega (arith, room (told c .before))
+
+loop-less : tie.Need-loop-less Inv-loop μ-loop
+loop-less c = omega (arith, told c .before)
+
+loop-again : tie.Need-loop-again Inv-loop μ-loop
+loop-again c =
+    let d = told c in
+    let i = d .before in
+    let l = i .before .loop in
+    let k = d .read-gate in
+    let n = start i .args .head .base + g₁ i in (
+      omega (arith, gate i, start i .pre),
+      simp length-set (l .inv .1),
+      length-set (l .latest) n (c .later .result) ∙ l .inv .2,
+      ap (λ (x : ℕ). take (start i .args .head .base + (g₁ i + 1)) (set (l .latest) n x)) (c .later .ensures)
+          ∙ latest-more (b₀ i) (l .latest) (g₁ i) n (k .result .left) (k .result .right) (slice-write-latest c) (l .inv .3)
+          (k .ensures .left-is) (k .ensures .right-is) (left-in d) (right-in d) (start i .args .head .base + (g₁ i + 1)) (omega arith),
+    )
+
+same-length : tie.Need-same-length Inv-loop μ-loop
+same-length c = c .before .loop .inv .2 ∙ c .before .before .before .before .store-inputs .kept .1 .1 .0
+
+returns : tie.Need-returns Inv-loop μ-loop
+returns c =
+    let s = c .before .before .before .before .before .before .before .before in
+    signals-all (latestFrames (now (s .args .circuit))) (now (s .args .circuit)) (c .before .loop .latest) (s .args .head .base) (c .before .loop .g)
+    (s .pre .0 .head-is .base-is) (omega (arith, s .pre, c .before .loop .inv)) (c .before .loop .inv .3)
+
+pub store-signals-spec : {M : Type 1} → statement M
+store-signals-spec =
+    tie.close
+    (tie.spec
+    Inv-loop
+    μ-loop
+    sub-store-inputs
+    store-inputs-requires
+    loop-holds
+    read-gate-requires
+    slice-read-later
+    slice-read-later-2
+    later-requires
+    add-latest
+    slice-write-latest
+    add-g
+    loop-less
+    loop-again
+    same-length
+    returns)
