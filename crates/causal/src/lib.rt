@@ -52,8 +52,8 @@ fn sequences(at: usize) -> [u16; lanes::Limits::LANES]
     part
 }
 
-// The first output from `from` to before `found` that is not, on each sequence from `at` on, what it is on the first sequence that agrees
-// with this one up to its frame; `found` where there is none. `kept` has the lanes of these first values, of the part before and then of this one.
+// Compares the outputs from `from` to before `found` on the sequences of the part from `at` on, each with its value on the first sequence that
+// agrees up to its frame: the first output that differs, or `found`. `kept` has the lanes of these values, of the part before and then of this one.
 fn first_differing(
     circuit: &[u8],
     lanes: &[u64],

@@ -120,7 +120,7 @@ outputOn b q x = outputBit b (historyWords (2 ^ inputs b) (frames b) x) q
 unfoldable pub laterInputs : List ℕ → (q : ℕ) → ℕ
 laterInputs b q = inputs b * (frames b - frameOf (outputs b) q)
 
--- output q is on the sequence x what it is on the first of those that agree with x up to its frame: their block has all later inputs in it
+-- output q is on the sequence x what it is on the first of the sequences that agree with x up to its frame: they are a block of 2 ^ laterInputs
 unfoldable pub asFirst : List ℕ → (q x : ℕ) → Bool
 asFirst b q x = Bool·beq (outputOn b q x) (outputOn b q (blockStart (laterInputs b q) x))
 

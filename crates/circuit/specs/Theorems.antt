@@ -34,7 +34,7 @@ JudgedAlike b = (d : List ℕ) → formChecked b ≡ answer 0 0 → formChecked 
 unfoldable pub response : List ℕ → (t h : ℕ) → ℕ
 response b t h = outputWord b (historyWords (2 ^ inputs b) t h ++ replicate (frames b - t) 0) (t - 1)
 
--- the outputs on every sequence are the response's: no output depends on later words. All that is known of number 4.
+-- the outputs on every sequence are the response's: no output depends on later words. All that is known of number 4 above the check.
 pub record Causal (b : List ℕ) : Type 0 where
   pub follows : (c : List ℕ) → Words (2 ^ inputs b) (frames b) c → outputWords b c ≡ outputsOf (2 ^ inputs b) (response b) 0 0 c
   pub below : (t h : ℕ) → response b t h < 2 ^ outputs b
