@@ -6,7 +6,7 @@ use Prim.Native.Nat.{ℕ, suc, _+_, _*_, _-_, _/_, _^_, _≤_, _<_}
 use native.Mathlib.Nat.{mul-le-mul, mul-le-mul-left}
 use native.Mathlib.Decide.{decLt}
 use native.Mathlib.Omega.{arith}
-use lib.ListN.{length, getD, take, set, replicate}
+use lib.ListN.{length, getD, set, replicate}
 use lib.Seq.{getD-take, getD-set-same, getD-set-other}
 use Rattle.sizes.specs.Limits.{mostBits}
 use Rattle.sizes.specs.Sizes.{inputs, outputs, frames}
@@ -15,7 +15,7 @@ use Rattle.layered.specs.Histories.{historyWords}
 use Rattle.layered.proofs.Search.{every-true, every-each}
 use Rattle.circuit.specs.Limits.{mostSignals}
 use Rattle.circuit.specs.Lists.{listed, bit, blockStart}
-use Rattle.circuit.specs.Circuit.{gates, gateSignal, allOutputs, outputSignal, frameOf, signalValues, outputBit, outputOn, laterInputs, asFirst}
+use Rattle.circuit.specs.Circuit.{gates, gateSignal, allOutputs, outputSignal, frameOf, signalValues, outputOn, laterInputs, asFirst}
 use Rattle.circuit.specs.WellFormed.{CircuitHeaded, HeadOf}
 use Rattle.circuit.specs.declared.Head.{Head}
 use Rattle.circuit.proofs.Lists.{listed-length, listed-at}

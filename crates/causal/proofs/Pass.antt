@@ -1,5 +1,5 @@
 -- An ascending pass over the sequences: which outputs were seen to look ahead; and number 4. Assumes nothing.
-use mathlib.Core.Path.{_≡_, refl, sym, ap, _∙_, subst}
+use mathlib.Core.Path.{_≡_, refl, sym, subst}
 use mathlib.Core.Bool.{Bool, true, false, cond}
 use mathlib.Core.Logic.{⊎-elim}
 use mathlib.Core.List.{List}
@@ -11,7 +11,7 @@ use lib.Dec.{ltb}
 use borrow.Author.Tests.{ltb-true, ltb-false}
 use Rattle.verdict.specs.Judgements.{answer, refuseFirst}
 use Rattle.verdict.proofs.Laws.{first-is, finds-none}
-use Rattle.layered.specs.Search.{every, least}
+use Rattle.layered.specs.Search.{least}
 use Rattle.layered.proofs.Search.{every-each, every-fails, least-le, least-tells, least-is}
 use Rattle.circuit.specs.Circuit.{allInputs, allOutputs, asFirst, looksAhead, lookAheadChecked}
 use Rattle.circuit.specs.WellFormed.{CircuitHeaded, LegalGates}

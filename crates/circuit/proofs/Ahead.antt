@@ -1,5 +1,5 @@
 -- Number 4 and two sequences: an output looks ahead exactly when two sequences agree up to its frame and differ in it. Assumes nothing.
-use mathlib.Core.Path.{_≡_, refl, sym, ap, ap₂, _∙_, subst}
+use mathlib.Core.Path.{_≡_, refl, sym, ap, _∙_, subst}
 use mathlib.Core.Bool.{Bool, true, false, not, Bool·beq}
 use mathlib.Core.List.{List}
 use Prim.Native.Nat.{ℕ, _+_, _*_, _-_, _/_, _%_, _^_, _<_}
@@ -16,7 +16,7 @@ use Rattle.layered.specs.Histories.{historyWords, historyNumber}
 use Rattle.layered.proofs.Search.{every-true, every-each, every-fails}
 use Rattle.layered.proofs.Rows.{pow-mul}
 use Rattle.layered.proofs.Histories.{history-below, history-words, history-front, words-number, number-words}
-use Rattle.circuit.specs.Lists.{bit, packed, blockStart}
+use Rattle.circuit.specs.Lists.{blockStart}
 use Rattle.circuit.specs.Circuit.{gates, allInputs, allOutputs, gateSignal, outputSignal, frameOf, signalValues, outputWord, outputBit, outputOn, laterInputs, asFirst, looksAhead}
 use Rattle.circuit.specs.WellFormed.{CircuitHeaded}
 use Rattle.circuit.specs.Theorems.{DependsOnLater}

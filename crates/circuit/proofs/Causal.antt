@@ -1,7 +1,7 @@
 -- An accepted circuit's outputs are its response's. Assumes nothing.
 use mathlib.Core.Path.{_≡_, refl, sym, ap, ap₂, _∙_, subst}
 use mathlib.Core.List.{List, [], _∷_, _++_, append-assoc}
-use Prim.Native.Nat.{ℕ, zero, suc, _+_, _*_, _-_, _/_, _%_, _^_, _≤_, _<_}
+use Prim.Native.Nat.{ℕ, zero, suc, _+_, _*_, _-_, _/_, _^_, _<_}
 use native.Mathlib.Nat.{mul-comm, mul-suc, mul-le-mul-left}
 use native.Mathlib.Omega.{arith}
 use lib.Arith.{digits-div, digits-mod}
@@ -12,7 +12,7 @@ use Rattle.sizes.specs.Sizes.{inputs, outputs, frames}
 use Rattle.layered.specs.States.{Words, none, more, outputs as outputsOf}
 use Rattle.layered.specs.Histories.{historyWords}
 use Rattle.layered.proofs.States.{some-words}
-use Rattle.layered.proofs.Feeding.{words-append, words-whole}
+use Rattle.layered.proofs.Feeding.{words-whole}
 use Rattle.layered.proofs.Histories.{history-more, history-words}
 use Rattle.circuit.specs.Lists.{grown, listed, bit}
 use Rattle.circuit.specs.Circuit.{allOutputs, frameOf, outputWord, outputWords, outputBit}

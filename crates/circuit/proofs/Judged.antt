@@ -1,10 +1,10 @@
 -- Number 4 among the numbers of the check: the two statements about it of specs/Theorems. Assumes nothing.
 use mathlib.Core.Path.{_≡_, refl, sym, ap, ap₂, _∙_, subst}
 use mathlib.Core.Bool.{Bool, true, false, not, Bool·beq, cond}
-use mathlib.Core.Logic.{⊎-elim, _↔_}
+use mathlib.Core.Logic.{⊎-elim}
 use mathlib.Core.List.{List}
-use Prim.Native.Nat.{ℕ, _*_, _/_, _%_, _^_, _≤_, _<_}
-use native.Mathlib.Nat.{eq-or-lt-of-le, le-trans}
+use Prim.Native.Nat.{ℕ, _*_, _/_, _%_, _^_, _<_}
+use native.Mathlib.Nat.{eq-or-lt-of-le}
 use native.Mathlib.Omega.{arith}
 use lib.Dec.{ltb, eqb, lit<}
 use lib.ListN.{length, getD}
@@ -22,7 +22,7 @@ use Rattle.layered.proofs.Search.{every-cong, least-le, least-tells}
 use Rattle.layered.proofs.Histories.{history-words}
 use Rattle.circuit.specs.Limits.{circuitHead, mostGates}
 use Rattle.circuit.specs.Lists.{bit, blockStart}
-use Rattle.circuit.specs.Circuit.{gates, leftsAt, rightsAt, circuitLength, allInputs, allOutputs, frameOf, headChecked, literalsChecked, formChecked, outputWord, outputWords, outputBit, outputOn, laterInputs, asFirst, looksAhead, lookAheadChecked, checked}
+use Rattle.circuit.specs.Circuit.{gates, leftsAt, rightsAt, circuitLength, allInputs, allOutputs, headChecked, literalsChecked, formChecked, outputWord, outputWords, outputBit, outputOn, laterInputs, asFirst, looksAhead, lookAheadChecked, checked}
 use Rattle.circuit.specs.Theorems.{DependsOnLater, FirstAhead, JudgedAlike}
 use Rattle.circuit.proofs.Lists.{listed-at}
 use Rattle.circuit.proofs.Accepted.{Formed, formed}

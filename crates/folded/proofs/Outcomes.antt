@@ -1,24 +1,23 @@
 -- What folding answers and leaves in each case: refused by the circuit's check, by 6, by 7, or accepted; and what acceptance tells.
 use mathlib.Core.Path.{_≡_, refl, sym, ap, _∙_}
-use mathlib.Core.Bool.{Bool, true, false, not, cond}
+use mathlib.Core.Bool.{false}
 use mathlib.Core.List.{List, _++_}
-use Prim.Native.Nat.{ℕ, zero, suc, _*_, _≤_, _<_}
+use Prim.Native.Nat.{ℕ, _≤_, _<_}
 use native.Mathlib.Omega.{arith}
-use lib.Dec.{ltb, eqb, lit<}
+use lib.Dec.{ltb, eqb}
 use lib.ListN.{length, take, drop, replicate}
 use lib.Seq.{take-at}
 use borrow.Author.Tests.{lt-ltb, le-ltb, ltb-false, ne-eqb}
-use Rattle.sizes.specs.Limits.{mostInputs, mostOutputs, mostFrames, mostBits}
-use Rattle.circuit.specs.Limits.{mostGates, circuitHead}
-use Rattle.verdict.specs.Judgements.{answer, figures, refuse, andThen, refuseFirst, resultAfter}
+use Rattle.sizes.specs.Limits.{mostInputs}
+use Rattle.verdict.specs.Judgements.{answer, figures, resultAfter}
 use Rattle.verdict.specs.declared.Figures.{Figures}
 use Rattle.verdict.specs.declared.Verdict.{Verdict}
 use Rattle.verdict.specs.declared.Verdict.the-variants.{Refused}
 use Rattle.verdict.specs.declared.Refusal.{Refusal}
 use Rattle.verdict.proofs.Laws.{never, stop, both-accept, passed}
-use Rattle.sizes.specs.Sizes.{inputs, outputs, frames, outside, sizesChecked}
+use Rattle.sizes.specs.Sizes.{inputs, outputs, frames}
 use Rattle.sizes.specs.Sized.{Sized}
-use Rattle.circuit.specs.Circuit.{gates, leftsAt, rightsAt, circuitLength, allOutputs, headChecked, literalsChecked, lookAheadChecked, checked}
+use Rattle.circuit.specs.Circuit.{checked}
 use Rattle.circuit.proofs.Accepted.{accepted as circuitAccepted}
 use Rattle.circuit.proofs.Judged.{checked-number}
 use Rattle.folded.specs.Folded.{foldedBytes, scratchNeeded, foldChecked, foldResult, foldScratch}

@@ -1,16 +1,13 @@
 -- Bits of a conjunction, of a complement and of a part of a number. Assumes nothing.
 use mathlib.Core.Path.{_≡_, refl, ap, _∙_}
-use mathlib.Core.Bool.{Bool, true, false, not, _&&_, cond}
-use mathlib.Core.List.{List, [], _∷_}
+use mathlib.Core.Bool.{not, _&&_}
 use Prim.Native.Nat.{ℕ, zero, suc, _+_, _*_, _-_, _/_, _%_, _^_, _<_}
 use native.Mathlib.Nat.{mod-lt, pow-suc, add-mul}
 use native.Mathlib.Omega.{arith}
 use lib.Dec.{eqb, lit<}
-use lib.ListN.{getD}
 use lib.Pow.{pow-pos, split, high, ones-split, shr-lt, shr-shr, field, mod-mod-pow}
 use lib.Bits.{bitAnd, and-shr, and-mod}
-use Rattle.circuit.specs.Lists.{bit, packed}
-use Rattle.circuit.proofs.Bits.{bit-zero, bit-suc}
+use Rattle.circuit.specs.Lists.{bit}
 
 -- ---- a conjunction
 

@@ -1,14 +1,12 @@
 -- Laws of lanes: of the words that they are packed into, of the inputs of a history, and of signals. Assumes nothing.
 use mathlib.Core.Path.{_≡_, refl, sym, ap, ap₂, _∙_}
 use mathlib.Core.Bool.{Bool, true, false, not, cond}
-use mathlib.Core.List.{List, [], _∷_, _++_, map, append-nil, append-assoc}
+use mathlib.Core.List.{List, [], _∷_, map}
 use Prim.Native.Nat.{ℕ, zero, suc, _+_, _*_, _-_, _/_, _%_, _^_, _≤_, _<_}
-use native.Mathlib.Nat.{mod-lt, add-zero, mul-one, mul-comm, mul-assoc, mul-suc, mul-le-mul-left, pow-zero, pow-suc, div-one, div-div-eq-div-mul, div-lt-iff-lt-mul}
-use native.Mathlib.Numerals.{add-one}
+use native.Mathlib.Nat.{mod-lt, mul-comm, mul-suc, mul-le-mul-left, div-lt-iff-lt-mul}
 use native.Mathlib.Omega.{arith}
 use lib.Dec.{eqb}
-use lib.ListN.{length, getD, set, replicate, length-append, length-map, List·getD-append, replicate-append-replicate}
-use lib.Seq.{getD-at}
+use lib.ListN.{length, getD, set, length-map}
 use lib.Pow.{pow-pos}
 use lib.Bits.{bitAnd}
 use Rattle.sizes.specs.Sizes.{inputs, frames}

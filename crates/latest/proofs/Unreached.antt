@@ -3,16 +3,16 @@ use mathlib.Core.Path.{_≡_, refl, sym, ap, ap₂, _∙_, subst}
 use mathlib.Core.Bool.{Bool, false, _&&_, cond, not}
 use mathlib.Core.Logic.{_⊎_, inl, inr}
 use mathlib.Core.List.{List, [], _∷_}
-use Prim.Native.Nat.{ℕ, zero, suc, _+_, _/_, _%_, _^_, _≤_, _<_, max}
+use Prim.Native.Nat.{ℕ, zero, suc, _+_, _/_, _%_, _≤_, _<_, max}
 use native.Mathlib.Nat.{eq-or-lt-of-le}
 use native.Mathlib.Omega.{arith}
 use lib.Dec.{eqb}
-use lib.ListN.{length, getD, take}
+use lib.ListN.{length, getD}
 use lib.Seq.{getD-take}
 use borrow.Author.Tests.{ltb-false}
-use Rattle.sizes.specs.Sizes.{inputs, outputs, frames}
+use Rattle.sizes.specs.Sizes.{inputs, outputs}
 use Rattle.circuit.specs.Lists.{grown, listed, bit}
-use Rattle.circuit.specs.Circuit.{gates, leftsAt, rightsAt, literalAt, allInputs, allOutputs, gateSignal, outputSignal, frameOf, inputValues, literalValue, gateValue, signalValues, outputBit, looksAhead}
+use Rattle.circuit.specs.Circuit.{gates, leftsAt, rightsAt, literalAt, allInputs, allOutputs, gateSignal, outputSignal, frameOf, inputValues, literalValue, gateValue, signalValues, looksAhead}
 use Rattle.circuit.specs.WellFormed.{CircuitHeaded, LegalGates}
 use Rattle.circuit.proofs.Laws.{length-grown, signal-before, output-in}
 use Rattle.circuit.proofs.Lists.{grown-old, grown-new, listed-start, listed-after}

@@ -1,6 +1,5 @@
 -- `causal::check` meets its contract: each stage is the definition's, and an accepted form gives the look-ahead what it requires.
 -- Assumes nothing.
-use mathlib.Core.Path.{_≡_}
 use denote.Ref.{now}
 use Rattle.verdict.proofs.Laws.{stop, go-on, accepts}
 use Rattle.circuit.specs.Circuit.{checked}
