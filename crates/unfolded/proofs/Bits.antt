@@ -1,19 +1,17 @@
 -- Words as bits, and tests of all numbers below a bound.
 use mathlib.Core.Path.{_≡_, refl, sym, ap, ap₂, _∙_}
-use mathlib.Core.Bool.{Bool, true, false, not, _&&_, cond}
+use mathlib.Core.Bool.{Bool, true, false, not, _&&_, Bool·beq}
 use mathlib.Core.Logic.{⊎-elim}
-use mathlib.Core.List.{List, []}
 use Prim.Native.Nat.{ℕ, zero, suc, _^_, _<_}
 use native.Mathlib.Nat.{le-of-suc-le-suc, eq-or-lt-of-le, le-refl, le-suc, le-trans}
 use native.Mathlib.Omega.{arith}
 use lib.Dec.{eqb}
-use lib.ListN.{length}
 use borrow.Author.Tests.{eqb-true, eqb-false}
-use Rattle.circuit.specs.Lists.{listed, bit}
-use Rattle.circuit.proofs.Bits.{packed-bits}
+use Rattle.circuit.specs.Lists.{bit}
+use Rattle.circuit.proofs.Bits.{equal-bits}
+use Rattle.circuit.proofs.Ahead.{beq-same, same-beq}
 use Rattle.layered.specs.Search.{every}
 use Rattle.layered.proofs.Search.{every-true, every-each}
-use Rattle.circuit.proofs.Lists.{listed-length, listed-at}
 
 -- ---- truth values
 
@@ -28,21 +26,6 @@ and-false false = refl
 pub not-not : (a : Bool) → not (not a) ≡ a
 not-not true = refl
 not-not false = refl
-
--- whether two truth values are the same
-unfoldable pub same : Bool → Bool → Bool
-same a v = cond a v (not v)
-
-same-self : (a : Bool) → same a a ≡ true
-unfolding same
-same-self true = refl
-same-self false = refl
-
-same-eq : (a v : Bool) → same a v ≡ true → a ≡ v
-unfolding same
-same-eq true v e = sym e
-same-eq false true e = e
-same-eq false false e = refl
 
 -- ---- every
 
@@ -60,18 +43,13 @@ module _ (p : ℕ → Bool) where
 -- ---- bits
 
 -- words below 2^n with the same n bits are the same
-pub same-bits : (n w x : ℕ) → w < 2 ^ n → x < 2 ^ n → every n (λ i. same (bit w i) (bit x i)) ≡ eqb x w
+pub same-bits : (n w x : ℕ) → w < 2 ^ n → x < 2 ^ n → every n (λ i. Bool·beq (bit w i) (bit x i)) ≡ eqb x w
 same-bits n w x h k = go (eqb x w) refl
   where
-    go : (t : Bool) → eqb x w ≡ t → every n (λ i. same (bit w i) (bit x i)) ≡ t
-    go true e = every-true _ n (λ i l. ap (λ y. same (bit w i) (bit y i)) (eqb-true x w e) ∙ same-self (bit w i))
-    go false e = no-way (every n (λ i. same (bit w i) (bit x i))) refl
+    go : (t : Bool) → eqb x w ≡ t → every n (λ i. Bool·beq (bit w i) (bit x i)) ≡ t
+    go true e = every-true _ n (λ i l. same-beq _ _ (ap (λ y. bit y i) (sym (eqb-true x w e))))
+    go false e = no-way (every n (λ i. Bool·beq (bit w i) (bit x i))) refl
       where
-        no-way : (t : Bool) → every n (λ i. same (bit w i) (bit x i)) ≡ t → t ≡ false
+        no-way : (t : Bool) → every n (λ i. Bool·beq (bit w i) (bit x i)) ≡ t → t ≡ false
         no-way false q = refl
-        no-way true q =
-            let vs : List Bool = listed [] (bit w) n in
-            let l : length vs ≡ n = listed-length (bit w) n in
-            absurd (eqb-false x w e
-            (sym (packed-bits n x vs k l (λ j i. listed-at (bit w) false n j i ∙ same-eq (bit w j) (bit x j) (every-each _ n q j i)))
-            ∙ packed-bits n w vs h l (λ j i. listed-at (bit w) false n j i)))
+        no-way true q = absurd (eqb-false x w e (sym (equal-bits n w x h k (λ j l. beq-same _ _ (every-each _ n q j l)))))

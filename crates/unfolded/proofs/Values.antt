@@ -1,7 +1,7 @@
 -- The values of the drawn circuit: a state's literal is true exactly of the state that the machine is in, an output's literal is that bit
 -- of the machine's output.
 use mathlib.Core.Path.{_≡_, refl, sym, ap, ap₂, _∙_}
-use mathlib.Core.Bool.{Bool, true, false, not, _&&_, cond}
+use mathlib.Core.Bool.{Bool, true, false, not, _&&_, cond, Bool·beq}
 use mathlib.Core.List.{List, [], _∷_, _++_}
 use Prim.Native.Nat.{ℕ, zero, suc, _+_, _*_, _-_, _/_, _%_, _^_, _≤_, _<_}
 use native.Mathlib.Nat.{mul-comm, mul-suc, mul-le-mul-left, div-add-mod', mod-lt, div-lt-iff-lt-mul}
@@ -27,7 +27,7 @@ use Rattle.circuit.proofs.Lists.{listed-at, listed-cons}
 use Rattle.unfolded.proofs.Gates.{Reads, run, together, together-append}
 use Rattle.unfolded.proofs.Frames.{Placed, crossed, edge-reads, next-reads, out-reads}
 use Rattle.unfolded.proofs.Drawings.{base, behind, input-low, HandsOn, Step, outputs-read}
-use Rattle.unfolded.proofs.Bits.{and-true, and-false, not-not, same, every-one, same-bits}
+use Rattle.unfolded.proofs.Bits.{and-true, and-false, not-not, every-one, same-bits}
 
 -- ---- values as they are read
 
@@ -144,8 +144,8 @@ module _ (b c : List ℕ) where
   true-value : literalValue start 1 ≡ true
   true-value = literal-odd start 1 0 refl ∙ ap (λ l. not (getD l 0 false)) start-is
 
-  input-value : (t w i : ℕ) → t < frames b → i < inputs b → literalValue start (inputLiteral (inputs b) t w i) ≡ same (bit w i) (bit (getD c t 0) i)
-  unfolding inputLiteral same inputBit
+  input-value : (t w i : ℕ) → t < frames b → i < inputs b → literalValue start (inputLiteral (inputs b) t w i) ≡ Bool·beq (bit w i) (bit (getD c t 0) i)
+  unfolding inputLiteral inputBit
   input-value t w i h l =
       let n : ℕ = inputs b in
       let k : t * n + i < n * frames b = omega (arith, mul-comm t n, mul-suc n t, mul-le-mul-left n h) in
@@ -154,8 +154,14 @@ module _ (b c : List ℕ) where
       ap₂ (λ l i. getD l i false) start-is q
       ∙ listed-at inputBit false (n * frames b) (t * n + i) k
       ∙ ap₂ (λ t i. bit (getD c t 0) i) (digits-div t l) (digits-mod t l) in
-      go (bit w i) (1 + (t * n + i)) ∙ ap (λ v. cond (bit w i) v (not v)) v
+      go (bit w i) (1 + (t * n + i)) ∙ ap (λ v. cond (bit w i) v (not v)) v ∙ equal (bit w i) (bit (getD c t 0) i)
     where
+      equal : (a v : Bool) → cond a v (not v) ≡ Bool·beq a v
+      equal true true = refl
+      equal true false = refl
+      equal false true = refl
+      equal false false = refl
+
       go : (a : Bool) (x : ℕ) → literalValue start (2 * x + cond a 0 1) ≡ cond a (getD start x false) (not (getD start x false))
       go true x = literal-even start (2 * x + 0) x (omega arith)
       go false x = literal-odd start (2 * x + 1) x refl
@@ -195,7 +201,7 @@ module _ (b c : List ℕ) where
         unfolding matching tableFrame
         match-now w k =
             ap (λ a. together _&&_ (literalValue vs) a (matching (inputs b) t w)) true-now
-            ∙ all-listed (literalValue vs) (inputLiteral (inputs b) t w) (λ i. same (bit w i) (bit (getD c t 0) i)) (inputs b)
+            ∙ all-listed (literalValue vs) (inputLiteral (inputs b) t w) (λ i. Bool·beq (bit w i) (bit (getD c t 0) i)) (inputs b)
             (λ i l. old (inputLiteral (inputs b) t w i) (input-low b t w i h l) ∙ input-value t w i h l)
             ∙ same-bits (inputs b) w (getD c t 0) k (words-at W t h)
 
