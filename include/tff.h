@@ -35,7 +35,8 @@
  *   9       index of the word from 0    first input word of 2^n or more
  *   10      T                           step from the last layer
  *   11      layer given                 position that the table does not have
- *   12      length of the list          list of input words not T long
+ *   12      length of the list          list of input words not T long, for tff_simulate count*T
+ *   13      count given                 above 32 sequences
  *
  * A refused call changes nothing but answer, save that a fold refused with 7 clears the scratch
  * that it needs.
@@ -55,9 +56,11 @@ extern "C" {
 void tff_check_circuit(const uint8_t *circuit, size_t circuit_len,
                        uint64_t *answer, size_t answer_len);
 
-/* Puts the circuit's T output words on the T input words into result.
- * Refuses as the check, then 12, 9, 7. Accepted: place T. */
+/* Puts the circuit's output words on count sequences, at most 32, into result. Words has the T input
+ * words of each, one sequence behind the other; result gets T output words for each likewise.
+ * Refuses as the check, then 13, 12, 9 (an index of the whole list), 7. Accepted: place count*T. */
 void tff_simulate(const uint8_t *circuit, size_t circuit_len,
+                  size_t count,
                   const uint16_t *words, size_t words_len,
                   uint16_t *result, size_t result_len,
                   uint64_t *answer, size_t answer_len);

@@ -6,7 +6,7 @@
 use std::hint::black_box;
 use std::time::Instant;
 
-use reference::gen::{any_sequence, circuits, look_ahead, tables, Rng};
+use reference::gen::{any_sequence, any_sequences, circuits, look_ahead, tables, Rng};
 use reference::{Circuit, Sizes};
 
 fn main() {
@@ -39,14 +39,36 @@ fn circuit_level() {
     often.measure(
         "simulate 4096 gates",
         &mut result,
-        |result| tff::simulate(black_box(&circuit), &words, result),
-        |result| reference::simulate(black_box(&circuit), &words, result),
+        |result| tff::simulate_one(black_box(&circuit), &words, result),
+        |result| reference::simulate(black_box(&circuit), 1, &words, result),
     );
+    simulate_together_line(&circuit, &sizes);
     // Outputs lead to later inputs without effect, which all 65536 sequences have to show.
     let clean = circuits::legal(&mut rng, sizes, 200);
     let crossed = look_ahead::crossed_out(&mut rng, &clean, Circuit::MOST_GATES).to_bytes();
     let few = Runs { runs: 3, calls: 1 };
     check_line("check 4096 gates, crossed out", &few, &crossed);
+}
+
+/// The most sequences: in one call, and by the plain implementation one at a time.
+fn simulate_together_line(circuit: &[u8], sizes: &Sizes) {
+    let words = any_sequences(&mut Rng::new(2), sizes, Circuit::MOST_SEQUENCES);
+    let sequences: Vec<&[u16]> = words.chunks(sizes.frames).collect();
+    let mut result = vec![0; words.len()];
+    let some = Runs {
+        runs: 21,
+        calls: 20,
+    };
+    some.measure(
+        "simulate 4096 gates, 32 sequences",
+        &mut result,
+        |result| tff::simulate(black_box(circuit), &sequences, result),
+        |result| {
+            for (words, result) in sequences.iter().zip(result.chunks_mut(sizes.frames)) {
+                black_box(reference::simulate(black_box(circuit), 1, words, result));
+            }
+        },
+    );
 }
 
 fn check_line(case: &str, runs: &Runs, circuit: &[u8]) {
@@ -102,10 +124,16 @@ fn fold_level() {
         // With 200 gates there is no room for 16 outputs in each of 16 frames.
         for (gates, outputs) in [(200, 11), (Circuit::MOST_GATES, 16)] {
             let sizes = Sizes::new(inputs, outputs, frames);
-            fold_line("few", &circuits::few_states(inputs, frames, gates));
-            fold_line("many", &circuits::many_states(sizes, gates));
+            fold_line("few states", &circuits::few_states(inputs, frames, gates));
+            fold_line("many states", &circuits::many_states(sizes, gates));
         }
     }
+    // Most gates of those above depend on no late input, so they seldom have to be evaluated again.
+    let mut rng = Rng::new(1);
+    let sizes = Sizes::new(2, 2, 8);
+    fold_line("frame by frame", &circuits::unrolled(&mut rng, sizes, 150));
+    let any_order = circuits::legal(&mut rng, sizes, Circuit::MOST_GATES);
+    fold_line("any order", &any_order);
 }
 
 /// Unfolding to the most gates.
@@ -128,14 +156,14 @@ fn unfold_level() {
     );
 }
 
-fn fold_line(states: &str, circuit: &Circuit) {
+fn fold_line(kind: &str, circuit: &Circuit) {
     let Sizes { inputs, frames, .. } = circuit.sizes;
     let gates = circuit.gates();
     let circuit = circuit.to_bytes();
     let few = Runs { runs: 3, calls: 1 };
     let mut memory = (vec![0; 1 << 17], vec![0; 1 << 20]);
     few.measure(
-        &format!("fold {inputs}x{frames}, {gates} gates, {states} states"),
+        &format!("fold {inputs}x{frames}, {gates} gates, {kind}"),
         &mut memory,
         |(scratch, result)| tff::fold(black_box(&circuit), scratch, result),
         |(scratch, result)| reference::plain_fold(black_box(&circuit), scratch, result),

@@ -26,8 +26,10 @@ pub const WORD: u64 = 9;
 pub const LAST_LAYER: u64 = 10;
 /// A position that the table does not have; place: the layer given.
 pub const POSITION: u64 = 11;
-/// A list of words that is not one word a frame; place: its length.
+/// A list of words that is not one word a frame of each sequence; place: its length.
 pub const WORD_COUNT: u64 = 12;
+/// More sequences than are simulated at once; place: the count given.
+pub const SEQUENCES: u64 = 13;
 
 pub fn accepted(place: usize) -> Answer {
     (0, place as u64)

@@ -1,6 +1,8 @@
 //! Circuits of AND gates over frames: format, check, simulation.
 
-use crate::answer::{accepted, deliver, refused, Answer, LENGTH, LITERAL, LOOKS_AHEAD, SIZE};
+use crate::answer::{
+    accepted, deliver, refused, Answer, LENGTH, LITERAL, LOOKS_AHEAD, SEQUENCES, SIZE,
+};
 use crate::sizes::Sizes;
 use crate::words::{to_bytes, word_at, words_at};
 
@@ -22,22 +24,31 @@ pub fn check_circuit(circuit: &[u8]) -> Answer {
     }
 }
 
-/// Puts the circuit's output words on `words` at the front of `result`.
-pub fn simulate(circuit: &[u8], words: &[u16], result: &mut [u16]) -> Answer {
-    match simulated(circuit, words) {
+/// Puts the circuit's output words on `count` sequences, which stand one behind the other in `words`,
+/// at the front of `result`.
+pub fn simulate(circuit: &[u8], count: usize, words: &[u16], result: &mut [u16]) -> Answer {
+    match simulated(circuit, count, words) {
         Ok(outputs) => deliver(&outputs, result),
         Err(refusal) => refusal,
     }
 }
 
-fn simulated(circuit: &[u8], words: &[u16]) -> Result<Vec<u16>, Answer> {
+fn simulated(circuit: &[u8], count: usize, words: &[u16]) -> Result<Vec<u16>, Answer> {
     let circuit = Circuit::read(circuit)?;
-    circuit.sizes.judge_words(words)?;
-    Ok(circuit.outputs_on(words))
+    if count > Circuit::MOST_SEQUENCES {
+        return Err(refused(SEQUENCES, count));
+    }
+    circuit.sizes.judge_words(count, words)?;
+    Ok(words
+        .chunks(circuit.sizes.frames)
+        .flat_map(|sequence| circuit.outputs_on(sequence))
+        .collect())
 }
 
 impl Circuit {
     pub const MOST_GATES: usize = 4096;
+    /// Most sequences of one simulation.
+    pub const MOST_SEQUENCES: usize = 32;
 
     /// The circuit in `bytes`, if it passes every check.
     pub fn read(bytes: &[u8]) -> Result<Circuit, Answer> {

@@ -78,6 +78,11 @@ pub fn any_sequence(rng: &mut Rng, sizes: &Sizes) -> Vec<u16> {
         .collect()
 }
 
+/// Legal input words of `count` sequences, one behind the other.
+pub fn any_sequences(rng: &mut Rng, sizes: &Sizes, count: usize) -> Vec<u16> {
+    (0..count).flat_map(|_| any_sequence(rng, sizes)).collect()
+}
+
 /// `bytes` with one fault: a bit or a word changed, bytes cut off or added. It may still be legal.
 pub fn damaged(rng: &mut Rng, bytes: &[u8]) -> Vec<u8> {
     let mut bytes = bytes.to_vec();

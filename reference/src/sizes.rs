@@ -77,9 +77,9 @@ impl Sizes {
             .collect()
     }
 
-    /// Judges a list of input words: its length, then each word.
-    pub fn judge_words(&self, words: &[u16]) -> Result<(), Answer> {
-        if words.len() != self.frames {
+    /// Judges a list of the input words of so many sequences: its length, then each word.
+    pub fn judge_words(&self, sequences: usize, words: &[u16]) -> Result<(), Answer> {
+        if words.len() != sequences * self.frames {
             return Err(refused(WORD_COUNT, words.len()));
         }
         match words.iter().position(|&word| !self.has_word(word)) {

@@ -59,7 +59,7 @@ pub fn run(table: &[u8], words: &[u16], result: &mut [u16]) -> Answer {
 fn outputs_of_run(table: &[u8], words: &[u16]) -> Result<Vec<u16>, Answer> {
     let head = Head::read(table)?;
     head.judge_entries(table)?;
-    head.sizes.judge_words(words)?;
+    head.sizes.judge_words(1, words)?;
     let mut state = 0;
     let mut outputs = Vec::new();
     for (layer, &word) in words.iter().enumerate() {

@@ -131,7 +131,7 @@ mod tests {
         for (a, b) in (0..64).map(|both| (both / 8, both % 8)) {
             let words = [0, 1, 2].map(|bit| (a >> bit & 1) + 2 * (b >> bit & 1));
             let mut outputs = [9; 3];
-            assert_eq!(simulate(&circuit, &words, &mut outputs), (0, 3));
+            assert_eq!(simulate(&circuit, 1, &words, &mut outputs), (0, 3));
             let sum = a + b;
             let expected = [sum & 1, sum >> 1 & 1, (sum >> 2 & 1) + 2 * (sum >> 3)];
             assert_eq!(outputs, expected);

@@ -7,6 +7,8 @@ mod common;
 mod evaluator;
 #[path = "common/faults.rs"]
 mod faults;
+#[path = "common/simulating.rs"]
+mod simulating;
 
 use circuit_calls::CIRCUIT;
 use common::{seeds, Seen};
@@ -35,7 +37,7 @@ fn parity_simulates_to_its_truth_table() {
         ([1, 1], [1, 0, 9]),
     ] {
         let mut result = [9; 3];
-        let answer = tff::simulate(&file, &words, &mut result);
+        let answer = tff::simulate_one(&file, &words, &mut result);
         assert_eq!((answer.number, answer.place), (0, 2));
         assert_eq!(result, outputs);
     }

@@ -94,6 +94,17 @@ fn unrolled_machines_are_folded() {
 }
 
 #[test]
+fn the_order_of_the_gates_changes_no_byte() {
+    for seed in seeds(300) {
+        let mut rng = Rng::new(seed);
+        let circuit = circuits::any_legal(&mut rng, 10, 80);
+        let reordered = circuits::reordered(&mut rng, &circuit);
+        accepts(seed, &reordered);
+        assert_eq!(folded(&reordered.to_bytes()), folded(&circuit.to_bytes()));
+    }
+}
+
+#[test]
 fn circuits_of_all_shapes_are_folded() {
     for seed in seeds(2) {
         let mut rng = Rng::new(seed);

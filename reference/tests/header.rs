@@ -13,9 +13,7 @@ use std::process::Command;
 use child::written;
 use reference::vectors::PARITY_TABLE;
 use reference::words::{to_bytes, words_at};
-use reference::{
-    check_circuit, check_table, examples, fold, price, run, simulate, step, unfold, Answer,
-};
+use reference::{check_circuit, check_table, examples, fold, price, run, simulate, step, unfold};
 use root::root;
 
 /// What the C program in the file `source` of the repository prints.
@@ -91,6 +89,27 @@ fn example_lines() -> String {
 fn calls_lines() -> String {
     let circuit = examples::parity().to_bytes();
     let table = to_bytes(&PARITY_TABLE);
+    let words = [1, 1, 1, 0, 2];
+    // Accepted, and refused with 1, 13, 12, 9, 7.
+    let simulations = [
+        (28, 0, &words[..0], 0),
+        (28, 1, &words[..2], 2),
+        (28, 2, &words[..4], 4),
+        (27, 2, &words[..4], 4),
+        (28, 33, &words[..4], 4),
+        (28, usize::MAX, &words[..4], 4),
+        (28, 2, &words[..3], 4),
+        (28, 2, &words[1..], 4),
+        (28, 2, &words[..4], 3),
+    ];
+    // Accepted, and refused with 1, 12, 9, 7.
+    let runs = [
+        (36, &words[..2], 2),
+        (35, &words[..2], 2),
+        (36, &words[..3], 2),
+        (36, &words[3..], 2),
+        (36, &words[..2], 1),
+    ];
     let steps = [
         (36, 0, 0, 1),
         (36, 1, 0, 1),
@@ -105,7 +124,11 @@ fn calls_lines() -> String {
             check_circuit(&circuit[..length]).into()
         });
     }
-    text += &evaluate_lines("simulate", simulate, &circuit);
+    for (length, count, words, result) in simulations {
+        text += &line("simulate", |numbers, _| {
+            simulate(&circuit[..length], count, words, &mut numbers[..result]).into()
+        });
+    }
     for (length, scratch, result) in [(27, 8, 36), (28, 7, 36), (28, 8, 35), (28, 8, 36)] {
         text += &line("fold", |numbers, bytes| {
             fold(
@@ -119,7 +142,11 @@ fn calls_lines() -> String {
     for length in [36, 35] {
         text += &line("check_table", |_, _| check_table(&table[..length]).into());
     }
-    text += &evaluate_lines("run", run, &table);
+    for (length, words, result) in runs {
+        text += &line("run", |numbers, _| {
+            run(&table[..length], words, &mut numbers[..result]).into()
+        });
+    }
     for (length, layer, state, word) in steps {
         text += &line("step", |_, _| {
             step(&table[..length], layer, state, word).into()
@@ -134,30 +161,6 @@ fn calls_lines() -> String {
         });
     }
     text
-}
-
-/// The lines of simulating a circuit or running a table: accepted, and refused with 1, 12, 9, 7.
-fn evaluate_lines(
-    name: &str,
-    evaluate: fn(&[u8], &[u16], &mut [u16]) -> Answer,
-    file: &[u8],
-) -> String {
-    let words = [1, 1, 2];
-    let cut = &file[..file.len() - 1];
-    let cases = [
-        (file, &words[..2], 2),
-        (cut, &words[..2], 2),
-        (file, &words[..3], 2),
-        (file, &words[1..], 2),
-        (file, &words[..2], 1),
-    ];
-    cases
-        .map(|(file, words, result)| {
-            line(name, |numbers, _| {
-                evaluate(file, words, &mut numbers[..result]).into()
-            })
-        })
-        .concat()
 }
 
 /// A line of `calls.c`: what a call answers and leaves in memory that is all 99 before.

@@ -19,8 +19,24 @@ const TABLE: Evaluator = Evaluator {
     plain_check: reference::check_table,
     plain_evaluate: reference::run,
     proved_check: tff::raw::tff_check_table,
-    proved_evaluate: tff::raw::tff_run,
+    proved_evaluate: call_run,
 };
+
+fn call_run(file: &[u8], words: &[u16], result: &mut [u16], answer: &mut [u64]) {
+    // SAFETY: each pointer and length is that of one slice.
+    unsafe {
+        tff::raw::tff_run(
+            file.as_ptr(),
+            file.len(),
+            words.as_ptr(),
+            words.len(),
+            result.as_mut_ptr(),
+            result.len(),
+            answer.as_mut_ptr(),
+            answer.len(),
+        )
+    }
+}
 
 /// Layer, state and word of a step.
 type Place = [u16; 3];

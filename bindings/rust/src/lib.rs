@@ -1,8 +1,9 @@
 //! Time-frame folding: a circuit of AND gates over frames becomes a layered state table.
 //!
-//! Safe calls of the proved library. Every call takes its memory from the caller and answers with a
-//! number, 0 where it accepts and otherwise the reason of its refusal, and a place. The meaning of
-//! both, and of every byte written, is that of `include/tff.h`.
+//! Safe calls of the proved library. Every call takes its memory from the caller, but for the list
+//! that `simulate` joins its sequences into, and answers with a number, 0 where it accepts and
+//! otherwise the reason of its refusal, and a place. The meaning of both, and of every byte written,
+//! is that of `include/tff.h`.
 
 mod circuit;
 mod fold;
@@ -12,7 +13,7 @@ mod unfold;
 
 pub mod raw;
 
-pub use circuit::{check_circuit, simulate};
+pub use circuit::{check_circuit, simulate, simulate_one};
 pub use fold::fold;
 pub use price::{price, Priced};
 pub use table::{check_table, run, step, Stepped};

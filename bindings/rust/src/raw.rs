@@ -16,6 +16,7 @@ extern "C" {
     pub fn tff_simulate(
         circuit: *const u8,
         circuit_len: usize,
+        count: usize,
         words: *const u16,
         words_len: usize,
         result: *mut u16,

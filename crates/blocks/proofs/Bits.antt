@@ -2,15 +2,16 @@
 use mathlib.Core.Path.{_≡_, sym, ap, _∙_}
 use mathlib.Core.Bool.{not}
 use Prim.Native.Nat.{ℕ, zero, suc, _+_, _*_, _-_, _/_, _%_, _^_, _≤_, _<_}
-use native.Mathlib.Nat.{mod-lt, zero-mul, zero-add, mul-suc, mul-zero, mul-le-mul-right, div-one, div-eq-of-lt, div-eq-of-eq-mul-left, add-div-left}
+use native.Mathlib.Nat.{mod-lt, zero-mul, mul-suc, mul-zero, mul-le-mul-right, div-eq-of-lt, div-eq-of-eq-mul-left, add-div-left}
 use native.Mathlib.Decide.{decLt}
 use native.Mathlib.Omega.{arith}
 use lib.Dec.{eqb}
-use lib.Pow.{pow-pos, pow-mono, pow-add, split, high, low, shr-shr, mod-mod-pow, ones-split}
+use lib.Pow.{pow-pos, pow-mono, pow-add, split, high, low, mod-mod-pow, ones-split}
 use lib.Bits.{bitAnd, and-block, and-mask, and-le-r}
 use Rattle.circuit.specs.Lists.{bit, blockStart}
 use Rattle.circuit.proofs.Bits.{bit-zero, bit-none}
-use Rattle.lanes.proofs.Bits.{bit-not, bit-part}
+use Rattle.lanes.specs.Limits.{laneBits, laneCount}
+use Rattle.lanes.proofs.Bits.{bit-not, bit-low, bit-high}
 
 -- ---- a one at the start of each block
 
@@ -41,15 +42,6 @@ starts-are b k w h e = div-eq-of-eq-mul-left (ones-pos b h) (ap (λ x. 2 ^ x - 1
 product-fits : (b k w x : ℕ) → b * k ≡ w → bitAnd x (starts b k) * (2 ^ b - 1) < 2 ^ w
 product-fits b k w x e =
     omega (arith, mul-le-mul-right (2 ^ b - 1) (and-le-r x (starts b k)), starts-ones b k ∙ ap (λ i. 2 ^ i - 1) e, pow-pos w)
-
--- ---- the low bits of a number, and those above them
-
-bit-high : (x a i : ℕ) → bit x (a + i) ≡ bit (x / 2 ^ a) i
-unfolding bit
-bit-high x a i = ap (λ y. eqb (y % 2) 1) (sym (shr-shr x a i))
-
-bit-low : (x n i : ℕ) → i < n → bit x i ≡ bit (x % 2 ^ n) i
-bit-low x n i h = sym (ap (λ y. bit (y % 2 ^ n) i) (sym (div-one x)) ∙ bit-part x 0 n i h ∙ ap (bit x) (zero-add i))
 
 -- a digit times a block of ones is the digit at each place
 digit-ones : (d b j : ℕ) → d < 2 → j < b → bit (d * (2 ^ b - 1)) j ≡ eqb d 1
@@ -102,7 +94,7 @@ module _ (b : ℕ) (some : 0 < b) where
           ap (bit _) j-is ∙ bit-high _ b i ∙ ap (λ y. bit y i) e ∙ ih i (omega (arith, mul-suc b k)) ∙ sym (bit-high x b (i / b * b))
           ∙ ap (bit x) (sym (ap (λ y. y / b * b) j-is ∙ ap (λ q. q * b) (add-div-left i some) ∙ omega arith))
 
--- ---- blocks of 2 ^ bits in a number of 64 bits
+-- ---- blocks of 2 ^ bits lanes
 
 -- all w bits, shifted until b of them are left
 ones-left : (b w : ℕ) → b ≤ w → (2 ^ w - 1) / 2 ^ (w - b) ≡ 2 ^ b - 1
@@ -112,37 +104,37 @@ ones-left b w h =
 
 -- p ones, as the code has them
 abbrev pub ones : (p : ℕ) → ℕ
-ones p = (2 ^ 64 - 1) / 2 ^ (64 - p)
+ones p = (2 ^ laneCount - 1) / 2 ^ (laneCount - p)
 
-module _ {bits p : ℕ} (few : bits ≤ 6) (ep : p ≡ 2 ^ bits) where
-  pub block-small : p ≤ 64
-  block-small = rw ep (pow-mono {i = bits} {j = 6} few)
+module _ {bits p : ℕ} (few : bits ≤ laneBits) (ep : p ≡ 2 ^ bits) where
+  pub block-small : p ≤ laneCount
+  block-small = rw ep (pow-mono {i = bits} {j = laneBits} few)
 
   pub block-some : 0 < p
   block-some = rw ep (pow-pos bits)
 
   ones-are : ones p ≡ 2 ^ p - 1
-  ones-are = ones-left p 64 block-small
+  ones-are = ones-left p laneCount block-small
 
   pub some-ones : 0 < ones p
   some-ones = rw ones-are (ones-pos p block-some)
 
   -- how many blocks there are
-  blocks-are : p * 2 ^ (6 - bits) ≡ 64
+  blocks-are : p * 2 ^ (laneBits - bits) ≡ laneCount
   blocks-are =
-      let e : bits + (6 - bits) ≡ 6 = omega arith in
-      ap (λ x. x * 2 ^ (6 - bits)) ep ∙ sym (pow-add 2 bits (6 - bits)) ∙ ap (λ i. 2 ^ i) e
+      let e : bits + (laneBits - bits) ≡ laneBits = omega arith in
+      ap (λ x. x * 2 ^ (laneBits - bits)) ep ∙ sym (pow-add 2 bits (laneBits - bits)) ∙ ap (λ i. 2 ^ i) e
 
   -- the product in the code
-  product-is : (x : ℕ) → bitAnd x ((2 ^ 64 - 1) / ones p) * ones p ≡ bitAnd x (starts p (2 ^ (6 - bits))) * (2 ^ p - 1)
+  product-is : (x : ℕ) → bitAnd x ((2 ^ laneCount - 1) / ones p) * ones p ≡ bitAnd x (starts p (2 ^ (laneBits - bits))) * (2 ^ p - 1)
   product-is x =
-      ap (λ y. bitAnd x ((2 ^ 64 - 1) / y) * y) ones-are
-      ∙ ap (λ y. bitAnd x y * (2 ^ p - 1)) (starts-are p (2 ^ (6 - bits)) 64 block-some blocks-are)
+      ap (λ y. bitAnd x ((2 ^ laneCount - 1) / y) * y) ones-are
+      ∙ ap (λ y. bitAnd x y * (2 ^ p - 1)) (starts-are p (2 ^ (laneBits - bits)) laneCount block-some blocks-are)
 
-  pub spread-fits : (x : ℕ) → bitAnd x ((2 ^ 64 - 1) / ones p) * ones p < 2 ^ 64
-  spread-fits x = rw (product-is x) (product-fits p (2 ^ (6 - bits)) 64 x blocks-are)
+  pub spread-fits : (x : ℕ) → bitAnd x ((2 ^ laneCount - 1) / ones p) * ones p < 2 ^ laneCount
+  spread-fits x = rw (product-is x) (product-fits p (2 ^ (laneBits - bits)) laneCount x blocks-are)
 
-  pub spread-bits : (x j : ℕ) → j < 64 → bit (bitAnd x ((2 ^ 64 - 1) / ones p) * ones p) j ≡ bit x (blockStart bits j)
+  pub spread-bits : (x j : ℕ) → j < laneCount → bit (bitAnd x ((2 ^ laneCount - 1) / ones p) * ones p) j ≡ bit x (blockStart bits j)
   unfolding blockStart
   spread-bits x j h =
-      ap (λ y. bit y j) (product-is x) ∙ bit-spread p block-some (2 ^ (6 - bits)) x j (omega (arith, blocks-are)) ∙ ap (λ y. bit x (j / y * y)) ep
+      ap (λ y. bit y j) (product-is x) ∙ bit-spread p block-some (2 ^ (laneBits - bits)) x j (omega (arith, blocks-are)) ∙ ap (λ y. bit x (j / y * y)) ep

@@ -2,7 +2,6 @@
 use mathlib.Core.Path.{_≡_, sym, ap, _∙_}
 use mathlib.Core.Bool.{Bool}
 use Prim.Native.Nat.{ℕ, _+_, _-_, _%_, _^_, _<_}
-use native.Mathlib.Decide.{ℕ-discrete}
 use native.Mathlib.Omega.{arith}
 use Rattle.circuit.specs.Lists.{bit, blockStart}
 use Rattle.circuit.proofs.Bits.{bits-apart}
@@ -29,18 +28,11 @@ module _ (bits : ℕ) {p : ℕ} (ep : p ≡ 2 ^ bits) (at : ℕ) (v : ℕ → Bo
 
 -- ---- words that are the same, and words that are not
 
-module _ (w u at : ℕ) (v x : ℕ → Bool) (hw : w < 2 ^ 64) (hu : u < 2 ^ 64) (W : Holds w at v) (U : Holds u at x) where
+module _ (w u at : ℕ) (v x : ℕ → Bool) (hw : w < 2 ^ laneCount) (hu : u < 2 ^ laneCount) (W : Holds w at v) (U : Holds u at x) where
   -- a lane in which they differ
   pub holds-apart : ¬ (w ≡ u) → (j : ℕ) × (j < laneCount) × ¬ (v (at + j) ≡ x (at + j))
   unfolding Holds
   holds-apart d =
-      let r = bits-apart 64 w u hw hu d in
+      let r = bits-apart laneCount w u hw hu d in
       let j = r .0 in
       (j, r .1, λ e. r .2 (W j (r .1) ∙ e ∙ sym (U j (r .1))))
-
-  pub holds-same : ((j : ℕ) → j < laneCount → v (at + j) ≡ x (at + j)) → w ≡ u
-  holds-same same = go (ℕ-discrete w u)
-    where
-      go : Dec (w ≡ u) → w ≡ u
-      go (yes e) = e
-      go (no d) = let r = holds-apart d in absurd (r .2 (same (r .0) (r .1)))

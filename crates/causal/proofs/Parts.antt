@@ -1,12 +1,12 @@
 -- A part of neighbouring sequences: the lanes that are played, the comparison of one output, and what is kept. Assumes nothing.
-use mathlib.Core.Path.{_≡_, refl, sym, ap, ap₂, _∙_, subst}
+use mathlib.Core.Path.{_≡_, refl, sym, ap, _∙_, subst}
 use mathlib.Core.Bool.{Bool, true, false}
-use mathlib.Core.List.{List, [], _++_, append-nil}
+use mathlib.Core.List.{List}
 use Prim.Native.Nat.{ℕ, suc, _+_, _*_, _-_, _/_, _^_, _≤_, _<_}
 use native.Mathlib.Nat.{mul-le-mul, mul-le-mul-left}
 use native.Mathlib.Decide.{decLt}
 use native.Mathlib.Omega.{arith}
-use lib.ListN.{length, getD, set, replicate}
+use lib.ListN.{length, getD, set}
 use lib.Seq.{getD-take, getD-set-same, getD-set-other}
 use Rattle.sizes.specs.Limits.{mostBits}
 use Rattle.sizes.specs.Sizes.{inputs, outputs, frames}
@@ -14,16 +14,15 @@ use Rattle.layered.specs.Search.{every}
 use Rattle.layered.specs.Histories.{historyWords}
 use Rattle.layered.proofs.Search.{every-true, every-each}
 use Rattle.circuit.specs.Limits.{mostSignals}
-use Rattle.circuit.specs.Lists.{listed, bit, blockStart}
+use Rattle.circuit.specs.Lists.{bit, blockStart}
 use Rattle.circuit.specs.Circuit.{gates, gateSignal, allOutputs, outputSignal, frameOf, signalValues, outputOn, laterInputs, asFirst}
 use Rattle.circuit.specs.WellFormed.{CircuitHeaded, HeadOf}
 use Rattle.circuit.specs.declared.Head.{Head}
-use Rattle.circuit.proofs.Lists.{listed-length, listed-at}
 use Rattle.circuit.proofs.Laws.{output-at, output-in, signals-fit}
 use Rattle.circuit.proofs.Ahead.{beq-same, same-beq, output-parts, output-value}
 use Rattle.lanes.specs.Limits.{laneCount}
 use Rattle.lanes.specs.Lanes.{lane, sequence, Lanes, SignalLanes}
-use Rattle.lanes.proofs.Laws.{lane-at}
+use Rattle.lanes.proofs.Laws.{lane-at, whole}
 use Rattle.blocks.specs.Blocks.{Holds}
 use Rattle.blocks.proofs.Holds.{holds-apart}
 use Rattle.causal.specs.Limits.{mostAllOutputs}
@@ -31,27 +30,17 @@ use Rattle.causal.specs.Played.{Outputs, Firsts, partAsFirst}
 
 -- ---- the lanes of a part
 
--- a whole sequence has no zero words after it
-whole : (K T x : ℕ) → sequence K T T x ≡ historyWords K T x
-whole K T x =
-    let z : T - T ≡ 0 = omega arith in
-    ap (λ k. historyWords K T x ++ replicate k 0) z ∙ append-nil (historyWords K T x)
-
 -- the lanes of all signals, played on the sequences from `at` on, have the outputs
-pub outputs-played : (b : List ℕ) → CircuitHeaded b → (at T : ℕ) (hs v : List ℕ) → T ≡ frames b → hs ≡ listed [] (λ j. at + j) laneCount → mostSignals ≤ length v
-    → SignalLanes b T hs v → Outputs b at v
+pub outputs-played : (b : List ℕ) → CircuitHeaded b → (at T : ℕ) (v : List ℕ) → T ≡ frames b → SignalLanes b T (λ j. at + j) v → Outputs b at v
 unfolding Outputs Holds Lanes outputOn
-outputs-played b H at T hs v eT eh room L q h j l =
+outputs-played b H at T v eT L q h j l =
     let s : ℕ = outputSignal b q in
     let G : ℕ = gateSignal b (gates b) in
-    let s< : s < G = output-in b q (H .outputs-to) h in
-    let in-hs : j < length hs = omega (arith, ap length eh ∙ listed-length (λ j. at + j) laneCount) in
-    let x : getD hs j 0 ≡ at + j = ap (λ l. getD l j 0) eh ∙ listed-at (λ j. at + j) 0 laneCount j l in
-    let words : sequence (2 ^ inputs b) (frames b) T (getD hs j 0) ≡ historyWords (2 ^ inputs b) (frames b) (at + j) =
-    ap₂ (sequence (2 ^ inputs b) (frames b)) eT x ∙ whole (2 ^ inputs b) (frames b) (at + j) in
-    sym (lane-at v j s (omega (arith, signals-fit b H)))
-    ∙ sym (getD-take G (lane j v) s false s<)
-    ∙ ap (λ l. getD l s false) (L j in-hs)
+    let words : sequence (2 ^ inputs b) (frames b) T (at + j) ≡ historyWords (2 ^ inputs b) (frames b) (at + j) =
+    ap (λ k. sequence (2 ^ inputs b) (frames b) k (at + j)) eT ∙ whole (2 ^ inputs b) (frames b) (at + j) in
+    sym (lane-at v j s)
+    ∙ sym (getD-take G (lane j v) s false (output-in b q (H .outputs-to) h))
+    ∙ ap (λ l. getD l s false) (L j l)
     ∙ ap (λ c. getD (signalValues b c (gates b)) s false) words
     ∙ sym (output-value b H q h (historyWords (2 ^ inputs b) (frames b) (at + j)))
 

@@ -3,6 +3,8 @@
 use blocks::first_of_blocks;
 use circuit::Head;
 use circuit::check_form;
+use lanes::first_uses;
+use lanes::neighbours;
 use lanes::room;
 use lanes::store_signals;
 use latest::first_reaching;
@@ -12,13 +14,11 @@ use verdict::Refusal;
 use verdict::Verdict;
 ghost use mathlib.Core.Path.{_≡_};
 ghost use mathlib.Core.Bool.{false};
-ghost use mathlib.Core.List.{[]};
 ghost use Prim.Native.Nat.{ℕ, _+_, _-_, _%_, _≤_, _<_};
 ghost use lib.ListN.{length, replicate};
 ghost use Rattle.verdict.specs.Judgements.{figures};
 ghost use Rattle.layered.specs.Search.{least};
 ghost use Rattle.circuit.specs.Limits.{mostSignals};
-ghost use Rattle.circuit.specs.Lists.{listed};
 ghost use Rattle.circuit.specs.Circuit.{allOutputs, looksAhead, lookAheadChecked, checked};
 ghost use Rattle.circuit.specs.WellFormed.{CircuitHeaded, WellFormed};
 ghost use Rattle.circuit.specs.Theorems.{FirstAhead, JudgedAlike, AcceptedCausal};
@@ -34,31 +34,19 @@ impl Limits {
 }
 
 // Room for the lanes of all outputs.
-fn output_room() -> [u64; Limits::OUTPUTS]
+fn output_room() -> [u32; Limits::OUTPUTS]
     ensures { λ r. ⌜ r ≡ replicate mostAllOutputs 0 ⌝ }
 {
     [0; Limits::OUTPUTS]
-}
-
-// The sequences from `at` on, as many as are played side by side.
-fn sequences(at: usize) -> [u16; lanes::Limits::LANES]
-    requires { ⌜ at + laneCount ≤ 65536 ⌝ }
-    ensures { λ r. ⌜ r ≡ listed [] (λ j. at + j) laneCount ⌝ }
-{
-    let mut part = [0; lanes::Limits::LANES];
-    for j in 0..lanes::Limits::LANES {
-        part[j] = (at + j) as u16;
-    }
-    part
 }
 
 // Compares the outputs from `from` to before `found` on the sequences of the part from `at` on, each with its value on the first sequence that
 // agrees up to its frame: the first output that differs, or `found`. `kept` has the lanes of these values, of the part before and then of this one.
 fn first_differing(
     circuit: &[u8],
-    lanes: &[u64],
+    lanes: &[u32],
     at: usize,
-    kept: &mut [u64],
+    kept: &mut [u32],
     from: usize,
     found: usize,
 ) -> usize
@@ -94,13 +82,14 @@ fn first_ahead(circuit: &[u8], head: Head, from: usize) -> usize
     let count = power(head.base - 1);
     let frames = head.frames;
     let total = head.total;
+    let firsts = first_uses(circuit, head);
     let mut lanes = room();
     let mut kept = output_room();
     let mut found = total;
     let mut at = 0;
     while at < count {
-        let part = sequences(at);
-        store_signals(circuit, head, frames, &part, &mut lanes);
+        let numbers = neighbours(at);
+        store_signals(circuit, head, frames, &numbers, &firsts, &mut lanes);
         found = first_differing(circuit, &lanes, at, &mut kept, from, found);
         if found == from {
             return found;

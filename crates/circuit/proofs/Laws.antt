@@ -3,20 +3,21 @@ use mathlib.Core.Path.{_≡_, refl, sym, ap, ap₂, _∙_}
 use mathlib.Core.Bool.{Bool, true, false, not, _&&_, cond}
 use mathlib.Core.List.{List, [], _∷_, _++_}
 use Prim.Native.Nat.{ℕ, zero, suc, _+_, _*_, _-_, _/_, _^_, _≤_, _<_}
-use native.Mathlib.Nat.{mul-comm, mul-zero, mul-suc, mul-le-mul-left, lt-of-lt-of-le, pow-suc}
+use native.Mathlib.Nat.{add-zero, mul-suc, mul-le-mul-left, lt-of-lt-of-le, pow-suc}
 use native.Mathlib.Numerals.{add-one}
 use native.Mathlib.Omega.{arith}
-use lib.ListN.{length, getD, take, drop, set, length-append, take-append-drop}
-use lib.Seq.{take-suc-set, getD-take, drop-cons, take-take, take-nil}
+use lib.ListN.{length, getD, take, drop, set, length-append}
+use lib.Seq.{take-suc, take-suc-set, getD-take, drop-cons, take-take, take-nil}
 use lib.Pow.{pow-mono}
 use lib.Dec.{lit<}
 use borrow.Author.Tests.{ltb-true, lt-ltb, le-ltb}
 use Rattle.words.specs.Words.{wordAt}
 use Rattle.sizes.specs.Sizes.{inputs, outputs, frames}
-use Rattle.circuit.specs.Lists.{grown, listed, packed}
-use Rattle.circuit.specs.Circuit.{gates, leftsAt, rightsAt, literalAt, allInputs, allOutputs, gateSignal, outputSignal, admissible, inputValues, literalValue, gateValue, signalValues, outputWord, outputWords}
+use Rattle.circuit.specs.Lists.{grown, packed}
+use Rattle.circuit.specs.Circuit.{gates, leftsAt, rightsAt, literalAt, allInputs, allOutputs, gateSignal, outputSignal, admissible, inputValues, literalValue, gateValue, signalValues, outputWord}
 use Rattle.circuit.specs.Limits.{circuitHead, mostSignals}
-use Rattle.circuit.specs.WellFormed.{CircuitHeaded, LegalGates, GateOf}
+use Rattle.circuit.specs.WellFormed.{CircuitHeaded, HeadOf, LegalGates, GateOf}
+use Rattle.circuit.specs.declared.Head.{Head}
 
 -- ---- literals
 
@@ -84,11 +85,6 @@ pub signals-fit : (b : List ℕ) → CircuitHeaded b → gateSignal b (gates b) 
 unfolding gateSignal
 signals-fit b h = omega arith
 
--- there is a word for each frame's inputs
-pub inputs-fit : (b : List ℕ) (n base k : ℕ) → n ≡ inputs b → base ≡ 1 + allInputs b → k ≡ frames b → base - 1 ≤ k * n
-unfolding allInputs
-inputs-fit b n base k en eb ek = rw (en, eb, ek, mul-comm (frames b) (inputs b)) (omega arith)
-
 -- ---- words of bits
 
 packed-lt : (l : List Bool) → packed l < 2 ^ length l
@@ -114,14 +110,20 @@ literal-take : (v : List Bool) (n l : ℕ) → l / 2 < n → literalValue (take 
 unfolding literalValue
 literal-take v n l h = rw (getD-take n v (l / 2) false h)
 
-pub values-more : (b words : List ℕ) (v : List Bool) (g n l r : ℕ) (x y z : Bool) → n < length v → take n v ≡ signalValues b words g
-    → l ≡ literalAt b (leftsAt b) g → r ≡ literalAt b (rightsAt b) g → l / 2 < n → r / 2 < n
-    → x ≡ literalValue v l → y ≡ literalValue v r → z ≡ (x && y)
-    → (j : ℕ) → j ≡ n + 1 → take j (set v n z) ≡ signalValues b words (g + 1)
-unfolding signalValues gateValue
-values-more b words v g n l r x y z room e el er hl hr ex ey ez j ej =
-    fill-grown (inputValues words (inputs b) (allInputs b)) (gateValue b) v n g z room e
-    (rw (← e, ← el, ← er, literal-take v n l hl, literal-take v n r hr, ← ex, ← ey) ez) j (g + 1) ej refl
+-- a list in which the inputs stand on a sequence, and each of the first k gates has the value that its literals give, has the values of these signals
+pub values-grow : (b words : List ℕ) (v : List Bool) → LegalGates b → gateSignal b (gates b) ≤ length v → take (1 + allInputs b) v ≡ inputValues words (inputs b) (allInputs b)
+    → (k : ℕ) → k ≤ gates b → ((g : ℕ) → g < k → getD v (gateSignal b g) false ≡ gateValue b v g) → take (gateSignal b k) v ≡ signalValues b words k
+unfolding signalValues grown gateValue gateSignal
+values-grow b words v L room I zero h e = rw (add-zero (1 + allInputs b)) I
+values-grow b words v L room I (suc k) h e =
+    let n = 1 + allInputs b + k in
+    let next : 1 + allInputs b + suc k ≡ suc n = omega arith in
+    let before = values-grow b words v L room I k (omega arith) (λ g l. e g (omega arith)) in
+    ap (λ i. take i v) next ∙ take-suc v n false (omega arith)
+    ∙ ap₂ (λ (s : List Bool) (x : Bool). s ++ (x ∷ [])) before
+    (e k (omega arith)
+    ∙ sym (ap₂ _&&_ (literal-take v n _ (signal-before b k _ n (L .left k h) refl)) (literal-take v n _ (signal-before b k _ n (L .right k h) refl)))
+    ∙ ap (λ s. gateValue b s k) before)
 
 -- ---- output words
 
@@ -142,24 +144,31 @@ module _ (b : List ℕ) where
   unfolding outputSignal gateSignal
   output-in q h l = omega arith
 
-  pub output-first : outputSignal b (outputs b * 0) ≡ 1 + allInputs b + (gates b - allOutputs b)
-  unfolding outputSignal gateSignal
-  output-first = omega (arith, mul-zero (outputs b))
-
-  pub output-next : (t : ℕ) → outputSignal b (outputs b * (t + 1)) ≡ outputSignal b (outputs b * t) + outputs b
-  unfolding outputSignal gateSignal
-  output-next t = rw (add-one t, mul-suc (outputs b) t) (omega arith)
-
   pub output-room : (t : ℕ) → allOutputs b ≤ gates b → t < frames b → outputSignal b (outputs b * t) + outputs b ≤ gateSignal b (gates b)
   unfolding outputSignal gateSignal allOutputs
   output-room t h l = omega (arith, mul-suc (outputs b) t, mul-le-mul-left (outputs b) l)
 
-  pub word-is : (words : List ℕ) (v : List Bool) (m at t : ℕ) → take (gateSignal b (gates b)) v ≡ signalValues b words (gates b) → m ≡ outputs b
+  word-is : (words : List ℕ) (v : List Bool) (m at t : ℕ) → take (gateSignal b (gates b)) v ≡ signalValues b words (gates b) → m ≡ outputs b
       → at ≡ outputSignal b (outputs b * t) → at + m ≤ gateSignal b (gates b) → packed (take m (drop at v)) ≡ outputWord b words t
   unfolding outputWord
   word-is words v m at t e em ea h = rw (← e, ← ea, ← em, window v (gateSignal b (gates b)) at m h)
 
-  pub all-written : (words l l₀ : List ℕ) (t : ℕ) → t ≡ frames b → take t l ≡ listed [] (outputWord b words) t → drop t l ≡ drop t l₀
-      → l ≡ outputWords b words ++ drop (frames b) l₀
-  unfolding outputWords
-  all-written words l l₀ t et e₁ e₂ = rw (← et, ← e₁, ← e₂) (sym (take-append-drop t l))
+-- the signal of the first output of frame t, from 0, as the code has it
+abbrev pub firstOutput : Head → (t : ℕ) → ℕ
+firstOutput head t = head .base + (head .gates - head .total) + head .outputs * t
+
+module _ (b : List ℕ) (head : Head) (H : CircuitHeaded b) (O : HeadOf b head) where
+  first-is : (t : ℕ) → firstOutput head t ≡ outputSignal b (outputs b * t)
+  first-is t = rw (O .outputs-is) (output-at b (head .base) (head .gates) (head .total) (outputs b * t) (O .base-is) (O .gates-is) (O .total-is))
+
+  -- the outputs of a frame are signals
+  are-signals : (t : ℕ) → t < frames b → firstOutput head t + head .outputs ≤ gateSignal b (gates b)
+  are-signals t h = omega (arith, first-is t, O .outputs-is, output-room b t (H .outputs-to) h)
+
+  pub outputs-fit : (t : ℕ) → t < frames b → firstOutput head t + head .outputs ≤ mostSignals
+  outputs-fit t h = omega (arith, are-signals t h, signals-fit b H)
+
+  -- the output word of frame t, where v begins with the values of all signals
+  pub frame-word : (words : List ℕ) (v : List Bool) (t : ℕ) → t < frames b → take (gateSignal b (gates b)) v ≡ signalValues b words (gates b)
+      → packed (take (head .outputs) (drop (firstOutput head t) v)) ≡ outputWord b words t
+  frame-word words v t h e = word-is b words v (head .outputs) (firstOutput head t) t e (O .outputs-is) (first-is t) (are-signals t h)

@@ -1,37 +1,39 @@
--- Laws of lanes: of the words that they are packed into, of the inputs of a history, and of signals. Assumes nothing.
-use mathlib.Core.Path.{_≡_, refl, sym, ap, ap₂, _∙_}
-use mathlib.Core.Bool.{Bool, true, false, not, cond}
-use mathlib.Core.List.{List, [], _∷_, map}
-use Prim.Native.Nat.{ℕ, zero, suc, _+_, _*_, _-_, _/_, _%_, _^_, _≤_, _<_}
-use native.Mathlib.Nat.{mod-lt, mul-comm, mul-suc, mul-le-mul-left, div-lt-iff-lt-mul}
+-- Laws of lanes: of the words that they are packed into, of the numbers of histories, of their inputs, and of signals. Assumes nothing.
+use mathlib.Core.Path.{_≡_, refl, sym, ap, ap₂, _∙_, subst}
+use mathlib.Core.Bool.{Bool, true, false, not, _&&_, cond, Bool·beq}
+use mathlib.Core.List.{List, [], _∷_, _++_, map, append-nil}
+use Prim.Native.Nat.{ℕ, zero, suc, _+_, _*_, _-_, _/_, _%_, _^_, _≤_, _<_, min, zero-le}
+use native.Mathlib.Nat.{mod-lt, mul-suc, mul-le-mul-left}
+use native.Mathlib.Decide.{ℕ-discrete, decLt}
 use native.Mathlib.Omega.{arith}
-use lib.Dec.{eqb}
-use lib.ListN.{length, getD, set, length-map}
-use lib.Pow.{pow-pos}
+use lib.Dec.{ltb, eqb}
+use lib.ListN.{length, getD, set, replicate, length-map, length-set, getD-replicate, List·getD-map, List·getD-append}
+use lib.Seq.{getD-append-add, getD-set-same, getD-set-other, set-getD, take-set-le}
+use borrow.Author.Tests.{eqb-true, lt-ltb}
 use lib.Bits.{bitAnd}
 use Rattle.sizes.specs.Sizes.{inputs, frames}
-use Rattle.layered.proofs.Rows.{pow-mul}
-use Rattle.circuit.specs.Lists.{grown, bit, packed}
-use Rattle.circuit.specs.Circuit.{gates, leftsAt, rightsAt, literalAt, allInputs, gateSignal, inputValues, literalValue, signalValues}
+use Rattle.layered.specs.Search.{every}
 use Rattle.layered.specs.Histories.{historyWords}
+use Rattle.layered.proofs.Rows.{pow-mul}
+use Rattle.layered.proofs.Search.{every-each}
+use Rattle.layered.proofs.Histories.{history-length, history-word}
+use Rattle.circuit.specs.Limits.{mostSignals}
+use Rattle.circuit.specs.Lists.{grown, bit, packed}
+use Rattle.circuit.specs.Circuit.{gates, leftsAt, rightsAt, literalAt, allInputs, gateSignal, inputValues, literalValue, gateValue}
+use Rattle.circuit.specs.WellFormed.{LegalGates}
+use Rattle.circuit.proofs.Ahead.{beq-same}
 use Rattle.circuit.proofs.Bits.{digit, bit-none, bit-packed}
-use Rattle.layered.proofs.Histories.{history-word, history-zeros}
-use Rattle.circuit.proofs.Laws.{fill-grown, values-more}
-use Rattle.lanes.specs.Lanes.{lane, literalLanes, sequence, Lanes, SignalLanes}
-use Rattle.lanes.proofs.Bits.{bit-and, bit-not, bit-part}
+use Rattle.circuit.proofs.Laws.{fill-grown, signal-before, values-grow}
+use Rattle.lanes.specs.Limits.{laneBits, laneCount}
+use Rattle.lanes.specs.Lanes.{lane, literalLanes, sequence, Lanes, Settled, Ready, Unnamed, FirstUses, SignalLanes}
+use Rattle.lanes.proofs.Bits.{bit-and, bit-not, bit-part, bit-low, bit-high}
 
--- ---- an element of a list under a function
+-- ---- a lane of a list
 
-module _ {A B : Type 0} (f : A → B) where
-  map-at : (l : List A) (j : ℕ) (d : A) (e : B) → j < length l → getD (map f l) j e ≡ f (getD l j d)
-  map-at [] j d e h = absurd (omega arith)
-  map-at (x ∷ l) zero d e h = refl
-  map-at (x ∷ l) (suc j) d e h = map-at l j d e (omega arith)
-
-  map-set : (l : List A) (j : ℕ) (x : A) → map f (set l j x) ≡ set (map f l) j (f x)
-  map-set [] j x = refl
-  map-set (y ∷ l) zero x = refl
-  map-set (y ∷ l) (suc j) x = ap (λ s. f y ∷ s) (map-set l j x)
+map-set : {A B : Type 0} (f : A → B) (l : List A) (j : ℕ) (x : A) → map f (set l j x) ≡ set (map f l) j (f x)
+map-set f [] j x = refl
+map-set f (y ∷ l) zero x = refl
+map-set f (y ∷ l) (suc j) x = ap (λ s. f y ∷ s) (map-set f l j x)
 
 lane-set : (v : List ℕ) (n x j : ℕ) → lane j (set v n x) ≡ set (lane j v) n (bit x j)
 unfolding lane
@@ -41,101 +43,291 @@ pub lane-length : (v : List ℕ) (j : ℕ) → length (lane j v) ≡ length v
 unfolding lane
 lane-length v j = length-map v (λ y. bit y j)
 
-pub lane-at : (v : List ℕ) (j s : ℕ) → s < length v → getD (lane j v) s false ≡ bit (getD v s 0) j
+pub lane-at : (v : List ℕ) (j s : ℕ) → getD (lane j v) s false ≡ bit (getD v s 0) j
 unfolding lane
-lane-at v j s h = map-at (λ y. bit y j) v s 0 false h
+lane-at v j s = ap (getD (map (λ y. bit y j) v) s) (sym (bit-none j)) ∙ List·getD-map (λ y. bit y j) v s 0
 
 -- the digit that is packed next, as the code has it
-pub digit-is : (f : ℕ → ℕ) (v : List ℕ) (i j : ℕ) → i < length v → f (getD v i 0) / 2 ^ j % 2 ≡ cond (getD (map (λ x. bit (f x) j) v) i false) 1 0
+pub digit-is : (v : List ℕ) (i j : ℕ) → getD v i 0 / 2 ^ j % 2 ≡ cond (getD (lane j v) i false) 1 0
 unfolding bit
-digit-is f v i j h = sym (digit (f (getD v i 0) / 2 ^ j)) ∙ ap (λ y. cond y 1 0) (sym (map-at (λ x. bit (f x) j) v i 0 false h))
+digit-is v i j = sym (digit (getD v i 0 / 2 ^ j)) ∙ ap (λ y. cond y 1 0) (sym (lane-at v j i))
+
+-- ---- numbers in lanes
+
+-- of the bits before bit k
+abbrev pub PlacesTo : (v : List ℕ) (k : ℕ) (h : ℕ → ℕ) → Type 0
+PlacesTo v k h = (j p : ℕ) → j < laneCount → p < k → bit (getD v p 0) j ≡ bit (h j) p
+
+-- one bit more
+pub places-more : (v : List ℕ) (k x : ℕ) (h : ℕ → ℕ) → k < length v → PlacesTo v k h → ((j : ℕ) → j < laneCount → bit x j ≡ bit (h j) k) → PlacesTo (set v k x) (k + 1) h
+places-more v k x h room P X j p lj lp = go (decLt p k)
+  where
+    go : Dec (p < k) → bit (getD (set v k x) p 0) j ≡ bit (h j) p
+    go (yes l) = rw (getD-set-other v k p x 0 (λ e. omega arith)) (P j p lj l)
+    go (no n) =
+        let e : p ≡ k = omega arith in
+        rw (e, getD-set-same v k x 0 room) (X j lj)
+
+-- bit p of the numbers, one to a lane
+pub gathered : (hs : List ℕ) (x p j : ℕ) → x ≡ packed (lane p hs) → bit x j ≡ bit (getD hs j 0) p
+gathered hs x p j e = ap (λ y. bit y j) e ∙ bit-packed (lane p hs) j ∙ lane-at hs p j
+
+-- ---- neighbours: the numbers from a multiple of laneCount on
+
+-- number p of the table has bit p of 0, 1, .. in its lanes
+unfoldable pub Counts : (table : List ℕ) → Type 0
+Counts table = every laneBits (λ p. every laneCount (λ j. Bool·beq (bit (getD table p 0) j) (bit j p))) ≡ true
+
+pub counting-bit : (table : List ℕ) → Counts table → (p j : ℕ) → p < laneBits → j < laneCount → bit (getD table p 0) j ≡ bit j p
+unfolding Counts
+counting-bit table e p j lp lj = beq-same _ _ (every-each _ laneCount (every-each _ laneBits e p lp) j lj)
+
+-- a low bit is that of the lane's own number
+pub near-low : (at j p : ℕ) → at % laneCount ≡ 0 → j < laneCount → p < laneBits → bit (at + j) p ≡ bit j p
+near-low at j p e lj lp = let r : (at + j) % laneCount ≡ j = omega arith in bit-low (at + j) laneBits p lp ∙ ap (λ x. bit x p) r
+
+-- a higher bit is that of the first
+pub near-high : (at j p : ℕ) → at % laneCount ≡ 0 → j < laneCount → laneBits ≤ p → bit (at + j) p ≡ bit at p
+near-high at j p e lj lp =
+    let d : p ≡ laneBits + (p - laneBits) = omega arith in
+    let q : (at + j) / laneCount ≡ at / laneCount = omega arith in
+    ap (bit (at + j)) d ∙ bit-high (at + j) laneBits (p - laneBits) ∙ ap (λ x. bit x (p - laneBits)) q ∙ sym (ap (bit at) d ∙ bit-high at laneBits (p - laneBits))
 
 -- ---- inputs
 
 -- where the bit of input i stands in the number of a history
-pub place-in : (n T i : ℕ) → 1 ≤ n → i < n * T → (i / n < T) × (n * (T - 1 - i / n) + i % n < n * T)
-place-in n T i hn hi =
-    let f< : i / n < T = div-lt-iff-lt-mul {k = n} (omega arith) .1 (rw (mul-comm n T) at hi) in
-    let whole : n * suc (T - 1 - i / n) ≤ n * T = mul-le-mul-left n (omega arith) in
-    (f<, omega (arith, mul-suc n (T - 1 - i / n), mod-lt i {m = n} (omega arith)))
+pub place-in : (n t i : ℕ) → 1 ≤ n → i / n < t → n * (t - 1 - i / n) + i % n < n * t
+place-in n t i hn hi =
+    let whole : n * suc (t - 1 - i / n) ≤ n * t = mul-le-mul-left n (omega arith) in
+    omega (arith, mul-suc n (t - 1 - i / n), mod-lt i {m = n} (omega arith))
 
 -- input i of a history is a bit of its number
-input-bit : (n T t h i : ℕ) → 1 ≤ n → t ≤ T → i < n * T
-    → bit (getD (sequence (2 ^ n) T t h) (i / n) 0) (i % n) ≡ bit (h * 2 ^ (n * (T - t))) (n * (T - 1 - i / n) + i % n)
-input-bit n T t h i hn ht hi =
-    let K = 2 ^ n in
-    let x = h * 2 ^ (n * (T - t)) in
-    let f = i / n in
-    let whole : t + (T - t) ≡ T = omega arith in
-    let f< : f < T = place-in n T i hn hi .0 in
-    let words : sequence K T t h ≡ historyWords K T x =
-    sym (history-zeros K (pow-pos n) t h (T - t)) ∙ ap₂ (historyWords K) whole (ap (λ k. h * k) (sym (pow-mul 2 n (T - t)))) in
-    ap (λ s. bit (getD s f 0) (i % n)) words
-    ∙ ap (λ w. bit w (i % n)) (history-word K (T - 1 - f) T x f (omega arith) ∙ ap (λ k. x / k % K) (sym (pow-mul 2 n (T - 1 - f))))
-    ∙ bit-part x (n * (T - 1 - f)) n (i % n) (mod-lt i (omega arith))
+module _ (n T t h i : ℕ) (hn : 1 ≤ n) (ht : t ≤ T) where
+  pub input-bit : i / n < t → bit (getD (sequence (2 ^ n) T t h) (i / n) 0) (i % n) ≡ bit h (n * (t - 1 - i / n) + i % n)
+  input-bit hi =
+      let K = 2 ^ n in
+      let f = i / n in
+      ap (λ w. bit w (i % n))
+      (List·getD-append (historyWords K t h) (replicate (T - t) 0) 0 f (omega (arith, history-length K t h))
+      ∙ history-word K (t - 1 - f) t h f (omega arith) ∙ ap (λ k. h / k % K) (sym (pow-mul 2 n (t - 1 - f))))
+      ∙ bit-part h (n * (t - 1 - f)) n (i % n) (mod-lt i (omega arith))
 
-module _ (hs : List ℕ) (n T t : ℕ) where
+  -- after the history come zero words
+  pub input-none : t ≤ i / n → bit (getD (sequence (2 ^ n) T t h) (i / n) 0) (i % n) ≡ false
+  input-none hi =
+      let c = historyWords (2 ^ n) t h in
+      let z : List ℕ = replicate (T - t) 0 in
+      let k = i / n - t in
+      let e : i / n ≡ length c + k = omega (arith, history-length (2 ^ n) t h) in
+      ap (λ w. bit w (i % n)) (ap (λ x. getD (c ++ z) x 0) e ∙ getD-append-add c z k 0 ∙ zeros (T - t) k) ∙ bit-none (i % n)
+    where
+      zeros : (d k : ℕ) → getD {A = ℕ} (replicate d 0) k 0 ≡ 0
+      zeros zero k = refl
+      zeros (suc d) zero = refl
+      zeros (suc d) (suc k) = zeros d k
+
+-- a whole sequence has no zero words after it
+pub whole : (K T x : ℕ) → sequence K T T x ≡ historyWords K T x
+whole K T x =
+    let z : T - T ≡ 0 = omega arith in
+    ap (λ k. historyWords K T x ++ replicate k 0) z ∙ append-nil (historyWords K T x)
+
+module _ (n T t : ℕ) (h : ℕ → ℕ) where
+  -- the values of the first inputs on the history in lane j
+  abbrev pub inputsOn : (i j : ℕ) → List Bool
+  inputsOn i j = inputValues (sequence (2 ^ n) T t (h j)) n i
+
   -- only the constant is stored
-  pub inputs-none : (v : List ℕ) → 0 < length v → Lanes hs (set v 0 0) (1 + 0) (λ h. inputValues (sequence (2 ^ n) T t h) n 0)
+  pub inputs-none : (v : List ℕ) → 0 < length v → Lanes (set v 0 0) (1 + 0) (inputsOn 0)
   unfolding Lanes lane inputValues grown
   inputs-none [] p j hj = absurd (omega arith)
   inputs-none (x ∷ v) p j hj = ap (λ y. y ∷ []) (bit-none j)
 
   -- the lanes of one input more are stored
-  pub inputs-more : (v : List ℕ) (i x : ℕ) → 1 ≤ n → t ≤ T → i < n * T → 1 + i < length v
-      → Lanes hs v (1 + i) (λ h. inputValues (sequence (2 ^ n) T t h) n i)
-      → x ≡ packed (map (λ h. bit (h * 2 ^ (n * (T - t))) (n * (T - 1 - i / n) + i % n)) hs)
-      → Lanes hs (set v (1 + i) x) (1 + (i + 1)) (λ h. inputValues (sequence (2 ^ n) T t h) n (i + 1))
+  pub inputs-more : (v : List ℕ) (i x : ℕ) → 1 + i < length v → Lanes v (1 + i) (inputsOn i)
+      → ((j : ℕ) → j < laneCount → bit x j ≡ bit (getD (sequence (2 ^ n) T t (h j)) (i / n) 0) (i % n))
+      → Lanes (set v (1 + i) x) (1 + (i + 1)) (inputsOn (i + 1))
   unfolding Lanes inputValues
-  inputs-more v i x hn ht hi room L ex j hj =
-      let h = getD hs j 0 in
+  inputs-more v i x room L ex j hj =
       rw (lane-set v (1 + i) x j)
-      (fill-grown (false ∷ []) (λ _ k. bit (getD (sequence (2 ^ n) T t h) (k / n) 0) (k % n)) (lane j v) (1 + i) i (bit x j)
-      (omega (arith, lane-length v j)) (L j hj)
-      (ap (λ y. bit y j) ex ∙ bit-packed (map (λ h. bit (h * 2 ^ (n * (T - t))) (n * (T - 1 - i / n) + i % n)) hs) j
-      ∙ map-at (λ h. bit (h * 2 ^ (n * (T - t))) (n * (T - 1 - i / n) + i % n)) hs j 0 false hj ∙ sym (input-bit n T t h i hn ht hi))
-      (1 + (i + 1)) (i + 1) (omega arith) refl)
+      (fill-grown (false ∷ []) (λ _ k. bit (getD (sequence (2 ^ n) T t (h j)) (k / n) 0) (k % n)) (lane j v) (1 + i) i (bit x j)
+      (omega (arith, lane-length v j)) (L j hj) (ex j hj) (1 + (i + 1)) (i + 1) (omega arith) refl)
 
 -- ---- signals
 
 -- lane j of a literal
-literal-bit : (v : List ℕ) (l j x : ℕ) → l / 2 < length v → getD v (l / 2) 0 < 2 ^ 64 → j < 64 → x ≡ literalLanes (getD v (l / 2) 0) l
-    → bit x j ≡ literalValue (lane j v) l
-unfolding literalLanes literalValue lane
-literal-bit v l j x h w hj ex =
-    rw (ex, map-at (λ y. bit y j) v (l / 2) 0 false h) (go (eqb (l % 2) 1))
+literal-bit : (v : List ℕ) (l j x : ℕ) → getD v (l / 2) 0 < 2 ^ laneCount → j < laneCount → x ≡ literalLanes (getD v (l / 2) 0) l → bit x j ≡ literalValue (lane j v) l
+unfolding literalLanes literalValue
+literal-bit v l j x w hj ex =
+    rw (ex, lane-at v j (l / 2)) (go (eqb (l % 2) 1))
   where
-    go : (s : Bool) → bit (cond s (2 ^ 64 - 1 - getD v (l / 2) 0) (getD v (l / 2) 0)) j ≡ cond s (not (bit (getD v (l / 2) 0) j)) (bit (getD v (l / 2) 0) j)
-    go true = bit-not (getD v (l / 2) 0) j 64 hj w
+    go : (s : Bool) → bit (cond s (2 ^ laneCount - 1 - getD v (l / 2) 0) (getD v (l / 2) 0)) j ≡ cond s (not (bit (getD v (l / 2) 0) j)) (bit (getD v (l / 2) 0) j)
+    go true = bit-not (getD v (l / 2) 0) j laneCount hj w
     go false = refl
 
--- on the history h of t words: the values of the first g gates, and of all signals before them
-abbrev pub valuesOn : List ℕ → (t g h : ℕ) → List Bool
-valuesOn b t g h = signalValues b (sequence (2 ^ inputs b) (frames b) t h) g
+-- ---- gates
 
 pub inputs-are : (b : List ℕ) (n T : ℕ) → n ≡ inputs b → T ≡ frames b → n * T ≡ allInputs b
 unfolding allInputs
 inputs-are b n T en eT = rw (en, eT)
 
-module _ (b hs : List ℕ) (t : ℕ) where
-  pub gates-none : (v : List ℕ) (n T base : ℕ) → n ≡ inputs b → T ≡ frames b → base ≡ 1 + allInputs b
-      → Lanes hs v (1 + n * T) (λ h. inputValues (sequence (2 ^ n) T t h) n (n * T)) → Lanes hs v (base + 0) (valuesOn b t 0)
-  unfolding Lanes signalValues grown allInputs
-  gates-none v n T base en eT eb L j hj =
-      let e : base + 0 ≡ 1 + inputs b * frames b = omega arith in
-      rw e (rw (en, eT) at (L j hj))
+-- the first gate that may have another value never rises
+pub lower : (before after k first : ℕ) {r n : ℕ} → r ≡ cond (eqb before after) k (min k first) → k ≤ n → r ≤ n
+lower before after k first {r} {n} e h = go (eqb before after) e
+  where
+    go : (t : Bool) → r ≡ cond t k (min k first) → r ≤ n
+    go true q = omega arith
+    go false q = omega arith
 
-  pub gates-more : (v : List ℕ) (g n l r x y : ℕ) → length hs ≤ 64 → n < length v → Lanes hs v n (valuesOn b t g)
-      → l ≡ literalAt b (leftsAt b) g → r ≡ literalAt b (rightsAt b) g → l / 2 < n → r / 2 < n
-      → getD v (l / 2) 0 < 2 ^ 64 → getD v (r / 2) 0 < 2 ^ 64 → x ≡ literalLanes (getD v (l / 2) 0) l → y ≡ literalLanes (getD v (r / 2) 0) r
-      → (k : ℕ) → k ≡ n + 1 → Lanes hs (set v n (bitAnd x y)) k (valuesOn b t (g + 1))
+module _ (b : List ℕ) where
+  -- a gate that does not name a signal does not see it
+  gate-other : (v : List Bool) (s g : ℕ) (x : Bool) → Unnamed b s g → gateValue b (set v s x) g ≡ gateValue b v g
+  unfolding gateValue literalValue
+  gate-other v s g x u = rw (getD-set-other v s (literalAt b (leftsAt b) g / 2) x false (u .0), getD-set-other v s (literalAt b (rightsAt b) g / 2) x false (u .1))
+
+  -- the lanes of its literals give a gate's
+  gate-lanes : (v : List ℕ) (g l r x y j : ℕ) → j < laneCount → l ≡ literalAt b (leftsAt b) g → r ≡ literalAt b (rightsAt b) g
+      → getD v (l / 2) 0 < 2 ^ laneCount → getD v (r / 2) 0 < 2 ^ laneCount → x ≡ literalLanes (getD v (l / 2) 0) l → y ≡ literalLanes (getD v (r / 2) 0) r
+      → bit (bitAnd x y) j ≡ gateValue b (lane j v) g
+  unfolding gateValue
+  gate-lanes v g l r x y j lj el er wl wr ex ey =
+      bit-and x y j
+      ∙ ap₂ _&&_ (literal-bit v l j x wl lj ex ∙ ap (literalValue (lane j v)) el) (literal-bit v r j y wr lj ey ∙ ap (literalValue (lane j v)) er)
+
+  -- a signal that is stored is none of the first k gates, nor do they name it
+  settled-other : (v : List ℕ) (k s x : ℕ) → ((g : ℕ) → g < k → ¬ (gateSignal b g ≡ s)) → ((g : ℕ) → g < k → Unnamed b s g) → Settled b v k → Settled b (set v s x) k
+  unfolding Settled
+  settled-other v k s x none other S g j lg lj =
+      rw (getD-set-other v s (gateSignal b g) x 0 (none g lg), lane-set v s x j) (S g j lg lj ∙ sym (gate-other (lane j v) s g (bit x j) (other g lg)))
+
+  settled-fewer : (v : List ℕ) (k i : ℕ) → i ≤ k → Settled b v k → Settled b v i
+  unfolding Settled
+  settled-fewer v k i h S g j lg lj = S g j (omega arith) lj
+
+  -- the constant is stored: in room that was not used yet no gate is settled
+  pub settled-used : (v : List ℕ) (k : ℕ) → Ready b v → k ≡ gates b → getD v 0 0 ≡ 0 → Settled b (set v 0 0) k
+  settled-used v k R e z = rw e (subst (λ l. Settled b l (gates b)) (sym (ap (set v 0) (sym z) ∙ set-getD v 0 0)) (R z))
+
+  pub settled-none : (v : List ℕ) → Settled b v 0
+  unfolding Settled
+  settled-none v g j lg lj = absurd (omega arith)
+
+  -- an input is stored; r is the first gate that may have another value
+  pub settled-input : (v firsts : List ℕ) (k s x r : ℕ) → s < 1 + allInputs b → FirstUses b 0 firsts → r ≡ cond (eqb (getD v s 0) x) k (min k (getD firsts s 0))
+      → Settled b v k → Settled b (set v s x) r
+  unfolding FirstUses gateSignal
+  settled-input v firsts k s x r hs F er S = go (eqb (getD v s 0) x) refl er
+    where
+      go : (t : Bool) → eqb (getD v s 0) x ≡ t → r ≡ cond t k (min k (getD firsts s 0)) → Settled b (set v s x) r
+      go true e q = rw (q, ← eqb-true (getD v s 0) x e, set-getD v s 0) S
+      go false e q =
+          settled-other v r s x (λ g l. λ y. omega arith) (λ g l. F s g hs (omega arith) (omega arith)) (settled-fewer v k r (omega arith) S)
+
+  -- the lanes of one gate more are stored
+  pub settled-more : LegalGates b → (v : List ℕ) (g n l r x y : ℕ) → g < gates b → n ≡ 1 + allInputs b + g → n < length v → Settled b v g
+      → l ≡ literalAt b (leftsAt b) g → r ≡ literalAt b (rightsAt b) g
+      → getD v (l / 2) 0 < 2 ^ laneCount → getD v (r / 2) 0 < 2 ^ laneCount → x ≡ literalLanes (getD v (l / 2) 0) l → y ≡ literalLanes (getD v (r / 2) 0) r
+      → Settled b (set v n (bitAnd x y)) (g + 1)
+  unfolding Settled gateSignal
+  settled-more L v g n l r x y hg en room S el er wl wr ex ey i j li lj = go (decLt i g)
+    where
+      -- no gate up to g names the signal of gate g
+      unnamed : (i : ℕ) → i ≤ g → Unnamed b n i
+      unnamed i h = (
+        λ e. omega (arith, signal-before b i _ _ (L .left i (omega arith)) refl),
+        λ e. omega (arith, signal-before b i _ _ (L .right i (omega arith)) refl),
+      )
+
+      go : Dec (i < g) → bit (getD (set v n (bitAnd x y)) (1 + allInputs b + i) 0) j ≡ gateValue b (lane j (set v n (bitAnd x y))) i
+      go (yes h) = settled-other v g n (bitAnd x y) (λ k l q. omega arith) (λ k l. unnamed k (omega arith)) S i j h lj
+      go (no h) =
+          let e : i ≡ g = omega arith in
+          rw (e, ← en, getD-set-same v n (bitAnd x y) 0 room, lane-set v n (bitAnd x y) j) (gate-lanes v g l r x y j lj el er wl wr ex ey ∙ sym (gate-other (lane j v) n g (bit (bitAnd x y) j) (unnamed g (omega arith))))
+
+-- the values of all inputs on the history in lane j
+abbrev pub inputsOf : List ℕ → (t : ℕ) (h : ℕ → ℕ) (j : ℕ) → List Bool
+inputsOf b t h j = inputsOn (inputs b) (frames b) t h (allInputs b) j
+
+module _ (b : List ℕ) (t : ℕ) (h : ℕ → ℕ) (v : List ℕ) where
+  -- as the code has them
+  pub inputs-stored : (n T base : ℕ) → n ≡ inputs b → T ≡ frames b → base ≡ 1 + allInputs b → Lanes v (1 + n * T) (inputsOn n T t h (n * T)) → Lanes v base (inputsOf b t h)
+  unfolding allInputs
+  inputs-stored n T base en eT eb L = rw eb (rw (en, eT) at L)
+
+  -- a later signal is stored
+  pub inputs-kept : (base n x : ℕ) → base ≤ n → Lanes v base (inputsOf b t h) → Lanes (set v n x) base (inputsOf b t h)
   unfolding Lanes
-  gates-more v g n l r x y few room L el er hl hr wl wr ex ey k ek j hj =
-      let s = sequence (2 ^ inputs b) (frames b) t (getD hs j 0) in
-      rw (lane-set v n (bitAnd x y) j)
-      (values-more b s (lane j v) g n l r (bit x j) (bit y j) (bit (bitAnd x y) j) (omega (arith, lane-length v j)) (L j hj) el er hl hr
-      (literal-bit v l j x (omega arith) wl (omega arith) ex) (literal-bit v r j y (omega arith) wr (omega arith) ey) (bit-and x y j) k ek)
+  inputs-kept base n x e L j hj = rw (lane-set v n x j, take-set-le base (lane j v) n (bit x j) e) (L j hj)
 
-  pub gates-all : (v : List ℕ) (base g : ℕ) → base ≡ 1 + allInputs b → g ≡ gates b → Lanes hs v (base + g) (valuesOn b t g) → SignalLanes b t hs v
-  unfolding Lanes gateSignal
-  gates-all v base g eb eg L j hj = rw (← eb, ← eg) (L j hj)
+-- once all gates are settled, each lane has the values of all signals
+pub settled-signals : (b : List ℕ) → LegalGates b → (t : ℕ) (h : ℕ → ℕ) (v : List ℕ) → gateSignal b (gates b) ≤ length v → Settled b v (gates b)
+    → (base : ℕ) → base ≡ 1 + allInputs b → Lanes v base (inputsOf b t h) → SignalLanes b t h v
+unfolding Settled Lanes
+settled-signals b L t h v room S base eb I j lj =
+    values-grow b (sequence (2 ^ inputs b) (frames b) t (h j)) (lane j v) L (omega (arith, lane-length v j)) (rw (← eb) (I j lj)) (gates b) (omega arith)
+    (λ g l. lane-at v j (gateSignal b g) ∙ S g j l lj)
+
+-- room that was not used yet is ready for any circuit
+pub room-ready : (b v : List ℕ) → v ≡ replicate mostSignals 1 → Ready b v
+room-ready b v e z =
+    let one : getD v 0 0 ≡ 1 = ap (λ l. getD l 0 0) e ∙ getD-replicate mostSignals 0 1 0 (omega arith) in
+    absurd (omega arith)
+
+-- ---- the first gates that name the inputs
+
+-- gate g names the literal l
+abbrev pub noted : (firsts : List ℕ) (base l g : ℕ) → List ℕ
+noted firsts base l g = cond (ltb (l / 2) base) (set firsts (l / 2) g) firsts
+
+module _ (f : List ℕ) (base l g s : ℕ) (hs : s < base) (room : base ≤ length f) where
+  noted-named : l / 2 ≡ s → getD (noted f base l g) s 0 ≡ g
+  noted-named e = rw (lt-ltb (l / 2) base (omega arith), e) (getD-set-same f s g 0 (omega arith))
+
+  noted-other : ¬ (l / 2 ≡ s) → getD (noted f base l g) s 0 ≡ getD f s 0
+  noted-other n = go (ltb (l / 2) base)
+    where
+      go : (t : Bool) → getD (cond t (set f (l / 2) g) f) s 0 ≡ getD f s 0
+      go true = getD-set-other f (l / 2) s g 0 (λ e. n (sym e))
+      go false = refl
+
+  pub noted-length : length (noted f base l g) ≡ length f
+  noted-length = go (ltb (l / 2) base)
+    where
+      go : (t : Bool) → length (cond t (set f (l / 2) g) f) ≡ length f
+      go true = length-set f (l / 2) g
+      go false = refl
+
+-- nothing is noted yet
+pub uses-none : (b : List ℕ) (n from : ℕ) → FirstUses b from (replicate n from)
+unfolding FirstUses
+uses-none b n from s g hs lo hi = absurd (omega (arith, at-most n s))
+  where
+    at-most : (n s : ℕ) → getD (replicate n from) s 0 ≤ from
+    at-most zero s = zero-le
+    at-most (suc n) zero = omega arith
+    at-most (suc n) (suc s) = at-most n s
+
+pub uses-more : (b f f′ : List ℕ) (base l r g : ℕ) → base ≡ 1 + allInputs b → base ≤ length f → l ≡ literalAt b (leftsAt b) g → r ≡ literalAt b (rightsAt b) g
+    → f′ ≡ noted (noted f base l g) base r g → FirstUses b (suc g) f → FirstUses b g f′
+unfolding FirstUses
+uses-more b f f′ base l r g eb room el er ef F s i hs lo hi = go (ℕ-discrete (l / 2) s) (ℕ-discrete (r / 2) s) (decLt g i)
+  where
+    in-base : s < base
+    in-base = omega arith
+
+    once : List ℕ
+    once = noted f base l g
+
+    long : base ≤ length once
+    long = omega (arith, noted-length f base l g s in-base room)
+
+    is : (x : ℕ) → getD (noted once base r g) s 0 ≡ x → i < x
+    is x e = subst (λ y. i < y) e (subst (λ k. i < getD k s 0) ef hi)
+
+    go : Dec (l / 2 ≡ s) → Dec (r / 2 ≡ s) → Dec (g < i) → Unnamed b s i
+    go named (yes q) later = absurd (omega (arith, is g (noted-named once base r g s in-base long q)))
+    go (yes p) (no q) later = absurd (omega (arith, is g (noted-other once base r g s in-base long q ∙ noted-named f base l g s in-base room p)))
+    go (no p) (no q) (yes h) = F s i hs h (is _ (noted-other once base r g s in-base long q ∙ noted-other f base l g s in-base room p))
+    go (no p) (no q) (no h) =
+        let e : i ≡ g = omega arith in
+        rw (e, ← el, ← er) (p, q)

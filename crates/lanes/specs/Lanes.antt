@@ -1,13 +1,14 @@
--- Lanes: the values of signals on several histories at once.
-use Prim.Native.Nat.{ℕ, _-_, _%_, _^_, _<_}
+-- Lanes: the values of signals on several sequences at once.
+use Prim.Native.Nat.{ℕ, _+_, _-_, _/_, _%_, _^_, _≤_, _<_}
 use mathlib.Core.Path.{_≡_}
 use mathlib.Core.Bool.{Bool, cond}
 use mathlib.Core.List.{List, _++_, map}
-use lib.ListN.{length, getD, take, replicate}
+use lib.ListN.{getD, take, replicate}
 use lib.Dec.{eqb}
+use Rattle.sizes.specs.Limits.{mostBits}
 use Rattle.sizes.specs.Sizes.{inputs, frames}
 use Rattle.circuit.specs.Lists.{bit}
-use Rattle.circuit.specs.Circuit.{gates, gateSignal, signalValues}
+use Rattle.circuit.specs.Circuit.{gates, leftsAt, rightsAt, literalAt, allInputs, gateSignal, gateValue, signalValues}
 use Rattle.layered.specs.Histories.{historyWords}
 use Rattle.lanes.specs.Limits.{laneCount}
 
@@ -23,10 +24,30 @@ literalLanes x literal = cond (eqb (literal % 2) 1) (2 ^ laneCount - 1 - x) x
 abbrev pub sequence : (K T t h : ℕ) → List ℕ
 sequence K T t h = historyWords K t h ++ replicate (T - t) 0
 
--- in the first k numbers of v, lane j holds the values that history j has
-unfoldable pub Lanes : (histories v : List ℕ) (k : ℕ) (values : ℕ → List Bool) → Type 0
-Lanes histories v k values = (j : ℕ) → j < length histories → take k (lane j v) ≡ values (getD histories j 0)
+-- lane j of v is the number h j: number p of v has its bit p
+unfoldable pub NumberLanes : (v : List ℕ) (h : ℕ → ℕ) → Type 0
+NumberLanes v h = (j p : ℕ) → j < laneCount → p < mostBits → bit (getD v p 0) j ≡ bit (h j) p
 
--- lane j of v holds the values of all signals on history j of t words
-abbrev pub SignalLanes : List ℕ → (t : ℕ) (histories v : List ℕ) → Type 0
-SignalLanes b t histories v = Lanes histories v (gateSignal b (gates b)) (λ h. signalValues b (sequence (2 ^ inputs b) (frames b) t h) (gates b))
+-- in the first k numbers of v, lane j holds these values
+unfoldable pub Lanes : (v : List ℕ) (k : ℕ) (values : ℕ → List Bool) → Type 0
+Lanes v k values = (j : ℕ) → j < laneCount → take k (lane j v) ≡ values j
+
+-- the first k gates have in each lane the value that their literals give
+unfoldable pub Settled : List ℕ → (v : List ℕ) (k : ℕ) → Type 0
+Settled b v k = (g j : ℕ) → g < k → j < laneCount → bit (getD v (gateSignal b g) 0) j ≡ gateValue b (lane j v) g
+
+-- all gates have; where the constant's number is not zero, v is room that was not used yet
+abbrev pub Ready : List ℕ → (v : List ℕ) → Type 0
+Ready b v = getD v 0 0 ≡ 0 → Settled b v (gates b)
+
+-- gate g does not name signal s
+abbrev pub Unnamed : List ℕ → (s g : ℕ) → Type 0
+Unnamed b s g = ¬ (literalAt b (leftsAt b) g / 2 ≡ s) × ¬ (literalAt b (rightsAt b) g / 2 ≡ s)
+
+-- no gate from gate `from` to before the one that `firsts` has for signal s names s
+unfoldable pub FirstUses : List ℕ → (from : ℕ) (firsts : List ℕ) → Type 0
+FirstUses b from firsts = (s g : ℕ) → s < 1 + allInputs b → from ≤ g → g < getD firsts s 0 → Unnamed b s g
+
+-- lane j of v holds the values of all signals on the history h j of t words
+abbrev pub SignalLanes : List ℕ → (t : ℕ) (h : ℕ → ℕ) (v : List ℕ) → Type 0
+SignalLanes b t h v = Lanes v (gateSignal b (gates b)) (λ j. signalValues b (sequence (2 ^ inputs b) (frames b) t (h j)) (gates b))

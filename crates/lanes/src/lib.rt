@@ -1,10 +1,13 @@
-// A circuit on several histories side by side: of each signal there is a number whose bit j, its lane j, is the signal's value on history j.
+// A circuit on several sequences side by side: of each signal there is a number whose bit j, its lane j, is the signal's value on sequence j.
 use circuit::Head;
+use circuit::is_set;
 use circuit::read_gate;
 ghost use mathlib.Core.Path.{_≡_};
-ghost use mathlib.Core.List.{[], map};
-ghost use Prim.Native.Nat.{_+_, _*_, _-_, _^_, _≤_, _<_};
-ghost use lib.ListN.{length, take, drop, replicate};
+ghost use mathlib.Core.Bool.{cond};
+ghost use mathlib.Core.List.{List, []};
+ghost use Prim.Native.Nat.{ℕ, _+_, _*_, _/_, _%_, _^_, _≤_, _<_, min};
+ghost use lib.Dec.{ltb, eqb};
+ghost use lib.ListN.{length, getD, set, take, drop, replicate};
 ghost use Rattle.sizes.specs.Limits.{mostOutputs, mostBits};
 ghost use Rattle.sizes.specs.Sizes.{frames};
 ghost use Rattle.circuit.specs.Limits.{mostSignals};
@@ -12,70 +15,180 @@ ghost use Rattle.circuit.specs.Lists.{listed, bit, packed};
 ghost use Rattle.circuit.specs.Circuit.{inputValues};
 ghost use Rattle.circuit.specs.WellFormed.{WellFormed};
 ghost use Rattle.lanes.specs.Limits.{laneCount};
-ghost use Rattle.lanes.specs.Lanes.{lane, literalLanes, sequence, Lanes, SignalLanes};
+ghost use Rattle.lanes.specs.Lanes.{lane, literalLanes, sequence, NumberLanes, Lanes, Settled, Ready, FirstUses, SignalLanes};
 
-// How many histories are simulated side by side, a lane each: the bits of a number; and the bits of a lane's number.
+// How many sequences are simulated side by side, a lane each: the bits of a number; and the bits of a lane's number.
 pub struct Limits;
 
 impl Limits {
-    pub const BITS: usize = 6;
+    pub const BITS: usize = 5;
 
     pub const LANES: usize = 1 << Limits::BITS;
+
+    // Number p has bit p of 0, 1, .. in its lanes.
+    const COUNTING: [u32; Limits::BITS] = [
+        0xAAAAAAAA,
+        0xCCCCCCCC,
+        0xF0F0F0F0,
+        0xFF00FF00,
+        0xFFFF0000,
+    ];
 }
 
-// Room for the lanes of all signals.
-pub fn room() -> [u64; circuit::Limits::SIGNALS]
-    ensures { λ r. ⌜ r ≡ replicate mostSignals 0 ⌝ }
+// Room for the lanes of all signals. It holds none yet: the constant's are not zero.
+pub fn room() -> [u32; circuit::Limits::SIGNALS]
+    ensures { λ r. ⌜ r ≡ replicate mostSignals 1 ⌝ }
 {
-    [0; circuit::Limits::SIGNALS]
+    [1; circuit::Limits::SIGNALS]
 }
 
-// The number whose lanes are the bits at `place` of the histories, each shifted.
-fn gather(histories: &[u16], shift: usize, place: usize) -> u64
-    requires { ⌜ (length (now histories) ≤ laneCount) × (shift ≤ mostBits) × (place < laneCount) ⌝ }
-    ensures { λ r. ⌜ r ≡ packed (map (λ h. bit (h * 2 ^ shift) place) (now (histories .entry))) ⌝ }
+// The lanes of bit `place` of the numbers `at`, `at` + 1, ..
+fn counting_lanes(at: usize, place: usize) -> u32
+    requires { ⌜ (at % laneCount ≡ 0) × (place < mostBits) ⌝ }
+    ensures { λ r. ⌜ ((j : ℕ) → j < laneCount → bit r j ≡ bit (at + j) place) ⌝ }
 {
-    let mut lanes: u64 = 0;
+    if place < Limits::BITS {
+        return Limits::COUNTING[place];
+    }
+    if is_set(at, place) { u32::MAX } else { 0 }
+}
+
+// The lanes of the histories `at`, `at` + 1, ..: a number for each bit.
+pub fn neighbours(at: usize) -> [u32; sizes::Limits::BITS]
+    requires { ⌜ at % laneCount ≡ 0 ⌝ }
+    ensures { λ r. ⌜ NumberLanes r (λ j. at + j) ⌝ }
+{
+    let mut numbers = [0; sizes::Limits::BITS];
+    for place in 0..sizes::Limits::BITS {
+        numbers[place] = counting_lanes(at, place);
+    }
+    numbers
+}
+
+// The lanes of bit `place` of the histories.
+fn gathered_lanes(histories: &[u16], place: usize) -> u32
+    requires { ⌜ (length (now histories) ≤ laneCount) × (place < mostBits) ⌝ }
+    ensures { λ r. ⌜ r ≡ packed (lane place (now (histories .entry))) ⌝ }
+{
+    let mut lanes: u32 = 0;
     let mut j = histories.len();
     while 0 < j {
         j -= 1;
-        lanes = 2 * lanes + (((histories[j] as u64) << shift) >> place) % 2;
+        lanes = 2 * lanes + ((histories[j] >> place) % 2) as u32;
     }
     lanes
 }
 
-// Stores the lanes of the constant and of all inputs. A history of t words is followed by zero words.
-fn store_inputs(inputs: usize, frames: usize, t: usize, histories: &[u16], lanes: &mut [u64])
-    requires { ⌜ (1 ≤ inputs) × (inputs * frames ≤ mostBits) × (t ≤ frames) ⌝ }
-    requires { ⌜ (length (now histories) ≤ laneCount) × (inputs * frames < length (now lanes)) ⌝ }
-    ensures { λ _. ⌜ Lanes (now (histories .entry)) (now (lanes .exit)) (1 + inputs * frames) (λ h. inputValues (sequence (2 ^ inputs) frames t h) inputs (inputs * frames)) ⌝ }
+// The lanes of the histories: a number for each bit. Lanes beyond them have history 0.
+pub fn gather(histories: &[u16]) -> [u32; sizes::Limits::BITS]
+    requires { ⌜ length (now histories) ≤ laneCount ⌝ }
+    ensures { λ r. ⌜ NumberLanes r (λ j. getD (now (histories .entry)) j 0) ⌝ }
 {
-    let count = inputs * frames;
-    let shift = inputs * (frames - t);
-    lanes[0] = 0;
-    for i in 0..count {
-        let place = inputs * (frames - 1 - i / inputs) + i % inputs;
-        lanes[1 + i] = gather(histories, shift, place);
+    let mut numbers = [0; sizes::Limits::BITS];
+    for place in 0..sizes::Limits::BITS {
+        numbers[place] = gathered_lanes(histories, place);
+    }
+    numbers
+}
+
+// The lanes of input i on histories of t words, which zero words follow.
+fn input_lanes(inputs: usize, t: usize, numbers: &[u32], i: usize) -> u32
+    requires { ⌜ (1 ≤ inputs) × (inputs * t ≤ mostBits) × (mostBits ≤ length (now numbers)) ⌝ }
+    ensures { λ r. ⌜ ((T : ℕ) (h : ℕ → ℕ) → t ≤ T → NumberLanes (now (numbers .entry)) h → (j : ℕ) → j < laneCount → bit r j ≡ bit (getD (sequence (2 ^ inputs) T t (h j)) (i / inputs) 0) (i % inputs)) ⌝ }
+{
+    let frame = i / inputs;
+    if t <= frame {
+        return 0;
+    }
+    numbers[inputs * (t - 1 - frame) + i % inputs]
+}
+
+// Notes that gate g names the literal's signal, where this is an input or the constant.
+fn note_use(firsts: &mut [usize], base: usize, literal: usize, g: usize)
+    requires { ⌜ base ≤ length (now firsts) ⌝ }
+    ensures { λ _. ⌜ now (firsts .exit) ≡ cond (ltb (literal / 2) base) (set (now (firsts .entry)) (literal / 2) g) (now (firsts .entry)) ⌝ }
+{
+    let signal = literal / 2;
+    if signal < base {
+        firsts[signal] = g;
     }
 }
 
+// The first gate that names each input, or the number of gates: no gate before it depends on the input.
+pub fn first_uses(circuit: &[u8], head: Head) -> [usize; 1 + sizes::Limits::BITS]
+    requires { ⌜ WellFormed (now circuit) head ⌝ }
+    ensures { λ r. ⌜ FirstUses (now (circuit .entry)) 0 r ⌝ }
+{
+    let base = head.base;
+    let mut g = head.gates;
+    let mut firsts = [g; 1 + sizes::Limits::BITS];
+    while 0 < g {
+        g -= 1;
+        let gate = read_gate(circuit, head, g);
+        note_use(&mut firsts, base, gate.left, g);
+        note_use(&mut firsts, base, gate.right, g);
+    }
+    firsts
+}
+
+// The first gate that may have another value where an input had the lanes `before` and has `after`, if it was `start` without this input, and
+// `first` is the first that names it.
+fn restart(start: usize, before: u32, after: u32, first: usize) -> usize
+    ensures { λ r. ⌜ r ≡ cond (eqb before after) start (min start first) ⌝ }
+{
+    if before == after {
+        return start;
+    }
+    if start < first { start } else { first }
+}
+
+// Stores the lanes of the constant and of all inputs. Answers the first gate whose lanes may no longer be right.
+fn store_inputs(head: Head, t: usize, numbers: &[u32], firsts: &[usize], lanes: &mut [u32]) -> usize
+    requires { ⌜ (1 ≤ head .inputs) × (head .inputs * head .frames ≤ mostBits) × (t ≤ head .frames) ⌝ }
+    requires { ⌜ (mostBits ≤ length (now numbers)) × (mostBits < length (now firsts)) × (mostBits < length (now lanes)) ⌝ }
+    ensures inputs { λ r. ⌜ ((h : ℕ → ℕ) → NumberLanes (now (numbers .entry)) h → Lanes (now (lanes .exit)) (1 + head .inputs * head .frames) (λ j. inputValues (sequence (2 ^ head .inputs) (head .frames) t (h j)) (head .inputs) (head .inputs * head .frames))) ⌝ }
+    ensures settled { λ r. ⌜ ((b : List ℕ) → WellFormed b head → FirstUses b 0 (now (firsts .entry)) → Ready b (now (lanes .entry)) → Settled b (now (lanes .exit)) r) ⌝ }
+    ensures start { λ r. ⌜ (r ≤ head .gates) × (getD (now (lanes .exit)) 0 0 ≡ 0) ⌝ }
+{
+    let inputs = head.inputs;
+    let count = inputs * head.frames;
+    let mut start = if lanes[0] == 0 { head.gates } else { 0 };
+    lanes[0] = 0;
+    for i in 0..count {
+        let after = input_lanes(inputs, t, numbers, i);
+        start = restart(start, lanes[1 + i], after, firsts[1 + i]);
+        lanes[1 + i] = after;
+    }
+    start
+}
+
 // The lanes of a literal whose signal has these lanes.
-fn literal_lanes(lanes: u64, literal: usize) -> u64
+fn literal_lanes(lanes: u32, literal: usize) -> u32
     ensures { λ r. ⌜ r ≡ literalLanes lanes literal ⌝ }
 {
     if literal % 2 == 1 { !lanes } else { lanes }
 }
 
-// Stores the lanes of all signals on histories of t words.
-pub fn store_signals(circuit: &[u8], head: Head, t: usize, histories: &[u16], lanes: &mut [u64])
+// Stores the lanes of all signals on the histories of t words that the numbers have in their lanes. Gates before the first that names a changed
+// input have their lanes already. All evaluation of gates is here.
+pub fn store_signals(
+    circuit: &[u8],
+    head: Head,
+    t: usize,
+    numbers: &[u32],
+    firsts: &[usize],
+    lanes: &mut [u32],
+)
     requires { ⌜ WellFormed (now circuit) head ⌝ }
-    requires { ⌜ (t ≤ frames (now circuit)) × (length (now histories) ≤ laneCount) × (mostSignals ≤ length (now lanes)) ⌝ }
-    ensures { λ _. ⌜ SignalLanes (now (circuit .entry)) t (now (histories .entry)) (now (lanes .exit)) ⌝ }
+    requires { ⌜ (t ≤ frames (now circuit)) × (mostBits ≤ length (now numbers)) × (mostBits < length (now firsts)) × (mostSignals ≤ length (now lanes)) ⌝ }
+    requires { ⌜ FirstUses (now circuit) 0 (now firsts) × Ready (now circuit) (now lanes) ⌝ }
+    ensures signals { λ _. ⌜ ((h : ℕ → ℕ) → NumberLanes (now (numbers .entry)) h → SignalLanes (now (circuit .entry)) t h (now (lanes .exit))) ⌝ }
+    ensures ready { λ _. ⌜ Ready (now (circuit .entry)) (now (lanes .exit)) ⌝ }
 {
     let count = head.gates;
     let base = head.base;
-    store_inputs(head.inputs, head.frames, t, histories, lanes);
-    for g in 0..count {
+    let start = store_inputs(head, t, numbers, firsts, lanes);
+    for g in start..count {
         let gate = read_gate(circuit, head, g);
         let left = gate.left;
         let right = gate.right;
@@ -85,7 +198,7 @@ pub fn store_signals(circuit: &[u8], head: Head, t: usize, histories: &[u16], la
 }
 
 // The word whose bits are lane j of the `count` signals at `at`, lowest first.
-fn pack_lane(lanes: &[u64], at: usize, count: usize, j: usize) -> u16
+fn pack_lane(lanes: &[u32], at: usize, count: usize, j: usize) -> u16
     requires { ⌜ (count ≤ mostOutputs) × (at + count ≤ length (now lanes)) × (j < laneCount) ⌝ }
     ensures { λ r. ⌜ r ≡ packed (take count (drop at (lane j (now (lanes .entry))))) ⌝ }
 {
@@ -99,12 +212,24 @@ fn pack_lane(lanes: &[u64], at: usize, count: usize, j: usize) -> u16
 }
 
 // Stores the words of the first lanes, one to a place.
-pub fn pack_lanes(lanes: &[u64], at: usize, count: usize, words: &mut [u16])
+pub fn pack_lanes(lanes: &[u32], at: usize, count: usize, words: &mut [u16])
     requires { ⌜ (count ≤ mostOutputs) × (at + count ≤ length (now lanes)) × (length (now words) ≤ laneCount) ⌝ }
     ensures { λ _. ⌜ now (words .exit) ≡ listed [] (λ j. packed (take count (drop at (lane j (now (lanes .entry)))))) (length (now (words .entry))) ⌝ }
 {
     let size = words.len();
     for j in 0..size {
         words[j] = pack_lane(lanes, at, count, j);
+    }
+}
+
+// Stores the words of lane j, one to a place: each has the next `count` signals from `at` on.
+pub fn pack_frames(lanes: &[u32], at: usize, count: usize, j: usize, words: &mut [u16])
+    requires { ⌜ (count ≤ mostOutputs) × (j < laneCount) ⌝ }
+    requires { ⌜ at + count * length (now words) ≤ length (now lanes) ⌝ }
+    ensures { λ _. ⌜ now (words .exit) ≡ listed [] (λ t. packed (take count (drop (at + count * t) (lane j (now (lanes .entry)))))) (length (now (words .entry))) ⌝ }
+{
+    let frames = words.len();
+    for t in 0..frames {
+        words[t] = pack_lane(lanes, at + count * t, count, j);
     }
 }

@@ -1,2 +1,5 @@
--- The proofs of `simulate`.
+-- The proofs of `simulate`: laws by subject, lowest first.
+pub mod Sequences
+pub mod Judged
+pub mod Theorems
 pub mod Simulation

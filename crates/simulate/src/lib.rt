@@ -1,122 +1,126 @@
-// The simulation of a circuit on a sequence of input words ("playing" in document 01).
+// The simulation of a circuit on sequences of input words ("playing" in document 01), all of them side by side.
 use causal::check;
 use circuit::Head;
-use circuit::Limits;
-use circuit::is_set;
-use circuit::read_gate;
+use lanes::gather;
+use lanes::pack_frames;
+use lanes::room;
+use lanes::store_signals;
 use sizes::check_sequence;
+use sizes::power;
+use verdict::Refusal;
 use verdict::Verdict;
 ghost use mathlib.Core.Path.{_≡_};
-ghost use mathlib.Core.Bool.{_&&_, cond};
 ghost use mathlib.Core.List.{_++_};
-ghost use Prim.Native.Nat.{_+_, _*_, _/_, _≤_, _<_};
-ghost use lib.ListN.{length, take, drop};
+ghost use Prim.Native.Nat.{ℕ, _*_, _^_, _≤_, _<_};
+ghost use lib.ListN.{length, getD, drop};
 ghost use Rattle.verdict.specs.Judgements.{figures};
-ghost use Rattle.sizes.specs.Limits.{mostOutputs, mostBits};
-ghost use Rattle.sizes.specs.Sizes.{frames};
-ghost use Rattle.circuit.specs.Lists.{packed};
-ghost use Rattle.circuit.specs.Circuit.{gates, gateSignal, inputValues, literalValue, signalValues, outputWords};
+ghost use Rattle.sizes.specs.Limits.{mostFrames, mostBits};
+ghost use Rattle.sizes.specs.Sizes.{inputs, frames};
+ghost use Rattle.sizes.specs.Sized.{Fed};
+ghost use Rattle.layered.specs.Histories.{historyNumber};
 ghost use Rattle.circuit.specs.WellFormed.{WellFormed};
-ghost use Rattle.simulate.specs.Simulate.{simulated, simulationResult};
+ghost use Rattle.simulate.specs.Limits.{mostSequences};
+ghost use Rattle.simulate.specs.Simulate.{sequenceAt, allOutputWords, sequencesChecked, simulated, simulationResult};
+ghost use Rattle.simulate.specs.Theorems.{EachAlone};
 
-// The values of the constant and of `count` inputs, of which `inputs` are in a word.
-fn input_values(words: &[u16], inputs: usize, count: usize) -> [bool; Limits::SIGNALS]
-    requires { ⌜ (1 ≤ inputs) × (inputs ≤ mostBits) × (count ≤ mostBits) × (count ≤ length (now words) * inputs) ⌝ }
-    ensures { λ r. ⌜ take (1 + count) r ≡ inputValues (now (words .entry)) inputs count ⌝ }
+// The most sequences that are simulated in one call.
+pub struct Limits;
+
+impl Limits {
+    pub const SEQUENCES: usize = 32;
+}
+
+// Numbers 13, 12, 9 and 7.
+fn check_sequences(
+    words: &[u16],
+    inputs: usize,
+    frames: usize,
+    count: usize,
+    room: usize,
+) -> Verdict
+    requires { ⌜ (inputs ≤ mostBits) × (frames ≤ mostFrames) ⌝ }
+    ensures { λ r. ⌜ figures r ≡ sequencesChecked inputs frames count (now (words .entry)) room ⌝ }
 {
-    let mut values = [false; Limits::SIGNALS];
-    for i in 0..count {
-        values[1 + i] = is_set(words[i / inputs] as usize, i % inputs);
+    if Limits::SEQUENCES < count {
+        return Verdict::Refused(Refusal::Sequences(count));
     }
-    values
+    check_sequence(words, inputs, count * frames, room)
 }
 
-// The value of a literal.
-fn literal_value(values: &[bool], literal: usize) -> bool
-    requires { ⌜ literal / 2 < length (now values) ⌝ }
-    ensures { λ r. ⌜ r ≡ literalValue (now (values .entry)) literal ⌝ }
+// The number of a sequence: its first word is the highest digit.
+fn sequence_number(words: &[u16], inputs: usize) -> u16
+    requires { ⌜ (inputs ≤ mostBits) × (inputs * length (now words) ≤ mostBits) ⌝ }
+    requires { ⌜ Fed inputs (length (now words)) (now words) ⌝ }
+    ensures { λ r. ⌜ r ≡ historyNumber (2 ^ inputs) 0 (now (words .entry)) ⌝ }
 {
-    let value = values[literal / 2];
-    if literal % 2 == 1 { !value } else { value }
-}
-
-// The value of a gate whose literals have these values.
-fn gate_value(left: bool, right: bool) -> bool
-    ensures { λ r. ⌜ r ≡ (left && right) ⌝ }
-{
-    if left { right } else { false }
-}
-
-// The values of all signals on a sequence.
-fn signal_values(circuit: &[u8], head: Head, words: &[u16]) -> [bool; Limits::SIGNALS]
-    requires { ⌜ WellFormed (now circuit) head ⌝ }
-    requires { ⌜ length (now words) ≡ frames (now circuit) ⌝ }
-    ensures { λ r. ⌜ take (gateSignal (now (circuit .entry)) (gates (now (circuit .entry)))) r ≡ signalValues (now (circuit .entry)) (now (words .entry)) (gates (now (circuit .entry))) ⌝ }
-{
-    let count = head.gates;
-    let base = head.base;
-    let mut values = input_values(words, head.inputs, base - 1);
-    for g in 0..count {
-        let gate = read_gate(circuit, head, g);
-        let left = literal_value(&values, gate.left);
-        let right = literal_value(&values, gate.right);
-        values[base + g] = gate_value(left, right);
-    }
-    values
-}
-
-// A binary digit.
-fn digit(value: bool) -> u16
-    ensures { λ r. ⌜ r ≡ cond value 1 0 ⌝ }
-{
-    if value { 1 } else { 0 }
-}
-
-// The word whose bits are the `count` values at `at`, lowest first.
-fn pack(values: &[bool], at: usize, count: usize) -> u16
-    requires { ⌜ (count ≤ mostOutputs) × (at + count ≤ length (now values)) ⌝ }
-    ensures { λ r. ⌜ r ≡ packed (take count (drop at (now (values .entry)))) ⌝ }
-{
-    let mut word: u16 = 0;
-    let mut j = count;
-    while 0 < j {
-        j -= 1;
-        word = 2 * word + digit(values[at + j]);
-    }
-    word
-}
-
-// Writes the output word of each frame.
-fn write_outputs(circuit: &[u8], head: Head, words: &[u16], result: &mut [u16])
-    requires { ⌜ WellFormed (now circuit) head ⌝ }
-    requires { ⌜ length (now words) ≡ frames (now circuit) ⌝ }
-    requires { ⌜ frames (now circuit) ≤ length (now result) ⌝ }
-    ensures { λ _. ⌜ now (result .exit) ≡ outputWords (now (circuit .entry)) (now (words .entry)) ++ drop (frames (now (circuit .entry))) (now (result .entry)) ⌝ }
-{
-    let values = signal_values(circuit, head, words);
-    let frames = head.frames;
-    let outputs = head.outputs;
-    let mut at = head.base + (head.gates - head.total);
+    let base = power(inputs);
+    let frames = words.len();
+    let mut number = 0;
     for t in 0..frames {
-        result[t] = pack(&values, at, outputs);
-        at += outputs;
+        number = number * base + words[t] as usize;
+    }
+    number as u16
+}
+
+// The numbers of `count` sequences that stand one behind the other.
+fn sequence_numbers(
+    words: &[u16],
+    inputs: usize,
+    frames: usize,
+    count: usize,
+) -> [u16; Limits::SEQUENCES]
+    requires { ⌜ (inputs ≤ mostBits) × (inputs * frames ≤ mostBits) × (frames ≤ mostFrames) × (count ≤ mostSequences) ⌝ }
+    requires { ⌜ Fed inputs (count * frames) (now words) ⌝ }
+    ensures { λ r. ⌜ ((k : ℕ) → k < count → getD r k 0 ≡ historyNumber (2 ^ inputs) 0 (sequenceAt frames (now (words .entry)) k)) ⌝ }
+{
+    let mut numbers = [0; Limits::SEQUENCES];
+    let mut at = 0;
+    for k in 0..count {
+        let end = at + frames;
+        numbers[k] = sequence_number(&words[at..end], inputs);
+        at = end;
+    }
+    numbers
+}
+
+// Writes the output words on each sequence. The gates are read here, once for all sequences.
+fn write_outputs(circuit: &[u8], head: Head, count: usize, words: &[u16], result: &mut [u16])
+    requires { ⌜ WellFormed (now circuit) head ⌝ }
+    requires { ⌜ (count ≤ mostSequences) × (count * frames (now circuit) ≤ length (now result)) ⌝ }
+    requires { ⌜ Fed (inputs (now circuit)) (count * frames (now circuit)) (now words) ⌝ }
+    ensures { λ _. ⌜ now (result .exit) ≡ allOutputWords (now (circuit .entry)) count (now (words .entry)) ++ drop (count * frames (now (circuit .entry))) (now (result .entry)) ⌝ }
+{
+    let inputs = head.inputs;
+    let outputs = head.outputs;
+    let frames = head.frames;
+    let first = head.base + (head.gates - head.total);
+    let sequences = sequence_numbers(words, inputs, frames, count);
+    let numbers = gather(&sequences[..count]);
+    let firsts = [0; 1 + sizes::Limits::BITS];
+    let mut lanes = room();
+    store_signals(circuit, head, frames, &numbers, &firsts, &mut lanes);
+    for k in 0..count {
+        let at = k * frames;
+        let end = at + frames;
+        pack_frames(&lanes, first, outputs, k, &mut result[at..end]);
     }
 }
 
-// The outputs of a circuit on a sequence of input words: one word for each frame.
-pub fn simulate(circuit: &[u8], words: &[u16], result: &mut [u16]) -> Verdict
-    ensures verdict { λ r. ⌜ figures r ≡ simulated (now (circuit .entry)) (now (words .entry)) (length (now (result .entry))) ⌝ }
-    ensures result { λ r. ⌜ now (result .exit) ≡ simulationResult (now (circuit .entry)) (now (words .entry)) (now (result .entry)) ⌝ }
+// The outputs of a circuit on each of `count` sequences of input words, which stand one behind the other: one word for each frame.
+pub fn simulate(circuit: &[u8], count: usize, words: &[u16], result: &mut [u16]) -> Verdict
+    ensures verdict { λ r. ⌜ figures r ≡ simulated (now (circuit .entry)) count (now (words .entry)) (length (now (result .entry))) ⌝ }
+    ensures result { λ r. ⌜ now (result .exit) ≡ simulationResult (now (circuit .entry)) count (now (words .entry)) (now (result .entry)) ⌝ }
+    ensures alone { λ r. ⌜ EachAlone (now (circuit .entry)) ⌝ }
 {
     let judged = check(circuit);
     let Verdict::Accepted(_) = judged else {
         return judged;
     };
     let head = Head::read(circuit);
-    let fed = check_sequence(words, head.inputs, head.frames, result.len());
+    let fed = check_sequences(words, head.inputs, head.frames, count, result.len());
     let Verdict::Accepted(_) = fed else {
         return fed;
     };
-    write_outputs(circuit, head, words, result);
+    write_outputs(circuit, head, count, words, result);
     fed
 }

@@ -8,10 +8,10 @@ use native.Mathlib.Omega.{arith}
 use lib.ListN.{length, getD}
 use lib.Pow.{shl-exact}
 use lib.Dec.{ltb, leb, eqb, lit<}
-use borrow.Author.Tests.{ltb-false, le-ltb, leb-false, eqb-true, not-false}
+use borrow.Author.Tests.{ltb-false, le-ltb, leb-false, lt-leb, eq-eqb, eqb-true, not-false}
 use Rattle.verdict.specs.Judgements.{answer}
 use Rattle.verdict.specs.declared.Figures.{Figures}
-use Rattle.verdict.proofs.Laws.{both-accept, passed, none-found}
+use Rattle.verdict.proofs.Laws.{both-accept, passed, none-found, finds-none}
 use Rattle.sizes.specs.Limits.{mostOutputs, mostFrames, mostBits}
 use Rattle.sizes.specs.Sizes.{outside, sizesChecked, wordsChecked, sequenceChecked}
 use Rattle.sizes.specs.Sized.{Sized, Fed}
@@ -80,3 +80,9 @@ pub sizes-pass : (most n m T : ℕ) → Sized most n m T → sizesChecked most n
 unfolding sizesChecked
 sizes-pass most n m T Z =
     rw (not-outside 1 most n (Z .inputs-from) (Z .inputs-to), not-outside 1 mostOutputs m (Z .outputs-from) (Z .outputs-to), not-outside 1 mostFrames T (Z .frames-from) (Z .frames-to), le-ltb mostBits (n * T) (Z .bits-to))
+
+pub sequence-passes : (n T : ℕ) (words : List ℕ) (room : ℕ) → Fed n T words → T ≤ room → sequenceChecked n T words room ≡ answer 0 T
+unfolding sequenceChecked wordsChecked
+sequence-passes n T words room F h =
+    let none = finds-none (λ t. leb (2 ^ n) (getD words t 0)) 9 (λ t. t) (answer 0 0) 0 (length words) (λ t lo hi. lt-leb _ _ (F .below t (omega (arith, F .as-many)))) in
+    rw (eq-eqb _ _ (F .as-many), none, le-ltb room T h)

@@ -41,7 +41,7 @@ unfoldable pub wordsChecked : (n : ℕ) → List ℕ → Figures
 unfolding refuseFirst
 wordsChecked n words = refuseFirst (λ t. leb (2 ^ n) (getD words t 0)) 9 (λ t. t) (answer 0 0) 0 (length words)
 
--- 12, 9, 7, of the words of a sequence of T frames and a result with room for so many words
+-- 12, 9, 7, of a list that is to have T words, and a result with room for so many words
 unfoldable pub sequenceChecked : (n T : ℕ) (words : List ℕ) (room : ℕ) → Figures
 unfolding wordsChecked
 sequenceChecked n T words room =

@@ -97,7 +97,7 @@ fn check_words(words: &[u16], inputs: usize) -> Verdict
     Verdict::Accepted(0)
 }
 
-// Numbers 12, 9 and 7, of the words of a sequence and a result with room for so many words.
+// Numbers 12, 9 and 7, of a list that is to have as many words as there are frames, and a result with room for so many words.
 pub fn check_sequence(words: &[u16], inputs: usize, frames: usize, room: usize) -> Verdict
     requires { ⌜ inputs ≤ mostBits ⌝ }
     ensures { λ r. ⌜ figures r ≡ sequenceChecked inputs frames (now (words .entry)) room ⌝ }

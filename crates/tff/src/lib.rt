@@ -32,17 +32,18 @@ pub extern "C" fn tff_check_circuit(circuit: &[u8], answer: &mut [u64])
 #[no_mangle]
 pub extern "C" fn tff_simulate(
     circuit: &[u8],
+    count: usize,
     words: &[u16],
     result: &mut [u16],
     answer: &mut [u64],
 )
-    ensures answer { λ _. ⌜ now (answer .exit) ≡ answerAfter (verdictNumbers (simulated (now (circuit .entry)) (now (words .entry)) (length (now (result .entry))))) (now (answer .entry)) ⌝ }
-    ensures result { λ _. ⌜ now (result .exit) ≡ bufferAfter (now (answer .entry)) (simulationResult (now (circuit .entry)) (now (words .entry)) (now (result .entry))) (now (result .entry)) ⌝ }
+    ensures answer { λ _. ⌜ now (answer .exit) ≡ answerAfter (verdictNumbers (simulated (now (circuit .entry)) count (now (words .entry)) (length (now (result .entry))))) (now (answer .entry)) ⌝ }
+    ensures result { λ _. ⌜ now (result .exit) ≡ bufferAfter (now (answer .entry)) (simulationResult (now (circuit .entry)) count (now (words .entry)) (now (result .entry))) (now (result .entry)) ⌝ }
 {
     if answer.len() < Limits::VERDICT {
         return;
     }
-    let verdict: Verdict = simulate::simulate(circuit, words, result);
+    let verdict: Verdict = simulate::simulate(circuit, count, words, result);
     put(verdict, answer);
 }
 

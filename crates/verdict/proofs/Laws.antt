@@ -15,7 +15,7 @@ use Rattle.verdict.specs.declared.Figures.{Figures}
 use Rattle.verdict.specs.declared.Verdict.{Verdict}
 use Rattle.verdict.specs.declared.Verdict.the-variants.{Accepted, Refused}
 use Rattle.verdict.specs.declared.Refusal.{Refusal}
-use Rattle.verdict.specs.declared.Refusal.the-variants.{Length, Size, Literal, LookAhead, Entry, Scratch, Room, Gates, Word, End, Position, Count}
+use Rattle.verdict.specs.declared.Refusal.the-variants.{Length, Size, Literal, LookAhead, Entry, Scratch, Room, Gates, Word, End, Position, Count, Sequences}
 
 -- ---- stages one after the other
 
@@ -33,6 +33,7 @@ refusal-number (Word p) = refl
 refusal-number (End p) = refl
 refusal-number (Position p) = refl
 refusal-number (Count p) = refl
+refusal-number (Sequences p) = refl
 
 -- no refusal is an acceptance
 pub never : (r : Refusal) (p : ℕ) → refusalFigures r ≡ answer 0 p → ⊥

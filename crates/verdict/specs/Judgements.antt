@@ -8,13 +8,13 @@ use Rattle.verdict.specs.declared.Figures.{Figures}
 use Rattle.verdict.specs.declared.Verdict.{Verdict}
 use Rattle.verdict.specs.declared.Verdict.the-variants.{Accepted, Refused}
 use Rattle.verdict.specs.declared.Refusal.{Refusal}
-use Rattle.verdict.specs.declared.Refusal.the-variants.{Length, Size, Literal, LookAhead, Entry, Scratch, Room, Gates, Word, End, Position, Count}
+use Rattle.verdict.specs.declared.Refusal.the-variants.{Length, Size, Literal, LookAhead, Entry, Scratch, Room, Gates, Word, End, Position, Count, Sequences}
 
 -- a number and a place; number 0 is acceptance
 abbrev pub answer : (number place : ℕ) → Figures
 answer number place = record { number = number; place = place }
 
--- what document 01 gives each case
+-- what document 01 gives each case, and document 02 the last
 abbrev pub refusalFigures : Refusal → Figures
 refusalFigures (Length p) = answer 1 p
 refusalFigures (Size p) = answer 2 p
@@ -28,6 +28,7 @@ refusalFigures (Word p) = answer 9 p
 refusalFigures (End p) = answer 10 p
 refusalFigures (Position p) = answer 11 p
 refusalFigures (Count p) = answer 12 p
+refusalFigures (Sequences p) = answer 13 p
 
 abbrev pub figures : Verdict → Figures
 figures (Accepted p) = answer 0 p

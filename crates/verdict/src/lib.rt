@@ -8,7 +8,7 @@ pub enum Verdict {
     Refused(Refusal),
 }
 
-// A case for each of document 01's numbers 1 to 12, in that order. Its value is the place.
+// A case for each of document 01's numbers 1 to 12 and of document 02's from 13 on, in that order. Its value is the place.
 pub enum Refusal {
     Length(usize),
     Size(usize),
@@ -22,6 +22,7 @@ pub enum Refusal {
     End(usize),
     Position(usize),
     Count(usize),
+    Sequences(usize),
 }
 
 // Document 01's number and place.
@@ -47,6 +48,7 @@ impl Refusal {
             Refusal::End(place) => Figures { number: 10, place },
             Refusal::Position(place) => Figures { number: 11, place },
             Refusal::Count(place) => Figures { number: 12, place },
+            Refusal::Sequences(place) => Figures { number: 13, place },
         }
     }
 }

@@ -71,6 +71,46 @@ impl Growing {
     }
 }
 
+/// The circuit with its gates, but for the outputs, in any order in which operands come first.
+pub fn reordered(rng: &mut Rng, circuit: &Circuit) -> Circuit {
+    let mut made = Circuit {
+        sizes: circuit.sizes,
+        left: Vec::new(),
+        right: Vec::new(),
+    };
+    let first_gate = 1 + circuit.sizes.input_signals();
+    // By signal: its number in the new order, once it has one.
+    let mut signals: Vec<Option<u16>> = vec![None; first_gate + circuit.gates()];
+    for (signal, number) in signals[..first_gate].iter_mut().enumerate() {
+        *number = Some(signal as u16);
+    }
+    let mut inner: Vec<usize> = (0..circuit.first_output()).collect();
+    let mut outputs = circuit.first_output()..circuit.gates();
+    loop {
+        let literal = |literal: u16| {
+            let signal = signals[usize::from(literal / 2)]?;
+            Some(2 * signal + literal % 2)
+        };
+        let operands =
+            |gate: usize| Some((literal(circuit.left[gate])?, literal(circuit.right[gate])?));
+        let ready: Vec<usize> = (0..inner.len())
+            .filter(|&index| operands(inner[index]).is_some())
+            .collect();
+        let gate = if ready.is_empty() {
+            match outputs.next() {
+                Some(gate) => gate,
+                None => return made,
+            }
+        } else {
+            inner.swap_remove(rng.pick(&ready))
+        };
+        let (left, right) = operands(gate).expect("a legal circuit");
+        signals[first_gate + gate] = Some((first_gate + made.gates()) as u16);
+        made.left.push(left);
+        made.right.push(right);
+    }
+}
+
 /// A random machine with `memory` flip-flops, false at first, unrolled over all frames: it folds
 /// to few states.
 pub fn unrolled(rng: &mut Rng, sizes: Sizes, memory: usize) -> Circuit {

@@ -98,7 +98,7 @@ pub fn each_history(circuit: &Circuit) -> Table {
             let mut words = sizes.history_words(layer + 1, history);
             words.resize(sizes.frames, 0);
             let mut outputs = vec![0; sizes.frames];
-            simulate(&circuit.to_bytes(), &words, &mut outputs);
+            simulate(&circuit.to_bytes(), 1, &words, &mut outputs);
             table.output_words.push(outputs[layer]);
             let ends = layer + 1 == sizes.frames;
             table

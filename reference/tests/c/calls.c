@@ -35,17 +35,21 @@ int main(void) {
     const uint8_t circuit[] = {1, 0, 1, 0, 2, 0, 5, 0,          /* n, m, T, gates */
                                2, 0, 3, 0, 7, 0, 2, 0, 11, 0,   /* left literals */
                                5, 0, 4, 0, 9, 0, 1, 0, 1, 0};   /* right literals */
-    const uint16_t words[] = {1, 1, 2};
+    const uint16_t words[] = {1, 1, 1, 0, 2};
     uint8_t table[36];
 
     CALL(check_circuit, circuit, 28);
     CALL(check_circuit, circuit, 27);
 
-    CALL(simulate, circuit, 28, words, 2, numbers, 2);
-    CALL(simulate, circuit, 27, words, 2, numbers, 2);
-    CALL(simulate, circuit, 28, words, 3, numbers, 2);
-    CALL(simulate, circuit, 28, words + 1, 2, numbers, 2);
-    CALL(simulate, circuit, 28, words, 2, numbers, 1);
+    CALL(simulate, circuit, 28, 0, words, 0, numbers, 0);
+    CALL(simulate, circuit, 28, 1, words, 2, numbers, 2);
+    CALL(simulate, circuit, 28, 2, words, 4, numbers, 4);
+    CALL(simulate, circuit, 27, 2, words, 4, numbers, 4);
+    CALL(simulate, circuit, 28, 33, words, 4, numbers, 4);
+    CALL(simulate, circuit, 28, SIZE_MAX, words, 4, numbers, 4);
+    CALL(simulate, circuit, 28, 2, words, 3, numbers, 4);
+    CALL(simulate, circuit, 28, 2, words + 1, 4, numbers, 4);
+    CALL(simulate, circuit, 28, 2, words, 4, numbers, 3);
 
     CALL(fold, circuit, 27, numbers, 8, bytes, 36);
     CALL(fold, circuit, 28, numbers, 7, bytes, 36);
@@ -59,7 +63,7 @@ int main(void) {
     CALL(run, table, 36, words, 2, numbers, 2);
     CALL(run, table, 35, words, 2, numbers, 2);
     CALL(run, table, 36, words, 3, numbers, 2);
-    CALL(run, table, 36, words + 1, 2, numbers, 2);
+    CALL(run, table, 36, words + 3, 2, numbers, 2);
     CALL(run, table, 36, words, 2, numbers, 1);
 
     CALL(step, table, 36, 0, 0, 1);

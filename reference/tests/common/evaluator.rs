@@ -1,13 +1,12 @@
-//! Checking a file and evaluating it on input words: simulating a circuit and running a table take
-//! and answer alike, so both are tried alike.
+//! Checking a file and evaluating it on the words of one sequence: simulating a circuit and running a
+//! table take and answer alike, so both are tried alike.
 
 use crate::common::{compare, seeds, short_answers_change_nothing, Case, Room, Seen};
 use reference::gen::{any_sequence, Rng};
 use reference::{Answer, Sizes};
 
 type ProvedCheck = unsafe extern "C" fn(*const u8, usize, *mut u64, usize);
-type ProvedEvaluate =
-    unsafe extern "C" fn(*const u8, usize, *const u16, usize, *mut u16, usize, *mut u64, usize);
+type ProvedEvaluate = fn(&[u8], &[u16], &mut [u16], &mut [u64]);
 
 /// The calls for one kind of file, plain and proved.
 pub struct Evaluator {
@@ -34,29 +33,13 @@ impl Evaluator {
             &evaluate_case(seed, file, words),
             result_of(length),
             |result, _| (self.plain_evaluate)(file, words, result).into(),
-            |result, _, answer| self.call_evaluate(file, words, result, answer),
+            |result, _, answer| (self.proved_evaluate)(file, words, result, answer),
         )
     }
 
     fn call_check(&self, file: &[u8], answer: &mut [u64]) {
         // SAFETY: each pointer and length is that of one slice.
         unsafe { (self.proved_check)(file.as_ptr(), file.len(), answer.as_mut_ptr(), answer.len()) }
-    }
-
-    fn call_evaluate(&self, file: &[u8], words: &[u16], result: &mut [u16], answer: &mut [u64]) {
-        // SAFETY: each pointer and length is that of one slice.
-        unsafe {
-            (self.proved_evaluate)(
-                file.as_ptr(),
-                file.len(),
-                words.as_ptr(),
-                words.len(),
-                result.as_mut_ptr(),
-                result.len(),
-                answer.as_mut_ptr(),
-                answer.len(),
-            )
-        }
     }
 
     /// A file with a fault is refused for it by both calls, before words and result are judged.
@@ -109,7 +92,7 @@ impl Evaluator {
         });
         let case = evaluate_case(seed, file, &words);
         short_answers_change_nothing(&case, result_of(sizes.frames), 2, |result, _, answer| {
-            self.call_evaluate(file, &words, result, answer)
+            (self.proved_evaluate)(file, &words, result, answer)
         });
     }
 }

@@ -68,7 +68,7 @@ impl Seen {
 
 /// One call and what it is given; a failing comparison shows it.
 pub struct Case<'a> {
-    pub call: &'static str,
+    pub call: &'a str,
     pub seed: u64,
     pub file: &'a [u8],
     /// Input words, or layer, state and word.

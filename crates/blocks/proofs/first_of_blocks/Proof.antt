@@ -5,7 +5,7 @@ use Prim.Native.Nat.{ℕ, _<_}
 use native.Mathlib.Omega.{arith}
 use lib.Pow.{pow-pos}
 use borrow.Author.Needs.{needs}
-use Rattle.lanes.specs.Limits.{laneCount}
+use Rattle.lanes.specs.Limits.{laneBits, laneCount}
 use Rattle.circuit.specs.Lists.{blockStart}
 use Rattle.blocks.proofs.Blocks.{start-zero}
 use Rattle.blocks.proofs.Holds.{holds-first, holds-on}
@@ -39,9 +39,9 @@ returns-3 : tie.Need-returns-3
 returns-3 c v now before =
     let s = c .before .before .before in
     let a = s .before .args in
-    let first : (j : ℕ) → j < laneCount → blockStart 6 j ≡ blockStart (a .bits) j =
-    λ j h. start-zero 6 j (omega arith) h ∙ sym (start-zero (a .bits) j (omega arith) h) in
-    holds-first (a .bits) (s .power .ensures) (a .at) v (a .lanes) (c .spread2 .result) 6 (c .before .before .if1 .left) first (c .spread2 .ensures) now
+    let first : (j : ℕ) → j < laneCount → blockStart laneBits j ≡ blockStart (a .bits) j =
+    λ j h. start-zero laneBits j (omega arith) h ∙ sym (start-zero (a .bits) j (omega arith) h) in
+    holds-first (a .bits) (s .power .ensures) (a .at) v (a .lanes) (c .spread2 .result) laneBits (c .before .before .if1 .left) first (c .spread2 .ensures) now
 
 pub first-of-blocks-spec : {M : Type 1} → statement M
 first-of-blocks-spec = tie.close (tie.spec power-requires rem-if1 returns spread-requires spread-requires-2 returns-2 returns-3)

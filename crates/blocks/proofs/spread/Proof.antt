@@ -12,6 +12,9 @@ power-requires c κs = search needs
 sub-ones : tie.Need-sub-ones
 sub-ones c = block-small (c .before .pre) (c .power .ensures)
 
+cast-ones : tie.Need-cast-ones
+cast-ones c = omega arith
+
 shr-ones : tie.Need-shr-ones
 shr-ones c = omega (arith, block-some (c .before .pre) (c .power .ensures))
 
@@ -25,4 +28,4 @@ returns : tie.Need-returns
 returns c = spread-bits (c .before .pre) (c .power .ensures) (c .before .args .lanes)
 
 pub spread-spec : {M : Type 1} → statement M
-spread-spec = tie.close (tie.spec power-requires sub-ones shr-ones div-result mul-result returns)
+spread-spec = tie.close (tie.spec power-requires sub-ones cast-ones shr-ones div-result mul-result returns)

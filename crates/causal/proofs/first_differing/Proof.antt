@@ -129,8 +129,8 @@ returns c =
     let k = c .before in
     let i = turn k in
     let l = i .before .loop in
-    let fits : getD (now (start i .args .lanes)) (signal i) 0 < 2 ^ 64 = omega (arith, k .before .before .before .shared-slice-known3 .given (signal i)) in
-    let fits-2 : k .first-of-blocks .result < 2 ^ 64 = omega (arith, k .first-of-blocks) in (
+    let fits : getD (now (start i .args .lanes)) (signal i) 0 < 2 ^ laneCount = omega (arith, k .before .before .before .shared-slice-known3 .given (signal i)) in
+    let fits-2 : k .first-of-blocks .result < 2 ^ laneCount = omega (arith, k .first-of-blocks) in (
       record {
         r-from = l .inv .0;
         r-to = l .inv .1;

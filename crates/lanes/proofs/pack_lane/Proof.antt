@@ -48,11 +48,14 @@ mul-word-2 c = omega arith
 shared-slice-read-word : tie.Need-shared-slice-read-word Inv-loop μ-loop
 shared-slice-read-word c = omega arith
 
+cast-word : tie.Need-cast-word Inv-loop μ-loop
+cast-word c = omega arith
+
 shr-word : tie.Need-shr-word Inv-loop μ-loop
 shr-word c = omega arith
 
-cast-word : tie.Need-cast-word Inv-loop μ-loop
-cast-word c = omega arith
+cast-word-2 : tie.Need-cast-word-2 Inv-loop μ-loop
+cast-word-2 c = omega arith
 
 add-word-2 : tie.Need-add-word-2 Inv-loop μ-loop
 add-word-2 c = omega (arith, small (c .before))
@@ -61,14 +64,13 @@ loop-less : tie.Need-loop-less Inv-loop μ-loop
 loop-less c = omega arith
 
 loop-again : tie.Need-loop-again Inv-loop μ-loop
-unfolding lane
 loop-again c =
     let l = c .before .before .loop in
     let a = c .before .before .before .args in
     let i = a .at + (l .k - 1) in (
       omega arith,
       packed-more (lane (a .j) (now (a .lanes))) i (a .at + l .k) (a .count - l .k) (a .count - (l .k - 1)) (l .word) _
-          (omega (arith, lane-length (now (a .lanes)) (a .j))) (omega arith) (omega arith) (l .inv .1) (digit-is (λ x. x) (now (a .lanes)) i (a .j) (omega arith)),
+          (omega (arith, lane-length (now (a .lanes)) (a .j))) (omega arith) (omega arith) (l .inv .1) (digit-is (now (a .lanes)) i (a .j)),
     )
 
 returns : tie.Need-returns Inv-loop μ-loop
@@ -91,8 +93,9 @@ pack-lane-spec =
     add-word
     mul-word-2
     shared-slice-read-word
-    shr-word
     cast-word
+    shr-word
+    cast-word-2
     add-word-2
     loop-less
     loop-again

@@ -1,24 +1,28 @@
--- `lanes::store_signals` meets its contract. The invariant: the lanes of the signals before gate g are stored.
+-- `lanes::store_signals` meets its contract. The invariant: the lanes of the inputs are stored, and the gates before g are settled.
 -- Assumes nothing.
-use mathlib.Core.Path.{_≡_, refl, _∙_}
+use mathlib.Core.Path.{_≡_, refl, _∙_, subst}
 use mathlib.Core.List.{List}
 use Prim.Native.Nat.{ℕ, _+_, _*_, _-_, _/_, _^_, _≤_, _<_}
 use native.Mathlib.Omega.{arith}
 use denote.Ref.{now}
 use lib.ListN.{length, getD, length-set}
+use lib.Seq.{getD-set-other}
 use Rattle.circuit.specs.Limits.{mostSignals}
 use Rattle.circuit.specs.Circuit.{gates, allInputs}
-use Rattle.lanes.specs.Lanes.{Lanes}
-use Rattle.lanes.proofs.Laws.{inputs-are, valuesOn, gates-none, gates-more, gates-all}
+use Rattle.circuit.proofs.Laws.{signals-fit}
+use Rattle.lanes.specs.Limits.{laneCount}
+use Rattle.lanes.specs.Lanes.{NumberLanes, Lanes, Settled}
+use Rattle.lanes.proofs.Laws.{inputsOf, inputs-are, inputs-stored, inputs-kept, settled-more, settled-signals}
 use Rattle.lanes.proofs.store_signals.Statement.{statement}
 use Rattle.lanes.proofs.store_signals.Tie as tie
 
 abbrev Inv-loop : tie.InvT-loop
-Inv-loop circuit head t histories lanes₀ count base g₀ lanes g =
-    (g ≤ count) × (mostSignals ≤ length lanes) × (length lanes ≡ length lanes₀) × Lanes histories lanes (base + g) (valuesOn circuit t g)
+Inv-loop circuit head t numbers firsts lanes₀ count base start g₀ lanes g =
+    (g ≤ count) × (mostSignals ≤ length lanes) × (length lanes ≡ length lanes₀) × (getD lanes 0 0 ≡ 0)
+    × ((h : ℕ → ℕ) → NumberLanes numbers h → Lanes lanes base (inputsOf circuit t h)) × Settled circuit lanes g
 
 abbrev μ-loop : tie.MeasureT-loop
-μ-loop circuit head t histories lanes₀ count base g₀ lanes g = count - g
+μ-loop circuit head t numbers firsts lanes₀ count base start g₀ lanes g = count - g
 
 -- the number of all inputs
 inputs-to : (c : tie.Start Inv-loop μ-loop) → c .args .head .inputs * c .args .head .frames ≡ allInputs (now (c .args .circuit))
@@ -26,24 +30,28 @@ inputs-to c = inputs-are (now (c .args .circuit)) (c .args .head .inputs) (c .ar
 
 store-inputs-requires : tie.Need-store-inputs-requires Inv-loop μ-loop
 store-inputs-requires c κs =
-    let s = c .before .before .before .before in
-    ((omega (arith, s .pre), omega (arith, s .pre, inputs-to s), omega (arith, s .pre)), (omega (arith, s .pre), omega (arith, s .pre, inputs-to s)))
+    let s = c .before .before .before .before .before in
+    ((omega (arith, s .pre), omega (arith, s .pre, inputs-to s), omega (arith, s .pre)), (omega (arith, s .pre), omega (arith, s .pre), omega (arith, s .pre)))
 
 loop-holds : tie.Need-loop-holds Inv-loop μ-loop
 loop-holds c =
-    let s = c .before .before .before .before .before .before .before in
+    let s = c .before .before .before .before .before .before .before .before in
     let h = s .args .head in
-    let k = c .before .before .store-inputs in (
-      omega arith,
+    let w = s .pre .0 in
+    let b = now (s .args .circuit) in
+    let k = c .before .before .store-inputs in
+    let v = k .last .1 .1 .1 .1 .0 in (
+      k .ensures .1 .1 .0,
       omega (arith, k .kept .1 .1 .1 .1 .0, s .pre),
       refl,
-      gates-none (now (s .args .circuit)) (now (s .args .histories)) (s .args .t) (k .last .1 .1 .1 .1 .0) (h .inputs) (h .frames) (h .base)
-          (s .pre .0 .head-is .inputs-is) (s .pre .0 .head-is .frames-is) (s .pre .0 .head-is .base-is) (k .ensures),
+      k .ensures .1 .1 .1,
+      λ hs N. inputs-stored b (s .args .t) hs v (h .inputs) (h .frames) (h .base) (w .head-is .inputs-is) (w .head-is .frames-is) (w .head-is .base-is) (k .ensures .0 hs N),
+      k .ensures .1 .0 b w (s .pre .1 .1 .0) (s .pre .1 .1 .1),
     )
 
 -- in a turn: the circuit, the sizes and the gate
 abbrev start : tie.In-loop Inv-loop μ-loop → tie.Start Inv-loop μ-loop
-start c = c .before .before .before .before .before .before .before .before .before
+start c = c .before .before .before .before .before .before .before .before .before .before
 
 abbrev b₀ : tie.In-loop Inv-loop μ-loop → List ℕ
 b₀ c = now (start c .args .circuit)
@@ -118,15 +126,17 @@ loop-again c =
     let l = i .before .loop in
     let s = start i in
     let k = r .read-gate in
-    let left-fits : getD (l .lanes) (k .result .left / 2) 0 < 2 ^ 64 = omega (arith, c .before .before .before .slice-known3 .given (k .result .left / 2)) in
-    let right-fits : getD (l .lanes) (k .result .right / 2) 0 < 2 ^ 64 = omega (arith, c .before .slice-known4 .given (k .result .right / 2)) in (
+    let w = s .pre .0 in
+    let left-fits : getD (l .lanes) (k .result .left / 2) 0 < 2 ^ laneCount = omega (arith, c .before .before .before .slice-known3 .given (k .result .left / 2)) in
+    let right-fits : getD (l .lanes) (k .result .right / 2) 0 < 2 ^ laneCount = omega (arith, c .before .slice-known4 .given (k .result .right / 2)) in (
       omega (arith, gate i, s .pre),
       simp length-set (l .inv .1),
       length-set (l .lanes) (n₀ i) _ ∙ l .inv .2,
-      gates-more (b₀ i) (now (s .args .histories)) (s .args .t) (l .lanes) (g₀′ i) (n₀ i) (k .result .left) (k .result .right)
-          (c .before .before .literal-lanes .result) (c .literal-lanes2 .result) (omega (arith, s .pre)) (slice-write-lanes c) (l .inv .3)
-          (k .ensures .left-is) (k .ensures .right-is) (left-in r) (right-in r) left-fits right-fits (c .before .before .literal-lanes .ensures) (c .literal-lanes2 .ensures)
-          (s .args .head .base + (g₀′ i + 1)) (omega arith),
+      getD-set-other (l .lanes) (n₀ i) 0 _ 0 (λ e. omega (arith, s .pre)) ∙ l .inv .3,
+      λ hs N. inputs-kept (b₀ i) (s .args .t) hs (l .lanes) (s .args .head .base) (n₀ i) _ (omega arith) (l .inv .4 hs N),
+      settled-more (b₀ i) (w .legal) (l .lanes) (g₀′ i) (n₀ i) (k .result .left) (k .result .right) (c .before .before .literal-lanes .result) (c .literal-lanes2 .result)
+          (gate i) (omega (arith, w .head-is .base-is)) (slice-write-lanes c) (l .inv .5) (k .ensures .left-is) (k .ensures .right-is) left-fits right-fits
+          (c .before .before .literal-lanes .ensures) (c .literal-lanes2 .ensures),
     )
 
 same-length : tie.Need-same-length Inv-loop μ-loop
@@ -134,9 +144,13 @@ same-length c = c .before .loop .inv .2 ∙ c .before .before .before .before .s
 
 returns : tie.Need-returns Inv-loop μ-loop
 returns c =
-    let s = c .before .before .before .before .before .before .before .before .before in
-    gates-all (now (s .args .circuit)) (now (s .args .histories)) (s .args .t) (c .before .loop .lanes) (s .args .head .base) (c .before .loop .g)
-    (s .pre .0 .head-is .base-is) (omega (arith, s .pre, c .before .loop .inv)) (c .before .loop .inv .3)
+    let s = c .before .before .before .before .before .before .before .before .before .before in
+    let l = c .before .loop in
+    let w = s .pre .0 in
+    let b = now (s .args .circuit) in
+    let e : l .g ≡ gates b = omega (arith, s .pre, l .inv) in
+    let all : Settled b (l .lanes) (gates b) = subst (Settled b (l .lanes)) e (l .inv .5) in
+    (λ hs N. settled-signals b (w .legal) (s .args .t) hs (l .lanes) (omega (arith, signals-fit b (w .headed), l .inv .1)) all (s .args .head .base) (w .head-is .base-is) (l .inv .4 hs N), λ z. all)
 
 pub store-signals-spec : {M : Type 1} → statement M
 store-signals-spec =

@@ -1,25 +1,30 @@
--- `responses::fill` meets its contract. The invariant: the first h histories are stored, and the rest is as before.
+-- `responses::fill` meets its contract. The invariant: the responses to the histories before h are stored, and the rest is as before.
 -- Assumes nothing.
-use mathlib.Core.Path.{_≡_, refl, sym, _∙_}
-use Prim.Native.Nat.{_-_, _^_, _≤_}
+use mathlib.Core.Path.{_≡_, refl, sym, ap, _∙_}
+use Prim.Native.Nat.{_+_, _-_, _%_, _^_, _≤_, _<_}
 use native.Mathlib.Omega.{arith}
+use borrow.Author.Needs.{needs}
 use denote.Ref.{now}
-use lib.ListN.{length, take, drop, length-set}
-use lib.Seq.{length-take-le, length-front}
+use lib.ListN.{length, length-take}
 use Rattle.sizes.specs.Sizes.{inputs}
 use Rattle.layered.specs.Search.{tabulate, join}
-use Rattle.layered.proofs.Lists.{drop-more}
-use Rattle.responses.proofs.Laws.{bits-to, count-is, count-to, fill-more, all-filled}
+use Rattle.circuit.specs.Limits.{mostSignals}
+use Rattle.circuit.specs.Theorems.{response}
+use Rattle.lanes.specs.Limits.{laneCount}
+use Rattle.lanes.specs.Lanes.{FirstUses, Ready}
+use Rattle.lanes.proofs.Laws.{room-ready}
+use Rattle.responses.specs.Responses.{filled}
+use Rattle.responses.proofs.Laws.{bits-to, count-is, counted, counted-length, counted-more, next-part}
 use Rattle.responses.proofs.fill.Statement.{statement}
 use Rattle.responses.proofs.fill.Tie as tie
 
 abbrev Inv-loop : tie.InvT-loop
-Inv-loop circuit head t responses₀ count h₀ responses h =
-    (h ≤ count) × (count ≤ 65536) × (count ≡ (2 ^ inputs circuit) ^ t) × (length responses ≡ length responses₀) × (take h responses ≡ tabulate h (λ i. i))
-    × (drop h responses ≡ drop h responses₀)
+Inv-loop circuit head t responses₀ count firsts lanes₀ h₀ responses lanes h =
+    (h ≤ count) × (h < count → h % laneCount ≡ 0) × (count ≡ (2 ^ inputs circuit) ^ t) × (length lanes ≡ mostSignals)
+    × (responses ≡ counted (response circuit t) h responses₀) × FirstUses circuit 0 firsts × Ready circuit lanes
 
 abbrev μ-loop : tie.MeasureT-loop
-μ-loop circuit head t responses₀ count h₀ responses h = count - h
+μ-loop circuit head t responses₀ count firsts lanes₀ h₀ responses lanes h = count - h
 
 histories-requires : tie.Need-histories-requires Inv-loop μ-loop
 histories-requires c κs =
@@ -27,73 +32,105 @@ histories-requires c κs =
     let p = s .pre in
     bits-to (now (s .args .circuit)) (p .0 .headed) (s .args .head .inputs) (s .args .t) (p .0 .head-is .inputs-is) (p .1 .0 .1)
 
+first-uses-requires : tie.Need-first-uses-requires Inv-loop μ-loop
+first-uses-requires c κs = c .before .before .before .pre .0
+
+room-requires : tie.Need-room-requires Inv-loop μ-loop
+room-requires c κs = tt
+
 loop-holds : tie.Need-loop-holds Inv-loop μ-loop
 unfolding tabulate join
 loop-holds c =
-    let k = c .histories in
-    let s = c .before .before .before in
-    let p = s .pre in (
+    let s = c .before .before .before .before .before in
+    let p = s .pre in
+    let k = c .before .before .histories in (
       omega arith,
-      count-to (now (s .args .circuit)) (p .0 .headed) (s .args .head .inputs) (s .args .t) (p .0 .head-is .inputs-is) (p .1 .0 .1) (k .result) (k .ensures),
+      λ l. refl,
       count-is (now (s .args .circuit)) (p .0 .headed) (s .args .head .inputs) (s .args .t) (p .0 .head-is .inputs-is) (p .1 .0 .1) (k .result) (k .ensures),
+      search needs,
       refl,
-      refl,
-      refl,
+      c .before .first-uses .ensures,
+      room-ready _ _ (c .room .ensures),
     )
 
--- in a turn: the entry
+part-end-requires : tie.Need-part-end-requires Inv-loop μ-loop
+part-end-requires c κs = omega arith
+
+neighbours-requires : tie.Need-neighbours-requires Inv-loop μ-loop
+neighbours-requires c κs = c .before .before .loop .inv .1 (c .before .loop-test .taken)
+
+-- in a turn: the entry, and as many responses as at first
 abbrev start : tie.In-loop Inv-loop μ-loop → tie.Start Inv-loop μ-loop
-start c = c .before .before .before .before .before
+start c = c .before .before .before .before .before .before .before
 
-cast-responses : tie.Need-cast-responses Inv-loop μ-loop
-cast-responses c = omega arith
+kept-length : (c : tie.In-loop Inv-loop μ-loop) → length (c .before .loop .responses) ≡ length (now (start c .args .responses))
+kept-length c =
+    let l = c .before .loop in
+    let s = start c in
+    ap length (l .inv .4) ∙ counted-length (response (now (s .args .circuit)) (s .args .t)) (l .h) (now (s .args .responses)) (omega (arith, c, s .pre))
 
-mul-responses : tie.Need-mul-responses Inv-loop μ-loop
-mul-responses c = omega arith
+slice-aggregate-respond : tie.Need-slice-aggregate-respond Inv-loop μ-loop
+slice-aggregate-respond c = search needs
 
-slice-write-responses : tie.Need-slice-write-responses Inv-loop μ-loop
-slice-write-responses c = omega (arith, start c .pre)
+slice-aggregate-respond-2 : tie.Need-slice-aggregate-respond-2 Inv-loop μ-loop
+slice-aggregate-respond-2 c = search needs
 
-add-h : tie.Need-add-h Inv-loop μ-loop
-add-h c = omega arith
+slice-aggregate-respond-3 : tie.Need-slice-aggregate-respond-3 Inv-loop μ-loop
+slice-aggregate-respond-3 c = sym (c .before .before .before .before .before .before .loop .inv .3)
+
+mul-respond : tie.Need-mul-respond Inv-loop μ-loop
+mul-respond c = omega (arith, c .before .before .before .before .before, start (c .before .before .before .before .before) .pre, kept-length (c .before .before .before .before .before))
+
+sub-respond : tie.Need-sub-respond Inv-loop μ-loop
+sub-respond c = omega arith
+
+part-respond-start : tie.Need-part-respond-start Inv-loop μ-loop
+part-respond-start c = omega arith
+
+part-respond-end : tie.Need-part-respond-end Inv-loop μ-loop
+part-respond-end c = let i = c .before .before .before .before .before in omega (arith, i, start i .pre, kept-length i)
+
+respond-requires : tie.Need-respond-requires Inv-loop μ-loop
+respond-requires c κs =
+    let i = c .before .before .before .before .before .before in
+    let l = i .before .loop in
+    let p = start i .pre in
+    (p .0, (p .1 .0, ((search needs, search needs, omega arith, simp length-take (omega arith)), (l .inv .5, l .inv .6))))
 
 loop-less : tie.Need-loop-less Inv-loop μ-loop
-loop-less c = omega arith
+loop-less c = omega (arith, c .before .before .before .before .before .before .before .before .before)
 
 loop-again : tie.Need-loop-again Inv-loop μ-loop
 loop-again c =
-    let l = c .before .loop in (
-      omega arith,
-      l .inv .1,
+    let e = c .before .before .before .before .before .before .before .before .before in
+    let i = e .before in
+    let l = i .before .loop in
+    let s = start i in
+    let k = c .before .before .before .respond in (
+      omega (arith, e),
+      next-part (l .h) (e .part-end .result) _ (e .part-end .ensures) (l .inv .1 (i .loop-test .taken)),
       l .inv .2,
-      simp length-set (l .inv .3),
-      fill-more (l .responses) (l .h) (slice-write-responses c) (l .inv .4),
-      drop-more (l .responses) (now (start c .args .responses)) (l .h) (l .h) (l .inv .5),
+      k .kept .1 .1 .1 .1 .1 .0 ∙ l .inv .3,
+      counted-more (response (now (s .args .circuit)) (s .args .t)) (l .responses) (now (s .args .responses)) (k .last .1 .1 .1 .1 .1 .1 .0) (l .h) (e .part-end .result)
+          (omega (arith, e)) (omega (arith, e, kept-length i, s .pre)) (l .inv .4)
+          (k .ensures .1 (λ j. l .h + j) (c .before .before .before .before .before .before .before .before .neighbours .ensures)),
+      l .inv .5,
+      k .ensures .0,
     )
-
-slice-relend-prefix-respond-each : tie.Need-slice-relend-prefix-respond-each Inv-loop μ-loop
-slice-relend-prefix-respond-each c = omega (arith, c .before .before .before .before .before .pre)
-
-slice-aggregate-respond-each : tie.Need-slice-aggregate-respond-each Inv-loop μ-loop
-slice-aggregate-respond-each c = sym (length-take-le _ _ (slice-relend-prefix-respond-each (c .before)))
-
-respond-each-requires : tie.Need-respond-each-requires Inv-loop μ-loop
-respond-each-requires c κs =
-    let p = c .before .before .before .before .before .before .pre in
-    (p .0, p .1 .0)
 
 same-length : tie.Need-same-length Inv-loop μ-loop
 same-length c =
-    let i = c .before .before .before .before .before .loop in
-    let k = c .before .before .before .before .before .before .histories in
-    length-front (i .responses) (c .before .before .respond-each .last .1 .1 .1 .0) (k .result) (c .before .before .respond-each .kept .1 .1 .1 .0) ∙ i .inv .3
+    let l = c .before .loop in
+    let s = c .before .before .before .before .before .before .before in
+    ap length (l .inv .4) ∙ counted-length (response (now (s .args .circuit)) (s .args .t)) (l .h) (now (s .args .responses)) (omega (arith, s .pre, l .inv))
 
 returns : tie.Need-returns Inv-loop μ-loop
+unfolding filled
 returns c =
-    let l = c .before .before .before .before .before .loop in
-    let s = c .before .before .before .before .before .before .before .before .before in
-    all-filled (now (s .args .circuit)) (l .responses) (now (s .args .responses)) (c .before .before .respond-each .last .1 .1 .1 .0) (s .args .t) (l .h) _
-    (omega arith) (l .inv .2) (l .inv .4) (l .inv .5) (c .before .before .respond-each .ensures)
+    let l = c .before .loop in
+    let s = c .before .before .before .before .before .before .before in
+    let e : l .h ≡ (2 ^ inputs (now (s .args .circuit))) ^ s .args .t = omega (arith, l .inv) in
+    l .inv .4 ∙ ap (λ k. counted (response (now (s .args .circuit)) (s .args .t)) k (now (s .args .responses))) e
 
 pub fill-spec : {M : Type 1} → statement M
 fill-spec =
@@ -102,15 +139,20 @@ fill-spec =
     Inv-loop
     μ-loop
     histories-requires
+    first-uses-requires
+    room-requires
     loop-holds
-    cast-responses
-    mul-responses
-    slice-write-responses
-    add-h
+    part-end-requires
+    neighbours-requires
+    slice-aggregate-respond
+    slice-aggregate-respond-2
+    slice-aggregate-respond-3
+    mul-respond
+    sub-respond
+    part-respond-start
+    part-respond-end
+    respond-requires
     loop-less
     loop-again
-    slice-relend-prefix-respond-each
-    slice-aggregate-respond-each
-    respond-each-requires
     same-length
     returns)

@@ -1,15 +1,13 @@
 -- `simulate::simulate` meets its contract: each return is an outcome of the definition.
 -- Assumes nothing.
-use mathlib.Core.Path.{_≡_}
-use Prim.Native.Nat.{_≤_}
 use lib.ListN.{length}
 use native.Mathlib.Omega.{arith}
 use denote.Ref.{now}
 use Rattle.verdict.proofs.Laws.{accepts}
 use Rattle.sizes.specs.Sizes.{inputs, frames}
-use Rattle.sizes.specs.Sized.{Fed}
 use Rattle.circuit.proofs.Accepted.{Accepted, well-formed, accepted}
-use Rattle.simulate.proofs.Simulation.{refused-circuit, refused-sequence, sequence-fed, accepted-all}
+use Rattle.simulate.proofs.Judged.{SequencesFed}
+use Rattle.simulate.proofs.Simulation.{refused-circuit, refused-sequences, sequences-fed, accepted-all}
 use borrow.Author.Needs.{needs}
 use Rattle.simulate.proofs.simulate.Statement.{statement}
 use Rattle.simulate.proofs.simulate.Tie as tie
@@ -26,7 +24,7 @@ enum-told-2 c = search needs
 returns : tie.Need-returns
 returns c =
     let k = c .before .before in
-    refused-circuit _ _ _ (k .check .result) (k .check .ensures .0) (c .enum-told2 .given .0 .0) (c .enum-told2 .given .1)
+    refused-circuit _ _ _ _ (k .check .result) (k .check .ensures .0) (c .enum-told2 .given .0 .0) (c .enum-told2 .given .1)
 
 -- what is known of the circuit after it is accepted
 known : (c : tie.After-enum-told) → Accepted (now (c .before .before .before .before .before .before .args .circuit))
@@ -37,8 +35,8 @@ known c =
 read-requires : tie.Need-read-requires
 read-requires c κs = known c .form .head
 
-check-sequence-requires : tie.Need-check-sequence-requires
-check-sequence-requires c κs = omega (arith, known (c .before) .form .sizes, c .read .ensures)
+check-sequences-requires : tie.Need-check-sequences-requires
+check-sequences-requires c κs = omega (arith, known (c .before) .form .sizes, c .read .ensures)
 
 enum-told-3 : tie.Need-enum-told-3
 enum-told-3 c = search needs
@@ -52,30 +50,30 @@ returns-2 c =
     let r = s .before in
     let e = r .before in
     let k = e .before .before in
-    refused-sequence _ _ _ (k .check .result) (k .check .ensures .0) (e .enum-told .given .0 .0) (e .enum-told .given .1) (r .read .result) (r .read .ensures)
-    (s .check-sequence .result) (s .check-sequence .ensures) (c .enum-told4 .given .0 .0) (c .enum-told4 .given .1)
+    refused-sequences _ _ _ _ (k .check .result) (k .check .ensures .0) (e .enum-told .given .0 .0) (e .enum-told .given .1) (r .read .result) (r .read .ensures)
+    (s .check-sequences .result) (s .check-sequences .ensures) (c .enum-told4 .given .0 .0) (c .enum-told4 .given .1)
 
 -- what is known of the words after they are accepted
 abbrev entry : tie.After-enum-told3 → tie.Start
 entry c = c .before .before .before .before .before .before .before .before .before .before
 
 fed₁ : (c : tie.After-enum-told3)
-    → Fed (inputs (now (entry c .args .circuit))) (frames (now (entry c .args .circuit))) (now (entry c .args .words))
-    × (frames (now (entry c .args .circuit)) ≤ length (now (entry c .args .result))) × (c .enum-told3 .given .0 .0 ≡ frames (now (entry c .args .circuit)))
+    → SequencesFed (inputs (now (entry c .args .circuit))) (frames (now (entry c .args .circuit))) (entry c .args .count) (now (entry c .args .words)) (length (now (entry c .args .result)))
+    (c .enum-told3 .given .0 .0)
 fed₁ c =
     let s = c .before .before in
     let r = s .before in
     let e = r .before in
     let k = e .before .before in
-    sequence-fed _ _ (now (entry c .args .result)) (k .check .result) (k .check .ensures .0) (e .enum-told .given .0 .0) (e .enum-told .given .1) (r .read .result) (r .read .ensures)
-    (s .check-sequence .result) (s .check-sequence .ensures) (c .enum-told3 .given .0 .0) (c .enum-told3 .given .1)
+    sequences-fed _ _ _ (now (entry c .args .result)) (k .check .result) (k .check .ensures .0) (e .enum-told .given .0 .0) (e .enum-told .given .1) (r .read .result) (r .read .ensures)
+    (s .check-sequences .result) (s .check-sequences .ensures) (c .enum-told3 .given .0 .0) (c .enum-told3 .given .1)
 
 write-outputs-requires : tie.Need-write-outputs-requires
 write-outputs-requires c κs =
     let s = c .before .before .before in
     let r = s .before in
     let f = fed₁ (c .before) in
-    (well-formed (known (r .before) .form) (r .read .ensures), (f .0 .as-many, f .1))
+    (well-formed (known (r .before) .form) (r .read .ensures), ((f .few, f .roomy), f .all-words))
 
 same-length : tie.Need-same-length
 same-length c = search needs
@@ -88,8 +86,8 @@ returns-3 c =
     let r = s .before in
     let e = r .before in
     let k = e .before .before in
-    accepted-all _ _ _ (k .check .result) (k .check .ensures .0) (e .enum-told .given .0 .0) (e .enum-told .given .1) (r .read .result) (r .read .ensures)
-    (s .check-sequence .result) (s .check-sequence .ensures) (t .enum-told3 .given .0 .0) (t .enum-told3 .given .1) _ (w .write-outputs .ensures)
+    accepted-all _ _ _ _ (k .check .result) (k .check .ensures .0) (e .enum-told .given .0 .0) (e .enum-told .given .1) (r .read .result) (r .read .ensures)
+    (s .check-sequences .result) (s .check-sequences .ensures) (t .enum-told3 .given .0 .0) (t .enum-told3 .given .1) _ (w .write-outputs .ensures)
 
 pub simulate-spec : {M : Type 1} → statement M
 simulate-spec =
@@ -100,7 +98,7 @@ simulate-spec =
     enum-told-2
     returns
     read-requires
-    check-sequence-requires
+    check-sequences-requires
     enum-told-3
     enum-told-4
     returns-2

@@ -28,7 +28,7 @@ returns-2 c =
     let k = p .before .before .before .before in
     let e = k .before .before in (
       answer-put _ _ _ _ (e .if1 .left) (ap verdictNumbers (k .simulate .ensures .0)) (p .put .ensures),
-      buffer-left _ _ _ _ (e .if1 .left) (k .simulate .ensures .1),
+      buffer-left _ _ _ _ (e .if1 .left) (k .simulate .ensures .1 .0),
     )
 
 pub tff-simulate-spec : {M : Type 1} → statement M

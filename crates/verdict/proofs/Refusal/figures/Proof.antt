@@ -42,6 +42,9 @@ enum-known-self-11 c = search needs
 enum-known-self-12 : tie.Need-enum-known-self-12
 enum-known-self-12 c = search needs
 
+enum-known-self-13 : tie.Need-enum-known-self-13
+enum-known-self-13 c = search needs
+
 returns : tie.Need-returns
 returns c = sym (ap refusalFigures (c .before .self .given .1))
 
@@ -78,6 +81,9 @@ returns-11 c = sym (ap refusalFigures (c .before .self11 .given .1))
 returns-12 : tie.Need-returns-12
 returns-12 c = sym (ap refusalFigures (c .before .self12 .given .1))
 
+returns-13 : tie.Need-returns-13
+returns-13 c = sym (ap refusalFigures (c .before .self13 .given .1))
+
 pub figures-spec : {M : Type 1} → statement M
 figures-spec =
     tie.close
@@ -94,6 +100,7 @@ figures-spec =
     enum-known-self-10
     enum-known-self-11
     enum-known-self-12
+    enum-known-self-13
     returns
     returns-2
     returns-3
@@ -105,4 +112,5 @@ figures-spec =
     returns-9
     returns-10
     returns-11
-    returns-12)
+    returns-12
+    returns-13)
