@@ -97,8 +97,10 @@ fn unrolled_machines_are_folded() {
 fn the_order_of_the_gates_changes_no_byte() {
     for seed in seeds(300) {
         let mut rng = Rng::new(seed);
-        let circuit = circuits::any_legal(&mut rng, 10, 80);
+        let sizes = any_sizes(&mut rng, 10);
+        let circuit = circuits::legal(&mut rng, sizes, sizes.output_gates() + 60);
         let reordered = circuits::reordered(&mut rng, &circuit);
+        assert_ne!(reordered, circuit);
         accepts(seed, &reordered);
         assert_eq!(folded(&reordered.to_bytes()), folded(&circuit.to_bytes()));
     }

@@ -36,7 +36,7 @@ Lanes v k values = (j : ℕ) → j < laneCount → take k (lane j v) ≡ values 
 unfoldable pub Settled : List ℕ → (v : List ℕ) (k : ℕ) → Type 0
 Settled b v k = (g j : ℕ) → g < k → j < laneCount → bit (getD v (gateSignal b g) 0) j ≡ gateValue b (lane j v) g
 
--- all gates have; where the constant's number is not zero, v is room that was not used yet
+-- all gates are settled, unless the constant's number is not zero: then v is room that was not used yet
 abbrev pub Ready : List ℕ → (v : List ℕ) → Type 0
 Ready b v = getD v 0 0 ≡ 0 → Settled b v (gates b)
 
