@@ -5,7 +5,6 @@ use native.Mathlib.Nat.{pow-zero, pow-suc, one-mul, mul-le-mul-left, le-refl, po
 use native.Mathlib.Decide.{le-ind}
 use native.Mathlib.Omega.{arith}
 use lib.Pow.{pow-mono}
-use Rattle.layered.proofs.Rows.{pow-mul}
 use Rattle.classify.specs.Classified.{layerAt}
 
 module _ (K : ℕ) (two : 2 ≤ K) where
@@ -34,7 +33,3 @@ two-words n h = pow-mono {i = 1} h
 -- the histories of one word are the words
 pub one-word : (K : ℕ) → K ^ 1 ≡ K
 one-word K = pow-suc K 0 ∙ ap (λ (x : ℕ). x * K) (pow-zero K) ∙ one-mul K
-
--- K^t fits, where n·t is at most 16
-pub power-fits : (n t : ℕ) → n * t ≤ 16 → (2 ^ n) ^ t ≤ 65536
-power-fits n t h = rw (← pow-mul 2 n t) (pow-mono {j = 16} h)

@@ -10,6 +10,7 @@ use Rattle.sizes.specs.Sizes.{inputs, outputs, frames}
 use Rattle.sizes.specs.Sized.{Sized}
 use Rattle.layered.specs.States.{Words, none, more, outputs as outputsOf, Equivalent, count, number, history}
 use Rattle.layered.specs.Machines.{Legal, feed, Gives, folded}
+use Rattle.layered.proofs.Lists.{Below}
 use Rattle.layered.proofs.States.{some-words, words-more, number-decides, number-below, history-is, history-least}
 use Rattle.layered.proofs.Machines.{legal, gives, fewest}
 use Rattle.circuit.specs.Circuit.{outputWords}
@@ -23,7 +24,7 @@ use Rattle.layered.proofs.Feeding.{words-length, words-append, words-whole, rea
 use Rattle.layered.proofs.Histories.{numbered-append, number-words, history-below, outputs-then}
 use Rattle.folded.proofs.Agreement.{Agree}
 use Rattle.folded.proofs.Checked.{Writable, passed-table}
-use Rattle.folded.proofs.Written.{Below, tableBytes}
+use Rattle.folded.proofs.Written.{tableBytes}
 use Rattle.folded.proofs.Read.{bytes-are, agree-bytes}
 use Rattle.folded.proofs.Response.{no-telling, history-climbs}
 use Rattle.folded.proofs.Tables.{foldedMachine, folded-below}

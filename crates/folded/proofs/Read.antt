@@ -10,13 +10,13 @@ use Rattle.words.proofs.Laws.{word-is, allBytes-append}
 use Rattle.sizes.specs.Sizes.{inputs, outputs, frames}
 use Rattle.layered.specs.Search.{join, tabulate, total}
 use Rattle.layered.specs.Machines.{Machine, entries, tableWords}
-use Rattle.layered.proofs.Lists.{total-each, join-cong, tabulate-cong, tabulate-add, join-tabulate}
+use Rattle.layered.proofs.Lists.{Below, total-each, join-cong, tabulate-cong, tabulate-add, join-tabulate}
 use Rattle.layered.proofs.Entries.{entries-cong, entries-counts}
 use Rattle.table.specs.Table.{countAt, states, headLength, entryCount, outputsAt, nextsAt, tableLength, entryAt, machine}
 use Rattle.folded.proofs.Agreement.{Agree}
 use Rattle.folded.proofs.Places.{before}
 use Rattle.folded.proofs.Checked.{below-is}
-use Rattle.folded.proofs.Written.{Below, tableBytes}
+use Rattle.folded.proofs.Written.{tableBytes}
 
 -- ---- rows of numbers in parts
 

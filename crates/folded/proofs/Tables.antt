@@ -14,13 +14,14 @@ use Rattle.sizes.specs.Sized.{Sized}
 use Rattle.layered.specs.States.{count}
 use Rattle.layered.specs.Machines.{Machine, tableWords, folded}
 use Rattle.layered.specs.Search.{total}
+use Rattle.layered.proofs.Lists.{Below}
 use Rattle.layered.proofs.States.{number-below, count-at-most, count-first, count-last}
 use Rattle.layered.proofs.Machines.{legal}
 use Rattle.layered.proofs.Rows.{rows}
 use Rattle.circuit.specs.Theorems.{response, Causal}
 use Rattle.folded.specs.Folded.{foldedBytes}
 use Rattle.folded.proofs.Checked.{Writable}
-use Rattle.folded.proofs.Written.{Below, tableBytes, bytes-length, bytes-below}
+use Rattle.folded.proofs.Written.{tableBytes, bytes-length, bytes-below}
 
 -- ---- of a response
 

@@ -14,7 +14,7 @@ use Rattle.verdict.specs.Judgements.{answer}
 use Rattle.sizes.specs.Sizes.{inputs, outputs, frames}
 use Rattle.layered.specs.Search.{join, tabulate, total}
 use Rattle.layered.specs.Machines.{Machine, entries, tableWords}
-use Rattle.layered.proofs.Lists.{total-cong, total-mul, tabulate-length, tabulate-at}
+use Rattle.layered.proofs.Lists.{Below, below-append, below-join, below-tabulate, total-cong, total-mul, tabulate-length, tabulate-at}
 use Rattle.layered.proofs.Entries.{entries-length, entries-at}
 use Rattle.table.specs.Table.{countAt, states, headLength, statesBelow, entriesBelow, entryCount, outputsAt, nextsAt, tableLength, entryAt, machine, checked}
 use Rattle.folded.proofs.Agreement.{Agree, agree-legal}
@@ -85,23 +85,6 @@ module _ (n m K T : ℕ) (M : Machine) where
         ∙ entries-at K T (M .states) (M .next) t s w b l k
 
 -- ---- the words fit
-
--- every number of a list is below x
-abbrev pub Below : (x : ℕ) → List ℕ → Type 0
-Below x l = (i : ℕ) → i < length l → getD l i 0 < x
-
-below-append : {x : ℕ} (k l : List ℕ) → Below x k → Below x l → Below x (k ++ l)
-below-append [] l B C i h = C i h
-below-append (a ∷ k) l B C zero h = B zero (omega arith)
-below-append (a ∷ k) l B C (suc i) h = below-append k l (λ j g. B (suc j) (omega arith)) C i (omega arith)
-
-below-join : {x : ℕ} (n : ℕ) (f : ℕ → List ℕ) → ((i : ℕ) → i < n → Below x (f i)) → Below x (join n f)
-unfolding join
-below-join zero f B = λ i h. absurd (omega arith)
-below-join (suc n) f B = below-append (join n f) (f n) (below-join n f (λ i h. B i (le-trans h (le-suc n)))) (B n (le-refl _))
-
-below-tabulate : {x : ℕ} (n : ℕ) (f : ℕ → ℕ) → ((i : ℕ) → i < n → f i < x) → Below x (tabulate n f)
-below-tabulate {x} n f B i h = let l : i < n = omega (arith, tabulate-length n f) in rw (tabulate-at n i f l) (B i l)
 
 below-entries : {x : ℕ} (K T : ℕ) (S : ℕ → ℕ) (e : ℕ → ℕ → ℕ → ℕ) → ((t s w : ℕ) → t < T → s < S t → w < K → e t s w < x) → Below x (entries K T S e)
 unfolding entries

@@ -1,4 +1,5 @@
 -- Numbers in byte lists, low byte first, stated once over the width in bytes. Document 01's file words are of width 2.
+use mathlib.Core.Path.{_≡_}
 use mathlib.Core.List.{List, [], _∷_, _++_}
 use Prim.Native.Nat.{ℕ, zero, suc, _+_, _*_, _/_, _%_, _^_, _<_}
 use lib.ListN.{length, getD, take, drop}
@@ -28,6 +29,11 @@ pub data Fit (width : ℕ) : List ℕ → Type 0 where
 unfoldable pub stored : (width : ℕ) (b : List ℕ) (i : ℕ) (xs : List ℕ) → List ℕ
 unfolding allBytes
 stored width b i xs = take i b ++ (allBytes width xs ++ drop (i + width * length xs) b)
+
+-- the numbers xs stand in b from byte offset i on: storing them there changes nothing
+unfoldable pub Held : (width : ℕ) (b : List ℕ) (i : ℕ) (xs : List ℕ) → Type 0
+unfolding stored
+Held width b i xs = stored width b i xs ≡ b
 
 -- the 16-bit word at byte offset i, and the bytes of 16-bit words
 unfoldable pub wordAt : List ℕ → ℕ → ℕ

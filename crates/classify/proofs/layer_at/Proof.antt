@@ -6,7 +6,8 @@ use native.Mathlib.Nat.{mul-le-mul-left, le-trans, le-of-lt}
 use native.Mathlib.Numerals.{add-one}
 use native.Mathlib.Omega.{arith}
 use Rattle.classify.specs.Classified.{layerAt}
-use Rattle.classify.proofs.Layers.{layer-below, two-words, power-fits}
+use Rattle.layered.proofs.Rows.{power-fits}
+use Rattle.classify.proofs.Layers.{layer-below, two-words}
 use Rattle.classify.proofs.layer_at.Statement.{statement}
 use Rattle.classify.proofs.layer_at.Tie as tie
 

@@ -7,7 +7,8 @@ use native.Mathlib.Numerals.{add-one}
 use native.Mathlib.Omega.{arith}
 use lib.Dec.{eqb}
 use Rattle.classify.specs.Classified.{layerAt}
-use Rattle.classify.proofs.Layers.{layer-in, two-words, one-word, power-fits}
+use Rattle.layered.proofs.Rows.{power-fits}
+use Rattle.classify.proofs.Layers.{layer-in, two-words, one-word}
 use borrow.Author.Needs.{needs}
 use Rattle.classify.proofs.layer_of.Statement.{statement}
 use Rattle.classify.proofs.layer_of.Tie as tie

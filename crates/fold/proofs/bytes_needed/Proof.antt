@@ -13,7 +13,8 @@ use Rattle.circuit.specs.Theorems.{response}
 use Rattle.table.specs.Table.{headLength}
 use Rattle.table.proofs.Offsets.{head-length}
 use Rattle.classify.specs.Classified.{stateCount}
-use Rattle.classify.proofs.Layers.{two-words, one-word, power-fits}
+use Rattle.layered.proofs.Rows.{power-fits}
+use Rattle.classify.proofs.Layers.{two-words, one-word}
 use Rattle.classify.proofs.Step.{bits-fit}
 use Rattle.folded.proofs.Tables.{folded-length, entries-most}
 use Rattle.fold.proofs.bytes_needed.Statement.{statement}

@@ -10,7 +10,7 @@ use Rattle.verdict.specs.declared.Figures.{Figures}
 use Rattle.verdict.proofs.Laws.{accepts}
 use Rattle.circuit.specs.Circuit.{allInputs, checked}
 use Rattle.circuit.proofs.Accepted.{Accepted, well-formed, accepted}
-use Rattle.classify.proofs.Layers.{power-fits}
+use Rattle.layered.proofs.Rows.{power-fits}
 use Rattle.classify.proofs.Step.{half-is, bits-fit}
 use Rattle.folded.specs.Folded.{scratchNeeded}
 use Rattle.folded.proofs.Outcomes.{Outcome, circuit-refused, scratch-refused}

@@ -12,7 +12,7 @@ use borrow.Rule.Slice.PartMut.{postOf}
 use Rattle.sizes.specs.Sizes.{inputs}
 use Rattle.circuit.specs.Circuit.{allInputs}
 use Rattle.circuit.specs.Theorems.{response}
-use Rattle.classify.proofs.Layers.{power-fits}
+use Rattle.layered.proofs.Rows.{power-fits}
 use Rattle.classify.proofs.Step.{half-is, bits-fit, placed, entries}
 use Rattle.listing.specs.Listed.{listedLayer}
 use Rattle.listing.proofs.Laws.{layer-length}
