@@ -1,4 +1,5 @@
-/* Folds parity, reads its table aloud, prices it, steps it, and draws gates from it. docs/EXAMPLE.md walks through it.
+/* Folds parity, reads its table aloud, prices it, counts the histories that reach its states, steps it, and draws
+ * gates from it. docs/EXAMPLE.md walks through it.
  *
  *   rt staticlib tff
  *   cc -Iinclude examples/parity.c -Ltarget/staticlib -ltff -o target/parity && target/parity
@@ -11,12 +12,16 @@ static unsigned word(const uint8_t *bytes, size_t i) {
     return bytes[2 * i] + 256u * bytes[2 * i + 1];
 }
 
+static unsigned long number(const uint8_t *bytes, size_t i) {
+    return word(bytes, 2 * i) + 65536ul * word(bytes, 2 * i + 1);
+}
+
 int main(void) {
     const uint8_t circuit[] = {1, 0, 1, 0, 2, 0, 5, 0,          /* n, m, T, gates */
                                2, 0, 3, 0, 7, 0, 2, 0, 11, 0,   /* left literals */
                                5, 0, 4, 0, 9, 0, 1, 0, 1, 0};   /* right literals */
     uint16_t scratch[8];
-    uint8_t table[36], drawn[76];
+    uint8_t table[36], reached[40], drawn[76];
     uint64_t answer[5];
 
     tff_fold(circuit, sizeof circuit, scratch, 8, table, sizeof table, answer, 2);
@@ -32,6 +37,15 @@ int main(void) {
 
     tff_price(table, sizeof table, answer, 3);
     printf("price: %d cents\n", (int)answer[2]);
+
+    tff_reach(table, sizeof table, reached, sizeof reached, answer, 2);
+    printf("reach: %d, %d\n", (int)answer[0], (int)answer[1]);
+    const uint8_t *numbers = reached + 4 + 2 * frames;
+    unsigned states = (unsigned)(answer[1] - 4 - 2 * frames) / 8, i = 0;
+    for (unsigned t = 0; t <= frames; t++)
+        for (unsigned s = 0; s < word(reached, 1 + t); s++, i++)
+            printf("layer %u state %u: histories %lu, smallest %lu\n", t, s,
+                   number(numbers, i), number(numbers, states + i));
 
     uint16_t layer = 0, state = 0;
     for (unsigned t = 0; t < frames; t++) {

@@ -100,6 +100,17 @@ void tff_step(const uint8_t *table, size_t table_len,
 void tff_price(const uint8_t *table, size_t table_len,
                uint64_t *answer, size_t answer_len);
 
+/* Puts into result how many histories reach each state of a table: T and the T+1 state counts, as
+ * 16-bit words; then for all states of layers 0 to T, by layer and state, the number of histories
+ * that lead from the start to the state, as 32-bit words; then for all states likewise the smallest
+ * such history. All words have the low byte first. Histories that lead to layer t are t input words
+ * long, numbered with the first word highest, base 2^n; a state that none reaches has 0 in both
+ * arrays. Refuses as the check, then 7. Accepted: place is the bytes written, 4 + 2*T and 8 for each
+ * state. */
+void tff_reach(const uint8_t *table, size_t table_len,
+               uint8_t *result, size_t result_len,
+               uint64_t *answer, size_t answer_len);
+
 /* Puts into result a circuit whose outputs are the table's.
  * Refuses as the check, then 8, 7. Accepted: place is the bytes written. */
 void tff_unfold(const uint8_t *table, size_t table_len,

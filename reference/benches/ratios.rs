@@ -7,7 +7,7 @@ use std::hint::black_box;
 use std::time::Instant;
 
 use reference::gen::{any_sequence, any_sequences, circuits, look_ahead, tables, Rng};
-use reference::{Circuit, Sizes};
+use reference::{Circuit, Sizes, Table};
 
 fn main() {
     heading("proved", "plain");
@@ -20,7 +20,7 @@ fn main() {
 }
 
 fn heading(first: &str, second: &str) {
-    println!("{:<40} {first:>13} {second:>13} {:>7}", "case", "ratio");
+    println!("{:<42} {first:>13} {second:>13} {:>7}", "case", "ratio");
 }
 
 /// Checking and simulating a circuit with the most gates.
@@ -81,7 +81,7 @@ fn check_line(case: &str, runs: &Runs, circuit: &[u8]) {
     );
 }
 
-/// Checking and pricing a table of a million entries.
+/// Checking a table of a million entries, pricing it and counting what reaches its states.
 fn table_level() {
     let table = million_entries();
     let often = Runs { runs: 21, calls: 5 };
@@ -96,6 +96,20 @@ fn table_level() {
         &mut (),
         |_| tff::price(black_box(&table)),
         |_| reference::price(black_box(&table)),
+    );
+    reach_line("reach counts of a table of 1000000 entries", &table);
+    reach_line("reach counts of a table of 491521 states", &most_states());
+}
+
+fn reach_line(case: &str, table: &[u8]) {
+    let mut result = vec![0; 1 << 22];
+    assert_eq!(reference::reach(table, &mut result).0, 0);
+    let often = Runs { runs: 21, calls: 5 };
+    often.measure(
+        case,
+        &mut result,
+        |result| tff::reach(black_box(table), result),
+        |result| reference::reach(black_box(table), result),
     );
 }
 
@@ -116,6 +130,14 @@ fn million_entries() -> Vec<u8> {
     let table = tables::legal(&mut Rng::new(1), sizes, vec![1, 15_624, 1]);
     assert_eq!(table.head.entries(), 1_000_000);
     table.to_bytes()
+}
+
+/// One input over the most frames, with the most states in each layer; 983,042 entries.
+fn most_states() -> Vec<u8> {
+    let sizes = Sizes::new(1, 1, 16);
+    let mut counts = vec![Table::MOST_STATES; sizes.frames + 1];
+    (counts[0], counts[sizes.frames]) = (1, 1);
+    tables::legal(&mut Rng::new(1), sizes, counts).to_bytes()
 }
 
 /// Folding with the most sequences, to few and to many states.
@@ -192,7 +214,7 @@ impl Runs {
         }
         let [first, second] = [first_times, second_times].map(median);
         let ratio = first / second;
-        println!("{case:<40} {first:>10.4} ms {second:>10.4} ms {ratio:>7.3}");
+        println!("{case:<42} {first:>10.4} ms {second:>10.4} ms {ratio:>7.3}");
     }
 
     /// Milliseconds that a call takes.

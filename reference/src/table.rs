@@ -140,7 +140,7 @@ impl Head {
     }
 
     /// All output words are judged before all next states.
-    fn judge_entries(&self, bytes: &[u8]) -> Result<(), Answer> {
+    pub fn judge_entries(&self, bytes: &[u8]) -> Result<(), Answer> {
         for entry in 0..self.entries() {
             self.judge_output(bytes, self.output_at(entry))?;
         }

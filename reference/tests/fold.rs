@@ -1,14 +1,17 @@
 //! The proved fold against the plain one.
 
 mod common;
+#[path = "common/folded.rs"]
+mod folded;
 #[path = "common/folding.rs"]
 mod folding;
 #[path = "common/outputs.rs"]
 mod outputs;
 
 use common::{seeds, short_answers_change_nothing, Room, Seen};
+use folded::folded;
 use folding::{ample, call_fold, fold, fold_case, scratch_needed};
-use outputs::{assert_same_outputs, folded};
+use outputs::assert_same_outputs;
 use reference::gen::{any_sizes, circuits, damaged, sizes_with, Rng};
 use reference::vectors::{self, PARITY_FOLDED, PARITY_TABLE};
 use reference::words::to_bytes;

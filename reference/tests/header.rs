@@ -13,7 +13,9 @@ use std::process::Command;
 use child::written;
 use reference::vectors::PARITY_TABLE;
 use reference::words::{to_bytes, words_at};
-use reference::{check_circuit, check_table, examples, fold, price, run, simulate, step, unfold};
+use reference::{
+    check_circuit, check_table, examples, fold, price, reach, run, simulate, step, unfold,
+};
 use root::root;
 
 /// What the C program in the file `source` of the repository prints.
@@ -41,7 +43,7 @@ fn printed(source: &str) -> String {
 /// What `examples/parity.c` is to print.
 fn example_lines() -> String {
     let circuit = examples::parity().to_bytes();
-    let (mut table, mut drawn) = ([0; 36], [0; 76]);
+    let (mut table, mut reached, mut drawn) = ([0; 36], [0; 40], [0; 76]);
     let mut text = String::new();
     let (number, place) = fold(&circuit, &mut [0; 8], &mut table);
     writeln!(text, "fold: {number}, {place}").unwrap();
@@ -62,6 +64,19 @@ fn example_lines() -> String {
     }
 
     writeln!(text, "price: {} cents", price(&table).cents).unwrap();
+
+    let (number, place) = reach(&table, &mut reached);
+    writeln!(text, "reach: {number}, {place}").unwrap();
+    // Behind T and three counts come two arrays of four numbers, none of them above 16 bits.
+    let numbers = words_at(&reached, 8, 16);
+    for (index, (layer, state)) in [(0, 0), (1, 0), (1, 1), (2, 0)].into_iter().enumerate() {
+        let [histories, smallest] = [numbers[2 * index], numbers[8 + 2 * index]];
+        writeln!(
+            text,
+            "layer {layer} state {state}: histories {histories}, smallest {smallest}"
+        )
+        .unwrap();
+    }
 
     let (mut layer, mut state) = (0, 0);
     for _ in 0..2 {
@@ -154,6 +169,11 @@ fn calls_lines() -> String {
     }
     for length in [36, 35] {
         text += &line("price", |_, _| price(&table[..length]).into());
+    }
+    for (length, result) in [(36, 40), (35, 40), (36, 39)] {
+        text += &line("reach", |_, bytes| {
+            reach(&table[..length], &mut bytes[..result]).into()
+        });
     }
     for (length, result) in [(36, 76), (35, 76), (36, 75)] {
         text += &line("unfold", |_, bytes| {

@@ -1,11 +1,14 @@
 //! The proved price of a table against the plain one.
 
 mod common;
+#[path = "common/folded.rs"]
+mod folded;
 #[path = "common/outputs.rs"]
 mod outputs;
 
 use common::{compare, seeds, short_answers_change_nothing, Case, Room, Seen};
-use outputs::{assert_same_outputs, folded};
+use folded::folded;
+use outputs::assert_same_outputs;
 use reference::gen::{circuits, damaged, tables, Rng};
 use reference::vectors::PARITY_TABLE;
 use reference::words::{set_word, to_bytes, word_at};

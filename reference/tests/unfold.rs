@@ -1,11 +1,14 @@
 //! The proved unfold against the plain one, and the way from a circuit through its table and back.
 
 mod common;
+#[path = "common/folded.rs"]
+mod folded;
 #[path = "common/outputs.rs"]
 mod outputs;
 
 use common::{compare, seeds, short_answers_change_nothing, Case, Room, Seen};
-use outputs::{assert_same_outputs, folded};
+use folded::folded;
+use outputs::assert_same_outputs;
 use reference::gen::{all_sizes, circuits, damaged, tables, Rng};
 use reference::unfold::gates_needed;
 use reference::vectors::{self, PARITY_TABLE, PARITY_UNFOLDED};

@@ -8,6 +8,7 @@
 mod circuit;
 mod fold;
 mod price;
+mod reach;
 mod table;
 mod unfold;
 
@@ -16,6 +17,7 @@ pub mod raw;
 pub use circuit::{check_circuit, simulate, simulate_one};
 pub use fold::fold;
 pub use price::{price, Priced};
+pub use reach::reach;
 pub use table::{check_table, run, step, Stepped};
 pub use unfold::unfold;
 

@@ -61,6 +61,15 @@ extern "C" {
 
     pub fn tff_price(table: *const u8, table_len: usize, answer: *mut u64, answer_len: usize);
 
+    pub fn tff_reach(
+        table: *const u8,
+        table_len: usize,
+        result: *mut u8,
+        result_len: usize,
+        answer: *mut u64,
+        answer_len: usize,
+    );
+
     pub fn tff_unfold(
         table: *const u8,
         table_len: usize,

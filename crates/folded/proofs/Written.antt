@@ -2,7 +2,7 @@
 use mathlib.Core.Path.{_≡_, refl, sym, ap, ap₂, _∙_, subst₃}
 use mathlib.Core.List.{List, [], _∷_, _++_}
 use Prim.Native.Nat.{ℕ, zero, suc, _+_, _*_, _/_, _^_, _≤_, _<_, zero-le}
-use native.Mathlib.Nat.{le-refl, le-suc, le-trans, mod-lt}
+use native.Mathlib.Nat.{le-refl, le-trans, mod-lt}
 use native.Mathlib.Omega.{arith}
 use lib.Dec.{lit<}
 use lib.Pow.{pow-mono}
@@ -12,7 +12,7 @@ use Rattle.words.specs.Words.{wordAt, wordBytes, bytesOf, allBytes, Fit, more}
 use Rattle.words.proofs.Laws.{allBytes-length, fit-append, fit-at, word-back}
 use Rattle.verdict.specs.Judgements.{answer}
 use Rattle.sizes.specs.Sizes.{inputs, outputs, frames}
-use Rattle.layered.specs.Search.{join, tabulate, total}
+use Rattle.layered.specs.Search.{tabulate, total}
 use Rattle.layered.specs.Machines.{Machine, entries, tableWords}
 use Rattle.layered.proofs.Lists.{Below, below-append, below-join, below-tabulate, total-cong, total-mul, tabulate-length, tabulate-at}
 use Rattle.layered.proofs.Entries.{entries-length, entries-at}

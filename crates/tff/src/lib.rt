@@ -15,6 +15,7 @@ ghost use Rattle.steps.specs.Steps.{stepped};
 ghost use Rattle.run.specs.Run.{ran, runResult};
 ghost use Rattle.folded.specs.Folded.{foldChecked, foldResult, foldScratch};
 ghost use Rattle.price.specs.Price.{priced};
+ghost use Rattle.reach.specs.Reach.{reachChecked, reachResult};
 ghost use Rattle.unfolded.specs.Unfolded.{unfoldChecked, unfoldResult};
 ghost use Rattle.answers.specs.Answer.{verdictNumbers, stepNumbers, priceNumbers, answerAfter, bufferAfter};
 
@@ -112,6 +113,18 @@ pub extern "C" fn tff_price(table: &[u8], answer: &mut [u64])
     }
     let priced = price::price(table);
     put_price(priced.figures(), answer);
+}
+
+#[no_mangle]
+pub extern "C" fn tff_reach(table: &[u8], result: &mut [u8], answer: &mut [u64])
+    ensures answer { λ _. ⌜ now (answer .exit) ≡ answerAfter (verdictNumbers (reachChecked (now (table .entry)) (length (now (result .entry))))) (now (answer .entry)) ⌝ }
+    ensures result { λ _. ⌜ now (result .exit) ≡ bufferAfter (now (answer .entry)) (reachResult (now (table .entry)) (now (result .entry))) (now (result .entry)) ⌝ }
+{
+    if answer.len() < Limits::VERDICT {
+        return;
+    }
+    let verdict: Verdict = reach::reach(table, result);
+    put(verdict, answer);
 }
 
 #[no_mangle]

@@ -84,29 +84,75 @@ pub fn with_spare_state(table: &Table, layer: usize) -> Table {
 /// The table of a circuit in which each history has a state of its own.
 pub fn each_history(circuit: &Circuit) -> Table {
     let sizes = circuit.sizes;
-    let mut counts: Vec<u16> = (0..sizes.frames)
-        .map(|layer| sizes.histories(layer) as u16)
-        .collect();
-    counts.push(1);
-    let mut table = Table {
-        head: Head { sizes, counts },
-        output_words: Vec::new(),
-        next_states: Vec::new(),
-    };
+    let mut table = histories_apart(sizes);
     for layer in 0..sizes.frames {
-        for history in 0..sizes.histories(layer + 1) {
+        for (history, entry) in table.head.entries_of(layer).enumerate() {
             let mut words = sizes.history_words(layer + 1, history);
             words.resize(sizes.frames, 0);
             let mut outputs = vec![0; sizes.frames];
             simulate(&circuit.to_bytes(), 1, &words, &mut outputs);
-            table.output_words.push(outputs[layer]);
-            let ends = layer + 1 == sizes.frames;
-            table
-                .next_states
-                .push(if ends { 0 } else { history as u16 });
+            table.output_words[entry] = outputs[layer];
         }
     }
     table
+}
+
+/// A table in which each history has a state of its own, with the history's number. Outputs are 0.
+pub fn histories_apart(sizes: Sizes) -> Table {
+    let mut counts: Vec<u16> = (0..sizes.frames)
+        .map(|layer| sizes.histories(layer) as u16)
+        .collect();
+    counts.push(1);
+    let head = Head { sizes, counts };
+    let mut next_states: Vec<u16> = (1..sizes.frames)
+        .flat_map(|layer| 0..head.counts[layer])
+        .collect();
+    next_states.resize(head.entries(), 0);
+    Table {
+        output_words: vec![0; head.entries()],
+        next_states,
+        head,
+    }
+}
+
+/// The same table with all entries of a layer leading to one state of the next, whichever.
+pub fn led_to_one_state(rng: &mut Rng, table: &Table) -> Table {
+    let mut led = table.clone();
+    for layer in 0..table.head.sizes.frames {
+        let next = rng.below(usize::from(table.head.counts[layer + 1])) as u16;
+        led.next_states[table.head.entries_of(layer)].fill(next);
+    }
+    led
+}
+
+/// New numbers for the states of each layer, at random.
+pub fn any_numbers(rng: &mut Rng, counts: &[u16]) -> Vec<Vec<u16>> {
+    let mut shuffled = |count| {
+        let mut numbers: Vec<u16> = (0..count).collect();
+        for last in (1..numbers.len()).rev() {
+            numbers.swap(last, rng.below(last + 1));
+        }
+        numbers
+    };
+    counts.iter().map(|&count| shuffled(count)).collect()
+}
+
+/// The same table with its states numbered anew: `numbers` is by layer and old number.
+pub fn renumbered(table: &Table, numbers: &[Vec<u16>]) -> Table {
+    let mut made = table.clone();
+    let words = table.head.sizes.input_words();
+    for layer in 0..table.head.sizes.frames {
+        let first = table.head.entries_of(layer).start;
+        for (state, &number) in numbers[layer].iter().enumerate() {
+            let [from, to] = [state, usize::from(number)].map(|state| first + state * words);
+            for word in 0..words {
+                let next = usize::from(table.next_states[from + word]);
+                made.output_words[to + word] = table.output_words[from + word];
+                made.next_states[to + word] = numbers[layer + 1][next];
+            }
+        }
+    }
+    made
 }
 
 /// Gives some states of a layer the entries of an earlier one.

@@ -76,6 +76,10 @@ int main(void) {
     CALL(price, table, 36);
     CALL(price, table, 35);
 
+    CALL(reach, table, 36, bytes, 40);
+    CALL(reach, table, 35, bytes, 40);
+    CALL(reach, table, 36, bytes, 39);
+
     CALL(unfold, table, 36, bytes, 76);
     CALL(unfold, table, 35, bytes, 76);
     CALL(unfold, table, 36, bytes, 75);

@@ -1,15 +1,6 @@
-//! Folding by the proved library alone, and the outputs of a circuit and its table.
+//! The outputs of a circuit and its table.
 
 use reference::Sizes;
-
-/// The table that a circuit folds to.
-pub fn folded(circuit: &[u8]) -> Vec<u8> {
-    let mut result = vec![0; 1 << 14];
-    let answer = tff::fold(circuit, &mut [0; 1 << 13], &mut result);
-    assert_eq!(answer.number, 0);
-    result.truncate(answer.place as usize);
-    result
-}
 
 /// Both are legal, and every sequence gives the same outputs.
 pub fn assert_same_outputs(sizes: &Sizes, circuit: &[u8], table: &[u8]) {

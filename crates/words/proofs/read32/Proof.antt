@@ -1,8 +1,7 @@
 -- `words::read32` meets its contract: two words are read, one behind the other, which is one of twice their width.
 -- Assumes nothing.
-use mathlib.Core.Path.{_≡_, sym, ap₂, _∙_}
+use mathlib.Core.Path.{sym, ap₂, _∙_}
 use Prim.Native.Nat.{_+_, _*_}
-use native.Mathlib.Omega.{arith}
 use denote.Ref.{now}
 use Rattle.words.specs.Words.{wordAt}
 use Rattle.words.proofs.Laws.{number-join}

@@ -1,13 +1,12 @@
 -- `words::store32` meets its contract: two words are stored, one behind the other, which is one of twice their width.
 -- Assumes nothing.
-use mathlib.Core.Path.{_≡_, sym, ap, _∙_}
+use mathlib.Core.Path.{ap, _∙_}
 use mathlib.Core.List.{List, [], _∷_}
 use Prim.Native.Nat.{ℕ, _+_, _/_}
 use native.Mathlib.Omega.{arith}
 use denote.Ref.{now}
-use lib.ListN.{length}
 use Rattle.words.specs.Words.{stored}
-use Rattle.words.proofs.Laws.{stored-join, stored-low, stored-length}
+use Rattle.words.proofs.Laws.{stored-join, stored-low}
 use borrow.Author.Needs.{needs}
 use Rattle.words.proofs.store32.Statement.{statement}
 use Rattle.words.proofs.store32.Tie as tie
