@@ -17,10 +17,11 @@ use Rattle.layered.specs.Search.{tally, tabulate, total}
 use Rattle.layered.specs.Histories.{historyWords}
 use Rattle.layered.specs.Machines.{Machine, Legal, reached}
 use Rattle.layered.proofs.Search.{tally-cong, tally-either, tally-zero, tally-nowhere}
-use Rattle.layered.proofs.Lists.{total-le, join-cong, join-length, join-at, join-set, tabulate-cong, tabulate-length, tabulate-at, tabulate-add, join-tabulate, tally-digit, set-append-right}
+use Rattle.layered.proofs.Lists.{tabulate-length, tabulate-add, join-tabulate, tally-digit, set-append-right}
 use Rattle.paths.specs.Paths.{leadsTo, leads, histories, smallestOf, smallest, ofStates}
 use Rattle.paths.specs.Progress.{lastEntry, followed, leadsSoFar, historiesSoFar, smallestSoFar, numbersSoFar, smaller}
 use Rattle.paths.proofs.Smallest.{smallest-none, smallest-below, smallest-cong, smallest-digit, smallest-either}
+use Rattle.paths.proofs.Arrays.{states-length, states-at, states-cong, states-set, states-in}
 use Rattle.paths.proofs.Leading.{leads-on, front-below, last-below, last-tells, last-is}
 
 -- ---- tests
@@ -47,34 +48,6 @@ not-both : (a b : Bool) → (a ≡ true → b ≡ true → ⊥) → (a && b) ≡
 not-both true true f = absurd (f refl refl)
 not-both true false f = refl
 not-both false b f = refl
-
--- ---- parts of lists of numbers for all states
-
-module _ (T : ℕ) (S : ℕ → ℕ) (f : ℕ → ℕ → ℕ) where
-  pub states-length : length (ofStates T S f) ≡ total (suc T) S
-  unfolding ofStates
-  states-length = join-length (suc T) _ S (λ t h. tabulate-length (S t) (f t))
-
-  pub states-at : (t s : ℕ) → t ≤ T → s < S t → getD (ofStates T S f) (total t S + s) 0 ≡ f t s
-  unfolding ofStates
-  states-at t s b l =
-      ap (λ n. getD (ofStates T S f) (n + s) 0) (sym (join-length t (λ t. tabulate (S t) (f t)) S (λ t h. tabulate-length (S t) (f t))))
-      ∙ join-at (suc T) t s (λ t. tabulate (S t) (f t)) (omega arith) (omega (arith, tabulate-length (S t) (f t)))
-      ∙ tabulate-at (S t) s (f t) l
-
-  pub states-cong : (g : ℕ → ℕ → ℕ) → ((t s : ℕ) → t ≤ T → s < S t → f t s ≡ g t s) → ofStates T S f ≡ ofStates T S g
-  unfolding ofStates
-  states-cong g e = join-cong (suc T) _ _ (λ t h. tabulate-cong (S t) (f t) (g t) (λ s l. e t s (omega arith) l))
-
-  pub states-set : (g : ℕ → ℕ → ℕ) (t s : ℕ) → t ≤ T → s < S t → ((k r : ℕ) → k ≤ T → r < S k → (k ≡ t → r ≡ s → ⊥) → g k r ≡ f k r)
-      → ofStates T S g ≡ set (ofStates T S f) (total t S + s) (g t s)
-  unfolding ofStates
-  states-set g t s b l e = join-set (suc T) t s S f g (omega arith) l (λ k r h m n. e k r (omega arith) m n)
-
-  -- a state's number is among all
-  pub states-in : (t s : ℕ) → t ≤ T → s < S t → total t S + s < total (suc T) S
-  unfolding total
-  states-in t s b l = omega (arith, total-le (suc t) (suc T) S (omega arith))
 
 -- ---- which histories were followed
 

@@ -8,24 +8,20 @@ use lib.Arith.{digits-lt}
 use lib.Dec.{lit<}
 use lib.ListN.{length, getD, set, length-set}
 use Rattle.words.specs.Words.{numberAt, Fit, stored, Held}
-use Rattle.words.proofs.Laws.{fit-append, fit-at, stored-length, stored-over, stored-held, held-number, stored-set}
+use Rattle.words.proofs.Laws.{fit-append, stored-length, stored-over, stored-held, held-number, stored-set}
 use Rattle.sizes.specs.Sizes.{inputs, frames}
-use Rattle.layered.specs.Search.{total, tabulate}
+use Rattle.layered.specs.Search.{total}
 use Rattle.layered.proofs.Search.{tally-at-most}
-use Rattle.layered.proofs.Lists.{below-join, below-tabulate}
 use Rattle.layered.proofs.Rows.{power-fits}
 use Rattle.table.specs.Table.{states, statesBelow, machine}
 use Rattle.table.specs.Sound.{Sound}
-use Rattle.paths.specs.Paths.{histories, smallest, ofStates}
+use Rattle.paths.specs.Paths.{histories, smallest}
 use Rattle.paths.specs.Places.{reachHead, allStates, historiesAt, gap}
 use Rattle.paths.specs.Progress.{historiesSoFar, smallestSoFar, numbersSoFar, soFar, smaller, added, Following}
+use Rattle.paths.proofs.Arrays.{states-in, fit-states}
+use Rattle.paths.proofs.Places.{state-in, gap-at}
 use Rattle.paths.proofs.Smallest.{smallest-tells, smallest-below}
-use Rattle.paths.proofs.Following.{states-in, histories-more, numbers-length, histories-read, smallest-read, entry-followed, state-skipped, layer-followed}
-
--- numbers for all states fit, where each does
-pub fit-states : (T : ℕ) (S : ℕ → ℕ) (f : ℕ → ℕ → ℕ) → ((t s : ℕ) → t ≤ T → s < S t → f t s < 256 ^ 4) → Fit 4 (ofStates T S f)
-unfolding ofStates
-fit-states T S f B = fit-at (ofStates T S f) (below-join (suc T) (λ t. tabulate (S t) (f t)) (λ t h. below-tabulate (S t) (f t) (λ s l. B t s (omega arith) l)))
+use Rattle.paths.proofs.Following.{histories-more, numbers-length, histories-read, smallest-read, entry-followed, state-skipped, layer-followed}
 
 -- number j of those that were stored
 number-of : (v r : List ℕ) (i : ℕ) (xs : List ℕ) (j : ℕ) → r ≡ stored 4 v i xs → Fit 4 xs → i + 4 * length xs ≤ length v → j < length xs → numberAt 4 r (i + 4 * j) ≡ getD xs j 0
@@ -83,28 +79,23 @@ module _ (b : List ℕ) (Z : Sound b) where
 
     -- the numbers of a state, where they were stored
     module _ (v r : List ℕ) (room : reachHead b + 8 * allStates b ≤ length v) (S : r ≡ stored 4 v (reachHead b) (soFar b t e)) (l s : ℕ) (h : l ≤ frames b) (k : s < states b l) where
-      state-in : statesBelow b l + s < allStates b
-      unfolding allStates statesBelow
-      state-in = states-in (frames b) (states b) (λ t s. 0) l s h k
-
       pub histories-there : numberAt 4 r (historiesAt b l s) ≡ historiesSoFar K (machine b) t e l s
       unfolding historiesAt soFar statesBelow
       histories-there =
-          number-of v r (reachHead b) (soFar b t e) (statesBelow b l + s) S so-far-fits (omega (arith, so-far-length)) (omega (arith, so-far-length, state-in))
+          number-of v r (reachHead b) (soFar b t e) (statesBelow b l + s) S so-far-fits (omega (arith, so-far-length)) (omega (arith, so-far-length, state-in b l s h k))
           ∙ histories-read K (frames b) (machine b) t e l s h k
 
       pub smallest-there : numberAt 4 r (historiesAt b l s + gap b) ≡ smallestSoFar K (machine b) t e l s
-      unfolding historiesAt gap soFar statesBelow allStates
+      unfolding soFar statesBelow allStates
       smallest-there =
-          let p : reachHead b + 4 * (statesBelow b l + s) + 4 * allStates b ≡ reachHead b + 4 * (allStates b + (statesBelow b l + s)) = omega arith in
-          ap (numberAt 4 r) p
-          ∙ number-of v r (reachHead b) (soFar b t e) (allStates b + (statesBelow b l + s)) S so-far-fits (omega (arith, so-far-length)) (omega (arith, so-far-length, state-in))
+          ap (numberAt 4 r) (gap-at b l s)
+          ∙ number-of v r (reachHead b) (soFar b t e) (allStates b + (statesBelow b l + s)) S so-far-fits (omega (arith, so-far-length)) (omega (arith, so-far-length, state-in b l s h k))
           ∙ smallest-read K (frames b) (machine b) t e l s h k
 
       -- where they stand
       pub histories-in : (historiesAt b l s + gap b + 4 ≤ length v) × (4 ≤ gap b)
       unfolding historiesAt gap
-      histories-in = (omega (arith, state-in), omega (arith, state-in))
+      histories-in = let i = state-in b l s h k in (omega arith, omega arith)
 
   -- ---- one entry is followed, of a state that histories lead to
 

@@ -14,6 +14,7 @@ use Rattle.table.proofs.Offsets.{arrays-stand, layer-in, words-most}
 use Rattle.paths.specs.Places.{reachHead, allStates, historiesAt, gap}
 use Rattle.paths.specs.Progress.{layerOf}
 use Rattle.paths.specs.declared.Layer.{Layer}
+use Rattle.paths.proofs.Arrays.{states-in}
 
 module _ (b : List ℕ) where
   -- of a layer's first state
@@ -34,6 +35,16 @@ module _ (b : List ℕ) where
   pub state-at : (t s : ℕ) → historiesAt b t 0 + 4 * s ≡ historiesAt b t s
   unfolding historiesAt
   state-at t s = omega arith
+
+  -- its place is among those of all states
+  pub state-in : (t s : ℕ) → t ≤ frames b → s < states b t → statesBelow b t + s < allStates b
+  unfolding statesBelow allStates
+  state-in t s h k = states-in (frames b) (states b) (λ t s. 0) t s h k
+
+  -- its smallest history stands as far behind as there are states
+  pub gap-at : (t s : ℕ) → historiesAt b t s + gap b ≡ reachHead b + 4 * (allStates b + (statesBelow b t + s))
+  unfolding historiesAt gap
+  gap-at t s = omega arith
 
   pub head-is : reachHead b ≡ 4 + 2 * frames b
   unfolding reachHead

@@ -17,7 +17,8 @@ use Rattle.reach.specs.Reach.{headWords, stateNumbers, reachBytes}
 use Rattle.paths.specs.Places.{reachHead, allStates, historiesAt, gap}
 use Rattle.reach.specs.Theorems.{Written}
 use Rattle.paths.specs.Progress.{soFar}
-use Rattle.paths.proofs.Following.{states-in, whole-histories, whole-smallest, histories-read, smallest-read, all-followed, none-followed}
+use Rattle.paths.proofs.Places.{state-in, gap-at}
+use Rattle.paths.proofs.Following.{whole-histories, whole-smallest, histories-read, smallest-read, all-followed, none-followed}
 use Rattle.paths.proofs.Numbers.{so-far-fits, so-far-length}
 
 module _ (b : List ℕ) where
@@ -69,26 +70,21 @@ module _ (b : List ℕ) where
         ∙ ap (λ l. numberAt 4 l (4 * j)) (ap (allBytes 4) (sym numbers-are) ∙ sym (append-nil (allBytes 4 xs)))
         ∙ read-back 4 xs [] j (so-far-fits b Z (frames b) 0) (omega (arith, so-far-length b Z (frames b) 0))
 
-    state-in : (t s : ℕ) → t ≤ frames b → s < states b t → statesBelow b t + s < allStates b
-    unfolding statesBelow allStates
-    state-in t s h k = states-in (frames b) (states b) (λ t s. 0) t s h k
-
     pub some-states : 0 < allStates b
-    some-states = omega (arith, state-in 0 0 (omega arith) (omega (arith, Z .headed .one-first)))
+    some-states = omega (arith, state-in b 0 0 (omega arith) (omega (arith, Z .headed .one-first)))
 
     histories-at : (t s : ℕ) → t ≤ frames b → s < states b t → numberAt 4 (reachBytes b) (historiesAt b t s) ≡ histories K (machine b) t s
     unfolding historiesAt soFar statesBelow
     histories-at t s h k =
-        state-number (statesBelow b t + s) (omega (arith, state-in t s h k))
+        state-number (statesBelow b t + s) (omega (arith, state-in b t s h k))
         ∙ histories-read K (frames b) (machine b) (frames b) 0 t s h k
         ∙ whole-histories K (machine b) (frames b) 0 t s h
 
     smallest-at : (t s : ℕ) → t ≤ frames b → s < states b t → numberAt 4 (reachBytes b) (historiesAt b t s + gap b) ≡ smallest K (machine b) t s
-    unfolding historiesAt gap soFar statesBelow allStates
+    unfolding soFar statesBelow allStates
     smallest-at t s h k =
-        let p : reachHead b + 4 * (statesBelow b t + s) + 4 * allStates b ≡ reachHead b + 4 * (allStates b + (statesBelow b t + s)) = omega arith in
-        ap (numberAt 4 (reachBytes b)) p
-        ∙ state-number (allStates b + (statesBelow b t + s)) (omega (arith, state-in t s h k))
+        ap (numberAt 4 (reachBytes b)) (gap-at b t s)
+        ∙ state-number (allStates b + (statesBelow b t + s)) (omega (arith, state-in b t s h k))
         ∙ smallest-read K (frames b) (machine b) (frames b) 0 t s h k
         ∙ whole-smallest K (machine b) (frames b) 0 t s h
 
