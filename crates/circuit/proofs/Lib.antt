@@ -2,6 +2,7 @@
 pub mod Bits
 pub mod Laws
 pub mod Lists
+pub mod Frames
 pub mod Accepted
 pub mod Stages
 pub mod Ahead

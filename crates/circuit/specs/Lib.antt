@@ -2,6 +2,7 @@
 pub mod Lists
 pub mod Limits
 pub mod Circuit
+pub mod Frames
 pub mod WellFormed
 pub mod Theorems
 pub mod Examples
