@@ -60,8 +60,10 @@ fn first_differing(
 {
     let head = Head::read(circuit);
     let first = head.base + (head.gates - head.total);
+    let mut frame = 1;
     for q in from..found {
-        let later = head.frames - frame_of(head.outputs, q);
+        frame = frame_of(head.outputs, frame, q);
+        let later = head.frames - frame;
         let seen = lanes[first + q];
         let due = first_of_blocks(seen, at, head.inputs * later, kept[q]);
         if seen != due {

@@ -3,12 +3,13 @@ use mathlib.Core.Path.{_≡_, refl, sym, ap, ap₂, _∙_, subst}
 use mathlib.Core.Bool.{Bool, true, false, not, _&&_, cond, Bool·beq}
 use mathlib.Core.List.{List, [], _∷_, _++_, map, append-nil}
 use Prim.Native.Nat.{ℕ, zero, suc, _+_, _*_, _-_, _/_, _%_, _^_, _≤_, _<_, min, zero-le}
-use native.Mathlib.Nat.{mod-lt, mul-suc, mul-le-mul-left}
+use native.Mathlib.Nat.{mul-comm, mul-le-mul-right}
 use native.Mathlib.Decide.{ℕ-discrete, decLt}
 use native.Mathlib.Omega.{arith}
+use lib.Arith.{digits-div, digits-mod}
 use lib.Dec.{ltb, eqb}
 use lib.ListN.{length, getD, set, replicate, length-map, length-set, getD-replicate, List·getD-map, List·getD-append}
-use lib.Seq.{getD-append-add, getD-set-same, getD-set-other, set-getD, take-set-le}
+use lib.Seq.{getD-take, getD-append-add, getD-set-same, getD-set-other, set-getD, take-set-le}
 use borrow.Author.Tests.{eqb-true, lt-ltb}
 use lib.Bits.{bitAnd}
 use Rattle.sizes.specs.Sizes.{inputs, frames}
@@ -24,8 +25,10 @@ use Rattle.circuit.specs.WellFormed.{LegalGates}
 use Rattle.circuit.proofs.Ahead.{beq-same}
 use Rattle.circuit.proofs.Bits.{digit, bit-none, bit-packed}
 use Rattle.circuit.proofs.Laws.{fill-grown, signal-before, values-grow}
+use Rattle.circuit.proofs.Lists.{listed-after}
+use Rattle.circuit.proofs.Frames.{ends, from-first, only-input}
 use Rattle.lanes.specs.Limits.{laneBits, laneCount}
-use Rattle.lanes.specs.Lanes.{lane, literalLanes, sequence, Lanes, Settled, Ready, Unnamed, FirstUses, SignalLanes}
+use Rattle.lanes.specs.Lanes.{lane, literalLanes, sequence, Lanes, InputLanes, FrameLanes, Settled, Ready, Unnamed, FirstUses, SignalLanes}
 use Rattle.lanes.proofs.Bits.{bit-and, bit-not, bit-part, bit-low, bit-high}
 
 -- ---- a lane of a list
@@ -95,31 +98,24 @@ near-high at j p e lj lp =
 
 -- ---- inputs
 
--- where the bit of input i stands in the number of a history
-pub place-in : (n t i : ℕ) → 1 ≤ n → i / n < t → n * (t - 1 - i / n) + i % n < n * t
-place-in n t i hn hi =
-    let whole : n * suc (t - 1 - i / n) ≤ n * t = mul-le-mul-left n (omega arith) in
-    omega (arith, mul-suc n (t - 1 - i / n), mod-lt i {m = n} (omega arith))
-
--- input i of a history is a bit of its number
-module _ (n T t h i : ℕ) (hn : 1 ≤ n) (ht : t ≤ T) where
-  pub input-bit : i / n < t → bit (getD (sequence (2 ^ n) T t h) (i / n) 0) (i % n) ≡ bit h (n * (t - 1 - i / n) + i % n)
+-- input k of frame f of a history is a bit of its number
+module _ (n T t h f k : ℕ) (hf : 1 ≤ f) (hk : k < n) (ht : t ≤ T) where
+  pub input-bit : f ≤ t → bit (getD (sequence (2 ^ n) T t h) (f - 1) 0) k ≡ bit h ((t - f) * n + k)
   input-bit hi =
       let K = 2 ^ n in
-      let f = i / n in
-      ap (λ w. bit w (i % n))
-      (List·getD-append (historyWords K t h) (replicate (T - t) 0) 0 f (omega (arith, history-length K t h))
-      ∙ history-word K (t - 1 - f) t h f (omega arith) ∙ ap (λ k. h / k % K) (sym (pow-mul 2 n (t - 1 - f))))
-      ∙ bit-part h (n * (t - 1 - f)) n (i % n) (mod-lt i (omega arith))
+      ap (λ w. bit w k)
+      (List·getD-append (historyWords K t h) (replicate (T - t) 0) 0 (f - 1) (omega (arith, history-length K t h))
+      ∙ history-word K (t - f) t h (f - 1) (omega arith) ∙ ap (λ p. h / p % K) (sym (pow-mul 2 n (t - f))))
+      ∙ bit-part h (n * (t - f)) n k hk ∙ ap (λ p. bit h (p + k)) (mul-comm n (t - f))
 
   -- after the history come zero words
-  pub input-none : t ≤ i / n → bit (getD (sequence (2 ^ n) T t h) (i / n) 0) (i % n) ≡ false
+  pub input-none : t < f → bit (getD (sequence (2 ^ n) T t h) (f - 1) 0) k ≡ false
   input-none hi =
       let c = historyWords (2 ^ n) t h in
       let z : List ℕ = replicate (T - t) 0 in
-      let k = i / n - t in
-      let e : i / n ≡ length c + k = omega (arith, history-length (2 ^ n) t h) in
-      ap (λ w. bit w (i % n)) (ap (λ x. getD (c ++ z) x 0) e ∙ getD-append-add c z k 0 ∙ zeros (T - t) k) ∙ bit-none (i % n)
+      let d = f - 1 - t in
+      let e : f - 1 ≡ length c + d = omega (arith, history-length (2 ^ n) t h) in
+      ap (λ w. bit w k) (ap (λ x. getD (c ++ z) x 0) e ∙ getD-append-add c z d 0 ∙ zeros (T - t) d) ∙ bit-none k
     where
       zeros : (d k : ℕ) → getD {A = ℕ} (replicate d 0) k 0 ≡ 0
       zeros zero k = refl
@@ -133,25 +129,41 @@ whole K T x =
     ap (λ k. historyWords K T x ++ replicate k 0) z ∙ append-nil (historyWords K T x)
 
 module _ (n T t : ℕ) (h : ℕ → ℕ) where
-  -- the values of the first inputs on the history in lane j
-  abbrev pub inputsOn : (i j : ℕ) → List Bool
-  inputsOn i j = inputValues (sequence (2 ^ n) T t (h j)) n i
-
   -- only the constant is stored
-  pub inputs-none : (v : List ℕ) → 0 < length v → Lanes (set v 0 0) (1 + 0) (inputsOn 0)
+  pub inputs-none : (v : List ℕ) → 0 < length v → InputLanes n T t h 0 (set v 0 0)
   unfolding Lanes lane inputValues grown
   inputs-none [] p j hj = absurd (omega arith)
   inputs-none (x ∷ v) p j hj = ap (λ y. y ∷ []) (bit-none j)
 
-  -- the lanes of one input more are stored
-  pub inputs-more : (v : List ℕ) (i x : ℕ) → 1 + i < length v → Lanes v (1 + i) (inputsOn i)
-      → ((j : ℕ) → j < laneCount → bit x j ≡ bit (getD (sequence (2 ^ n) T t (h j)) (i / n) 0) (i % n))
-      → Lanes (set v (1 + i) x) (1 + (i + 1)) (inputsOn (i + 1))
+  -- the lanes of input k of frame f are stored
+  pub inputs-more : (v : List ℕ) (s f k x : ℕ) → s ≡ 1 + ((f - 1) * n + k) → k < n → s < length v → InputLanes n T t h ((f - 1) * n + k) v
+      → ((j : ℕ) → j < laneCount → bit x j ≡ bit (getD (sequence (2 ^ n) T t (h j)) (f - 1) 0) k) → InputLanes n T t h ((f - 1) * n + (k + 1)) (set v s x)
   unfolding Lanes inputValues
-  inputs-more v i x room L ex j hj =
-      rw (lane-set v (1 + i) x j)
-      (fill-grown (false ∷ []) (λ _ k. bit (getD (sequence (2 ^ n) T t (h j)) (k / n) 0) (k % n)) (lane j v) (1 + i) i (bit x j)
-      (omega (arith, lane-length v j)) (L j hj) (ex j hj) (1 + (i + 1)) (i + 1) (omega arith) refl)
+  inputs-more v s f k x es hk room L ex j hj =
+      let i = (f - 1) * n + k in
+      rw (es, lane-set v (1 + i) x j)
+      (fill-grown (false ∷ []) (λ _ i. bit (getD (sequence (2 ^ n) T t (h j)) (i / n) 0) (i % n)) (lane j v) (1 + i) i (bit x j)
+      (omega (arith, lane-length v j)) (L j hj)
+      (rw (digits-div (f - 1) {m = n} {r = k} hk, digits-mod (f - 1) {m = n} {r = k} hk) (ex j hj)) (1 + ((f - 1) * n + (k + 1))) ((f - 1) * n + (k + 1)) (omega arith) (omega arith))
+
+  -- what is stored of all inputs, by their frames
+  pub inputs-framed : (v : List ℕ) → InputLanes n T t h (T * n) v → FrameLanes n T t h v
+  unfolding Lanes inputValues
+  inputs-framed v L f s j hf S lj =
+      let c = sequence (2 ^ n) T t (h j) in
+      let k = s - 1 - (f - 1) * n in
+      let i = (f - 1) * n + k in
+      let e : s ≡ 1 + i = omega (arith, S) in
+      let hk : k < n = omega (arith, S, ends f n (from-first n f (s - 1) (omega (arith, S)))) in
+      let to : f * n ≤ T * n = mul-le-mul-right n hf in (
+        sym (lane-at v j s)
+            ∙ sym (getD-take (1 + T * n) (lane j v) s false (omega (arith, S)))
+            ∙ ap (λ l. getD l s false) (L j lj)
+            ∙ ap (λ x. getD (inputValues c n (T * n)) x false) e
+            ∙ listed-after (false ∷ []) (λ i. bit (getD c (i / n) 0) (i % n)) false (T * n) i (omega (arith, S))
+            ∙ ap₂ (λ w p. bit (getD c w 0) p) (digits-div (f - 1) {m = n} {r = k} hk) (digits-mod (f - 1) {m = n} {r = k} hk),
+        only-input n f s S,
+      )
 
 -- ---- signals
 
@@ -167,9 +179,9 @@ literal-bit v l j x w hj ex =
 
 -- ---- gates
 
-pub inputs-are : (b : List ℕ) (n T : ℕ) → n ≡ inputs b → T ≡ frames b → n * T ≡ allInputs b
+pub inputs-are : (b : List ℕ) (n T : ℕ) → n ≡ inputs b → T ≡ frames b → T * n ≡ allInputs b
 unfolding allInputs
-inputs-are b n T en eT = rw (en, eT)
+inputs-are b n T en eT = rw (en, eT) (mul-comm (frames b) (inputs b))
 
 -- the first gate that may have another value never rises
 pub lower : (before after k first : ℕ) {r n : ℕ} → r ≡ cond (eqb before after) k (min k first) → k ≤ n → r ≤ n
@@ -246,13 +258,12 @@ module _ (b : List ℕ) where
 
 -- the values of all inputs on the history in lane j
 abbrev pub inputsOf : List ℕ → (t : ℕ) (h : ℕ → ℕ) (j : ℕ) → List Bool
-inputsOf b t h j = inputsOn (inputs b) (frames b) t h (allInputs b) j
+inputsOf b t h j = inputValues (sequence (2 ^ inputs b) (frames b) t (h j)) (inputs b) (allInputs b)
 
 module _ (b : List ℕ) (t : ℕ) (h : ℕ → ℕ) (v : List ℕ) where
   -- as the code has them
-  pub inputs-stored : (n T base : ℕ) → n ≡ inputs b → T ≡ frames b → base ≡ 1 + allInputs b → Lanes v (1 + n * T) (inputsOn n T t h (n * T)) → Lanes v base (inputsOf b t h)
-  unfolding allInputs
-  inputs-stored n T base en eT eb L = rw eb (rw (en, eT) at L)
+  pub inputs-stored : (n T base : ℕ) → n ≡ inputs b → T ≡ frames b → base ≡ 1 + allInputs b → InputLanes n T t h (T * n) v → Lanes v base (inputsOf b t h)
+  inputs-stored n T base en eT eb L = rw eb (rw (inputs-are b n T en eT, en, eT) at L)
 
   -- a later signal is stored
   pub inputs-kept : (base n x : ℕ) → base ≤ n → Lanes v base (inputsOf b t h) → Lanes (set v n x) base (inputsOf b t h)

@@ -1,5 +1,5 @@
 -- Lanes: the values of signals on several sequences at once.
-use Prim.Native.Nat.{ℕ, _+_, _-_, _/_, _%_, _^_, _≤_, _<_}
+use Prim.Native.Nat.{ℕ, _+_, _*_, _-_, _/_, _%_, _^_, _≤_, _<_}
 use mathlib.Core.Path.{_≡_}
 use mathlib.Core.Bool.{Bool, cond}
 use mathlib.Core.List.{List, _++_, map}
@@ -8,7 +8,8 @@ use lib.Dec.{eqb}
 use Rattle.sizes.specs.Limits.{mostBits}
 use Rattle.sizes.specs.Sizes.{inputs, frames}
 use Rattle.circuit.specs.Lists.{bit}
-use Rattle.circuit.specs.Circuit.{gates, leftsAt, rightsAt, literalAt, allInputs, gateSignal, gateValue, signalValues}
+use Rattle.circuit.specs.Circuit.{gates, leftsAt, rightsAt, literalAt, allInputs, gateSignal, inputValues, gateValue, signalValues}
+use Rattle.circuit.specs.Frames.{InputOf, OnlyInputOf}
 use Rattle.layered.specs.Histories.{historyWords}
 use Rattle.lanes.specs.Limits.{laneCount}
 
@@ -31,6 +32,16 @@ NumberLanes v h = (j p : ℕ) → j < laneCount → p < mostBits → bit (getD v
 -- in the first k numbers of v, lane j holds these values
 unfoldable pub Lanes : (v : List ℕ) (k : ℕ) (values : ℕ → List Bool) → Type 0
 Lanes v k values = (j : ℕ) → j < laneCount → take k (lane j v) ≡ values j
+
+-- lane j of v holds the constant and the first i inputs, on the history h j of t words and zero words after them, T words in all
+abbrev pub InputLanes : (n T t : ℕ) (h : ℕ → ℕ) (i : ℕ) (v : List ℕ) → Type 0
+InputLanes n T t h i v = Lanes v (1 + i) (λ j. inputValues (sequence (2 ^ n) T t (h j)) n i)
+
+-- lane j of v has, at each signal s that is an input of frame f, a bit of word f of that sequence: the one with the signal's place in the frame;
+-- and s is one of no other frame
+abbrev pub FrameLanes : (n T t : ℕ) (h : ℕ → ℕ) (v : List ℕ) → Type 0
+FrameLanes n T t h v = (f s j : ℕ) → f ≤ T → InputOf n f s → j < laneCount
+    → (bit (getD v s 0) j ≡ bit (getD (sequence (2 ^ n) T t (h j)) (f - 1) 0) (s - 1 - (f - 1) * n)) × OnlyInputOf n f s
 
 -- the first k gates have in each lane the value that their literals give
 unfoldable pub Settled : List ℕ → (v : List ℕ) (k : ℕ) → Type 0

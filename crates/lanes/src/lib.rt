@@ -5,17 +5,17 @@ use circuit::read_gate;
 ghost use mathlib.Core.Path.{_≡_};
 ghost use mathlib.Core.Bool.{cond};
 ghost use mathlib.Core.List.{List, []};
-ghost use Prim.Native.Nat.{ℕ, _+_, _*_, _/_, _%_, _^_, _≤_, _<_, min};
+ghost use Prim.Native.Nat.{ℕ, _+_, _*_, _-_, _/_, _%_, _^_, _≤_, _<_, min};
 ghost use lib.Dec.{ltb, eqb};
 ghost use lib.ListN.{length, getD, set, take, drop, replicate};
 ghost use Rattle.sizes.specs.Limits.{mostOutputs, mostBits};
 ghost use Rattle.sizes.specs.Sizes.{frames};
 ghost use Rattle.circuit.specs.Limits.{mostSignals};
 ghost use Rattle.circuit.specs.Lists.{listed, bit, packed};
-ghost use Rattle.circuit.specs.Circuit.{inputValues};
+ghost use Rattle.circuit.specs.Circuit.{allInputs};
 ghost use Rattle.circuit.specs.WellFormed.{WellFormed};
 ghost use Rattle.lanes.specs.Limits.{laneCount};
-ghost use Rattle.lanes.specs.Lanes.{lane, literalLanes, sequence, NumberLanes, Lanes, Settled, Ready, FirstUses, SignalLanes};
+ghost use Rattle.lanes.specs.Lanes.{lane, literalLanes, sequence, NumberLanes, InputLanes, FrameLanes, Settled, Ready, FirstUses, SignalLanes};
 
 // How many sequences are simulated side by side, a lane each: the bits of a number; and the bits of a lane's number.
 pub struct Limits;
@@ -91,16 +91,15 @@ pub fn gather(histories: &[u16]) -> [u32; sizes::Limits::BITS]
     numbers
 }
 
-// The lanes of input i on histories of t words, which zero words follow.
-fn input_lanes(inputs: usize, t: usize, numbers: &[u32], i: usize) -> u32
-    requires { ⌜ (1 ≤ inputs) × (inputs * t ≤ mostBits) × (mostBits ≤ length (now numbers)) ⌝ }
-    ensures { λ r. ⌜ ((T : ℕ) (h : ℕ → ℕ) → t ≤ T → NumberLanes (now (numbers .entry)) h → (j : ℕ) → j < laneCount → bit r j ≡ bit (getD (sequence (2 ^ inputs) T t (h j)) (i / inputs) 0) (i % inputs)) ⌝ }
+// The lanes of input k, from 0, of a frame on histories of t words, which zero words follow.
+fn input_lanes(inputs: usize, t: usize, numbers: &[u32], frame: usize, k: usize) -> u32
+    requires { ⌜ (1 ≤ frame) × (k < inputs) × (t * inputs ≤ mostBits) × (mostBits ≤ length (now numbers)) ⌝ }
+    ensures { λ r. ⌜ ((T : ℕ) (h : ℕ → ℕ) → t ≤ T → NumberLanes (now (numbers .entry)) h → (j : ℕ) → j < laneCount → bit r j ≡ bit (getD (sequence (2 ^ inputs) T t (h j)) (frame - 1) 0) k) ⌝ }
 {
-    let frame = i / inputs;
-    if t <= frame {
+    if t < frame {
         return 0;
     }
-    numbers[inputs * (t - 1 - frame) + i % inputs]
+    numbers[(t - frame) * inputs + k]
 }
 
 // Notes that gate g names the literal's signal, where this is an input or the constant.
@@ -142,22 +141,48 @@ fn restart(start: usize, before: u32, after: u32, first: usize) -> usize
     if start < first { start } else { first }
 }
 
-// Stores the lanes of the constant and of all inputs. Answers the first gate whose lanes may no longer be right.
-fn store_inputs(head: Head, t: usize, numbers: &[u32], firsts: &[usize], lanes: &mut [u32]) -> usize
-    requires { ⌜ (1 ≤ head .inputs) × (head .inputs * head .frames ≤ mostBits) × (t ≤ head .frames) ⌝ }
+// Stores the lanes of the inputs of a frame, behind those of the frames before it. Answers the first gate whose lanes may no longer be right, if it
+// was `start` before.
+fn store_frame(
+    inputs: usize,
+    t: usize,
+    frame: usize,
+    numbers: &[u32],
+    firsts: &[usize],
+    start: usize,
+    lanes: &mut [u32],
+) -> usize
+    requires { ⌜ (1 ≤ frame) × (t * inputs ≤ mostBits) × (frame * inputs ≤ mostBits) ⌝ }
     requires { ⌜ (mostBits ≤ length (now numbers)) × (mostBits < length (now firsts)) × (mostBits < length (now lanes)) ⌝ }
-    ensures inputs { λ r. ⌜ ((h : ℕ → ℕ) → NumberLanes (now (numbers .entry)) h → Lanes (now (lanes .exit)) (1 + head .inputs * head .frames) (λ j. inputValues (sequence (2 ^ head .inputs) (head .frames) t (h j)) (head .inputs) (head .inputs * head .frames))) ⌝ }
+    ensures inputs { λ r. ⌜ ((T : ℕ) (h : ℕ → ℕ) → t ≤ T → NumberLanes (now (numbers .entry)) h → InputLanes inputs T t h ((frame - 1) * inputs) (now (lanes .entry)) → InputLanes inputs T t h (frame * inputs) (now (lanes .exit))) ⌝ }
+    ensures settled { λ r. ⌜ ((b : List ℕ) → frame * inputs ≤ allInputs b → FirstUses b 0 (now (firsts .entry)) → Settled b (now (lanes .entry)) start → Settled b (now (lanes .exit)) r) ⌝ }
+    ensures start { λ r. ⌜ (r ≤ start) × (getD (now (lanes .exit)) 0 0 ≡ getD (now (lanes .entry)) 0 0) ⌝ }
+{
+    let first = 1 + (frame - 1) * inputs;
+    let mut least = start;
+    for k in 0..inputs {
+        let s = first + k;
+        let after = input_lanes(inputs, t, numbers, frame, k);
+        least = restart(least, lanes[s], after, firsts[s]);
+        lanes[s] = after;
+    }
+    least
+}
+
+// Stores the lanes of the constant and of all inputs, frame by frame. Answers the first gate whose lanes may no longer be right.
+fn store_inputs(head: Head, t: usize, numbers: &[u32], firsts: &[usize], lanes: &mut [u32]) -> usize
+    requires { ⌜ (1 ≤ head .inputs) × (head .frames * head .inputs ≤ mostBits) × (t ≤ head .frames) ⌝ }
+    requires { ⌜ (mostBits ≤ length (now numbers)) × (mostBits < length (now firsts)) × (mostBits < length (now lanes)) ⌝ }
+    ensures inputs { λ r. ⌜ ((h : ℕ → ℕ) → NumberLanes (now (numbers .entry)) h → InputLanes (head .inputs) (head .frames) t h (head .frames * head .inputs) (now (lanes .exit))) ⌝ }
     ensures settled { λ r. ⌜ ((b : List ℕ) → WellFormed b head → FirstUses b 0 (now (firsts .entry)) → Ready b (now (lanes .entry)) → Settled b (now (lanes .exit)) r) ⌝ }
     ensures start { λ r. ⌜ (r ≤ head .gates) × (getD (now (lanes .exit)) 0 0 ≡ 0) ⌝ }
+    ensures frames { λ r. ⌜ ((h : ℕ → ℕ) → NumberLanes (now (numbers .entry)) h → FrameLanes (head .inputs) (head .frames) t h (now (lanes .exit))) ⌝ }
 {
-    let inputs = head.inputs;
-    let count = inputs * head.frames;
+    let frames = head.frames;
     let mut start = if lanes[0] == 0 { head.gates } else { 0 };
     lanes[0] = 0;
-    for i in 0..count {
-        let after = input_lanes(inputs, t, numbers, i);
-        start = restart(start, lanes[1 + i], after, firsts[1 + i]);
-        lanes[1 + i] = after;
+    for f in 0..frames {
+        start = store_frame(head.inputs, t, f + 1, numbers, firsts, start, lanes);
     }
     start
 }

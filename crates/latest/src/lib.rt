@@ -9,15 +9,24 @@ ghost use Rattle.sizes.specs.Limits.{mostBits};
 ghost use Rattle.layered.specs.Search.{least};
 ghost use Rattle.circuit.specs.Limits.{mostGates, mostSignals};
 ghost use Rattle.circuit.specs.Circuit.{gates, gateSignal, allOutputs, frameOf};
+ghost use Rattle.circuit.specs.Frames.{NotAfter, OnlyInputOf, OnlyOutputOf};
 ghost use Rattle.circuit.specs.WellFormed.{WellFormed};
 ghost use Rattle.latest.specs.Latest.{inputFrames, latestFrames, reachesLater};
 
-// The frame, from 1, of item i of a row with `per` items to a frame.
-pub fn frame_of(per: usize, i: usize) -> usize
-    requires { ⌜ (1 ≤ per) × (i ≤ mostGates) ⌝ }
-    ensures { λ r. ⌜ r ≡ frameOf per i ⌝ }
+// The frame, from 1, of item i of a row with `per` items to a frame, counted along from a frame that is not later. Item i of the inputs is signal
+// 1 + i.
+pub fn frame_of(per: usize, from: usize, i: usize) -> usize
+    requires { ⌜ (1 ≤ per) × (per ≤ mostGates) × (i ≤ mostGates) ⌝ }
+    requires { ⌜ NotAfter per from i ⌝ }
+    ensures frame { λ r. ⌜ r ≡ frameOf per i ⌝ }
+    ensures input { λ r. ⌜ OnlyInputOf per r (1 + i) ⌝ }
+    ensures output { λ r. ⌜ OnlyOutputOf per r i ⌝ }
 {
-    i / per + 1
+    let mut t = from;
+    while t * per <= i {
+        t += 1;
+    }
+    t
 }
 
 // The later of two frames.
@@ -34,14 +43,16 @@ fn room() -> [u8; Limits::SIGNALS]
     [0; Limits::SIGNALS]
 }
 
-// Stores the latest frames of the constant and of `count` inputs.
+// Stores the latest frames of the constant and of `count` inputs: the frame is counted along.
 fn store_inputs(inputs: usize, count: usize, latest: &mut [u8])
-    requires { ⌜ (1 ≤ inputs) × (count ≤ mostBits) × (count < length (now latest)) ⌝ }
+    requires { ⌜ (1 ≤ inputs) × (inputs ≤ mostBits) × (count ≤ mostBits) × (count < length (now latest)) ⌝ }
     ensures { λ _. ⌜ take (1 + count) (now (latest .exit)) ≡ inputFrames inputs count ⌝ }
 {
     latest[0] = 0;
+    let mut frame = 1;
     for i in 0..count {
-        latest[1 + i] = frame_of(inputs, i) as u8;
+        frame = frame_of(inputs, frame, i);
+        latest[1 + i] = frame as u8;
     }
 }
 
@@ -72,8 +83,10 @@ pub fn first_reaching(circuit: &[u8], head: Head) -> usize
     let outputs = head.outputs;
     let total = head.total;
     let first = head.base + (head.gates - total);
+    let mut frame = 1;
     for q in 0..total {
-        if (frame_of(outputs, q) as u8) < latest[first + q] {
+        frame = frame_of(outputs, frame, q);
+        if (frame as u8) < latest[first + q] {
             return q;
         }
     }

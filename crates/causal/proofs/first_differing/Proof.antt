@@ -1,5 +1,5 @@
 -- `causal::first_differing` meets its contract. The invariant: the outputs before q are on this part as on the first sequences, whose lanes are kept,
--- and of the others what was kept of the part before still is.
+-- of the others what was kept of the part before still is, and `frame` is not after output q.
 -- Assumes nothing.
 use mathlib.Core.Path.{_≡_, refl}
 use mathlib.Core.Bool.{true}
@@ -11,8 +11,10 @@ use lib.ListN.{length, getD, length-set}
 use Rattle.layered.proofs.Search.{below-suc}
 use Rattle.circuit.specs.Lists.{blockStart}
 use Rattle.circuit.specs.Circuit.{allOutputs, outputOn, laterInputs}
+use Rattle.circuit.specs.Frames.{NotAfter}
 use Rattle.circuit.specs.WellFormed.{CircuitHeaded, HeadOf}
 use Rattle.circuit.specs.declared.Head.{Head}
+use Rattle.circuit.proofs.Frames.{not-after-first, not-after-next}
 use Rattle.lanes.specs.Limits.{laneCount}
 use Rattle.blocks.specs.Blocks.{Holds}
 use Rattle.causal.specs.Played.{Outputs, Firsts, partAsFirst}
@@ -21,12 +23,12 @@ use Rattle.causal.proofs.first_differing.Statement.{statement}
 use Rattle.causal.proofs.first_differing.Tie as tie
 
 abbrev Inv-loop : tie.InvT-loop
-Inv-loop circuit lanes at kept₀ from found head first q₀ kept q =
+Inv-loop circuit lanes at kept₀ from found head first frame₀ q₀ kept frame q =
     (from ≤ q) × (q ≤ found) × (length kept ≡ length kept₀) × ((i : ℕ) → from ≤ i → i < q → partAsFirst circuit at i ≡ true)
-    × Firsts circuit at kept from q × (0 < at → Firsts circuit (at - laneCount) kept q found)
+    × Firsts circuit at kept from q × (0 < at → Firsts circuit (at - laneCount) kept q found) × NotAfter (head .outputs) frame q
 
 abbrev μ-loop : tie.MeasureT-loop
-μ-loop circuit lanes at kept₀ from found head first q₀ kept q = found - q
+μ-loop circuit lanes at kept₀ from found head first frame₀ q₀ kept frame q = found - q
 
 read-requires : tie.Need-read-requires Inv-loop μ-loop
 read-requires c κs = c .before .before .before .pre .0
@@ -40,8 +42,15 @@ add-first c = omega (arith, c .before .before .read .ensures, c .before .before 
 loop-holds : tie.Need-loop-holds Inv-loop μ-loop
 unfolding Firsts
 loop-holds c =
-    let s = c .before .before .before .before .before .before in
-    (omega arith, omega (arith, s .pre), refl, λ i lo hi. absurd (omega arith), λ i lo hi. absurd (omega arith), s .pre .1 .1 .1 .1)
+    let s = c .before .before .before .before .before .before in (
+      omega arith,
+      omega (arith, s .pre),
+      refl,
+      λ i lo hi. absurd (omega arith),
+      λ i lo hi. absurd (omega arith),
+      s .pre .1 .1 .1 .1,
+      not-after-first _ _,
+    )
 
 -- in a turn: the entry, the circuit, the head and the output
 abbrev start : tie.In-loop Inv-loop μ-loop → tie.Start Inv-loop μ-loop
@@ -66,11 +75,11 @@ inside : (c : tie.In-loop Inv-loop μ-loop) → q₁ c < allOutputs (b₀ c)
 inside c = omega (arith, c, start c .pre)
 
 frame-of-requires : tie.Need-frame-of-requires Inv-loop μ-loop
-frame-of-requires c κs = omega (arith, of-head c, headed c, output-few (b₀ c) (headed c) (s₀ c) (of-head c) (q₁ c) (inside c))
+frame-of-requires c κs = omega (arith, of-head c, headed c, c .before .loop .inv, output-few (b₀ c) (headed c) (s₀ c) (of-head c) (q₁ c) (inside c))
 
 -- once the frame is found: the turn
 sub-later : tie.Need-sub-later Inv-loop μ-loop
-sub-later c = let i = c .before .before in frame-in (b₀ i) (headed i) (s₀ i) (of-head i) (q₁ i) (inside i) (c .before .frame-of .result) (c .before .frame-of .ensures)
+sub-later c = let i = c .before .before in frame-in (b₀ i) (headed i) (s₀ i) (of-head i) (q₁ i) (inside i) (c .before .frame-of .result) (c .before .frame-of .ensures .0)
 
 add-seen : tie.Need-add-seen Inv-loop μ-loop
 add-seen c = let i = c .before .before in omega (arith, signal-is (b₀ i) (headed i) (s₀ i) (of-head i) (q₁ i) (inside i), signal-in (b₀ i) (headed i) (s₀ i) (of-head i) (q₁ i) (inside i))
@@ -82,7 +91,7 @@ shared-slice-read-seen : tie.Need-shared-slice-read-seen Inv-loop μ-loop
 shared-slice-read-seen c = let i = c .before .before .before in omega (arith, signal-is (b₀ i) (headed i) (s₀ i) (of-head i) (q₁ i) (inside i), signal-in (b₀ i) (headed i) (s₀ i) (of-head i) (q₁ i) (inside i), start i .pre)
 
 mul-first-of-blocks : tie.Need-mul-first-of-blocks Inv-loop μ-loop
-mul-first-of-blocks c = let i = c .before .before .before .before in omega (arith, later-to (b₀ i) (headed i) (s₀ i) (of-head i) (q₁ i) (inside i) (c .before .before .before .frame-of .result) (c .before .before .before .frame-of .ensures))
+mul-first-of-blocks c = let i = c .before .before .before .before in omega (arith, later-to (b₀ i) (headed i) (s₀ i) (of-head i) (q₁ i) (inside i) (c .before .before .before .frame-of .result) (c .before .before .before .frame-of .ensures .0))
 
 mul-first-of-blocks-2 : tie.Need-mul-first-of-blocks-2 Inv-loop μ-loop
 mul-first-of-blocks-2 c = let i = c .before .before .before .before in omega (arith, output-few (b₀ i) (headed i) (s₀ i) (of-head i) (q₁ i) (inside i))
@@ -98,7 +107,7 @@ first-of-blocks-requires : tie.Need-first-of-blocks-requires Inv-loop μ-loop
 first-of-blocks-requires c κs =
     let i = c .before .before .before .before .before in
     let k = c .before .before .before .before .frame-of in
-    (later-to (b₀ i) (headed i) (s₀ i) (of-head i) (q₁ i) (inside i) (k .result) (k .ensures), start i .pre .1 .0 .0)
+    (later-to (b₀ i) (headed i) (s₀ i) (of-head i) (q₁ i) (inside i) (k .result) (k .ensures .0), start i .pre .1 .0 .0)
 
 -- once the lanes that are due are known: the turn, and both
 abbrev turn : tie.After-first-of-blocks Inv-loop μ-loop → tie.In-loop Inv-loop μ-loop
@@ -117,7 +126,7 @@ due c =
     let i = turn c in
     let k = c .before .before .before .before .before .frame-of in
     due-holds (b₀ i) (start i .args .at) (q₁ i) _ _ (c .first-of-blocks .result) _
-    (later-is (b₀ i) (headed i) (s₀ i) (of-head i) (q₁ i) (inside i) (k .result) (k .ensures)) (seen i)
+    (later-is (b₀ i) (headed i) (s₀ i) (of-head i) (q₁ i) (inside i) (k .result) (k .ensures .0)) (seen i)
     (λ p. i .before .loop .inv .5 p (q₁ i) (omega arith) (omega (arith, i)))
     (c .first-of-blocks .ensures)
 
@@ -158,7 +167,8 @@ loop-again c =
     let i = turn k in
     let l = i .before .loop in
     let s = start i in
-    let q = q₁ i in (
+    let q = q₁ i in
+    let f = k .before .before .before .before .before .frame-of in (
       omega (arith, l .inv),
       omega (arith, i),
       simp length-set (l .inv .2),
@@ -167,6 +177,7 @@ loop-again c =
           (λ _. part-same (b₀ i) (s .args .at) q _ _ (seen i) (due k) (c .if1 .left)) j (omega arith) lo,
       firsts-more (b₀ i) (s .args .at) (l .kept) q (k .first-of-blocks .result) (s .args .from) (room i) (l .inv .4) (due k),
       λ p. firsts-rest (b₀ i) (s .args .at - laneCount) (l .kept) q (k .first-of-blocks .result) (s .args .found) (l .inv .5 p),
+      not-after-next _ (f .result) q (f .ensures .1 .1 .0),
     )
 
 same-length-2 : tie.Need-same-length-2 Inv-loop μ-loop

@@ -25,7 +25,7 @@ abbrev μ-loop : tie.MeasureT-loop
 μ-loop circuit head t numbers firsts lanes₀ count base start g₀ lanes g = count - g
 
 -- the number of all inputs
-inputs-to : (c : tie.Start Inv-loop μ-loop) → c .args .head .inputs * c .args .head .frames ≡ allInputs (now (c .args .circuit))
+inputs-to : (c : tie.Start Inv-loop μ-loop) → c .args .head .frames * c .args .head .inputs ≡ allInputs (now (c .args .circuit))
 inputs-to c = inputs-are (now (c .args .circuit)) (c .args .head .inputs) (c .args .head .frames) (c .pre .0 .head-is .inputs-is) (c .pre .0 .head-is .frames-is)
 
 store-inputs-requires : tie.Need-store-inputs-requires Inv-loop μ-loop
@@ -41,10 +41,10 @@ loop-holds c =
     let b = now (s .args .circuit) in
     let k = c .before .before .store-inputs in
     let v = k .last .1 .1 .1 .1 .0 in (
-      k .ensures .1 .1 .0,
+      k .ensures .1 .1 .0 .0,
       omega (arith, k .kept .1 .1 .1 .1 .0, s .pre),
       refl,
-      k .ensures .1 .1 .1,
+      k .ensures .1 .1 .0 .1,
       λ hs N. inputs-stored b (s .args .t) hs v (h .inputs) (h .frames) (h .base) (w .head-is .inputs-is) (w .head-is .frames-is) (w .head-is .base-is) (k .ensures .0 hs N),
       k .ensures .1 .0 b w (s .pre .1 .1 .0) (s .pre .1 .1 .1),
     )

@@ -1,4 +1,4 @@
--- `latest::first_reaching` meets its contract. The invariant: no output before q reaches a later frame.
+-- `latest::first_reaching` meets its contract. The invariant: no output before q reaches a later frame, and `frame` is not after output q.
 -- Assumes nothing.
 use mathlib.Core.Path.{_≡_, sym, ap, _∙_}
 use mathlib.Core.Bool.{false}
@@ -12,8 +12,10 @@ use denote.Ref.{now}
 use lib.Dec.{ltb}
 use lib.ListN.{getD}
 use Rattle.layered.proofs.Search.{below-suc, least-is}
-use Rattle.circuit.proofs.Laws.{output-at, output-in}
 use Rattle.circuit.specs.Circuit.{frameOf}
+use Rattle.circuit.specs.Frames.{NotAfter}
+use Rattle.circuit.proofs.Laws.{output-at, output-in}
+use Rattle.circuit.proofs.Frames.{not-after-first, not-after-next}
 use Rattle.circuit.proofs.Ahead.{output-parts}
 use Rattle.latest.specs.Latest.{reachesLater}
 use Rattle.latest.proofs.Laws.{reaches-is}
@@ -21,10 +23,11 @@ use Rattle.latest.proofs.first_reaching.Statement.{statement}
 use Rattle.latest.proofs.first_reaching.Tie as tie
 
 abbrev Inv-loop : tie.InvT-loop
-Inv-loop circuit latest outputs total first q₀ q = (q ≤ total) × ((i : ℕ) → i < q → reachesLater circuit i ≡ false)
+Inv-loop circuit latest outputs total first frame₀ q₀ frame q =
+    (q ≤ total) × ((i : ℕ) → i < q → reachesLater circuit i ≡ false) × NotAfter outputs frame q
 
 abbrev μ-loop : tie.MeasureT-loop
-μ-loop circuit latest outputs total first q₀ q = total - q
+μ-loop circuit latest outputs total first frame₀ q₀ frame q = total - q
 
 room-requires : tie.Need-room-requires Inv-loop μ-loop
 room-requires c κs = tt
@@ -42,14 +45,14 @@ add-first : tie.Need-add-first Inv-loop μ-loop
 add-first c = omega (arith, c .before .before .before .before .before .before .before .pre)
 
 loop-holds : tie.Need-loop-holds Inv-loop μ-loop
-loop-holds c = (omega arith, λ i h. absurd (omega arith))
+loop-holds c = (omega arith, λ i h. absurd (omega arith), not-after-first _ 0)
 
 -- the entry, from a turn
 abbrev start : tie.In-loop Inv-loop μ-loop → tie.Start Inv-loop μ-loop
 start c = c .before .before .before .before .before .before .before .before .before
 
 frame-of-requires : tie.Need-frame-of-requires Inv-loop μ-loop
-frame-of-requires c κs = omega (arith, start c .pre)
+frame-of-requires c κs = omega (arith, start c .pre, c .before .loop .inv)
 
 cast-if1 : tie.Need-cast-if1 Inv-loop μ-loop
 unfolding frameOf
@@ -57,7 +60,7 @@ cast-if1 c =
     let s = start (c .before) in
     let q = c .before .before .loop .q in
     let p = output-parts (now (s .args .circuit)) (s .pre .headed) q (omega (arith, s .pre)) in
-    omega (arith, c .frame-of .ensures ∙ ap (λ m. suc (q / m)) (s .pre .head-is .outputs-is), p .0, s .pre .headed .sizes .frames-to)
+    omega (arith, c .frame-of .ensures .0 ∙ ap (λ m. suc (q / m)) (s .pre .head-is .outputs-is), p .0, s .pre .headed .sizes .frames-to)
 
 add-if1 : tie.Need-add-if1 Inv-loop μ-loop
 add-if1 c = omega (arith, start (c .before) .pre)
@@ -81,7 +84,7 @@ test c =
     let q = c .before .before .loop .q in
     let e = output-at b (h .base) (h .gates) (h .total) q (a .pre .head-is .base-is) (a .pre .head-is .gates-is) (a .pre .head-is .total-is) in
     reaches-is b (latest c) (h .outputs) (c .frame-of .result) (h .base + (h .gates - h .total) + q) q
-    (c .before .before .before .before .before .before .store-signals .ensures) (a .pre .head-is .outputs-is) (c .frame-of .ensures) e
+    (c .before .before .before .before .before .before .store-signals .ensures) (a .pre .head-is .outputs-is) (c .frame-of .ensures .0) e
     (omega (arith, e, output-in b q (a .pre .headed .outputs-to) (omega (arith, a .pre))))
 
 returns : tie.Need-returns Inv-loop μ-loop
@@ -98,7 +101,11 @@ loop-less c = omega arith
 loop-again : tie.Need-loop-again Inv-loop μ-loop
 loop-again c =
     let l = c .before .before .before .loop in
-    (omega arith, rw (add-one (l .q)) (below-suc {P = λ i. reachesLater (now (start (c .before .before) .args .circuit)) i ≡ false} (l .inv .1) (test (c .before) ∙ le-ltb _ _ (c .if1 .left))))
+    let k = c .before .frame-of in (
+      omega arith,
+      rw (add-one (l .q)) (below-suc {P = λ i. reachesLater (now (start (c .before .before) .args .circuit)) i ≡ false} (l .inv .1) (test (c .before) ∙ le-ltb _ _ (c .if1 .left))),
+      not-after-next _ (k .result) (l .q) (k .ensures .1 .1 .0),
+    )
 
 returns-2 : tie.Need-returns-2 Inv-loop μ-loop
 returns-2 c =

@@ -1,22 +1,44 @@
--- `latest::frame_of` meets its contract.
+-- `latest::frame_of` meets its contract. The invariant: frame t does not begin after item i.
 -- Assumes nothing.
-use native.Mathlib.Nat.{div-le-self}
-use native.Mathlib.Numerals.{add-one}
+use mathlib.Core.Path.{refl}
+use Prim.Native.Nat.{_+_, _-_, _≤_}
+use native.Mathlib.Nat.{le-mul-of-pos-right}
 use native.Mathlib.Omega.{arith}
-use Rattle.circuit.specs.Circuit.{frameOf}
-use borrow.Author.Needs.{needs}
+use Rattle.circuit.specs.Frames.{OutputOf, NotAfter}
+use Rattle.circuit.proofs.Frames.{next-from, ends, frame-is, only-output, only-input}
 use Rattle.latest.proofs.frame_of.Statement.{statement}
 use Rattle.latest.proofs.frame_of.Tie as tie
 
-div-result : tie.Need-div-result
-div-result c = search needs
+abbrev Inv-loop : tie.InvT-loop
+Inv-loop per from i t₀ t = NotAfter per t i
 
-add-result : tie.Need-add-result
-add-result c = omega (arith, div-le-self (c .args .i) (c .args .per))
+abbrev μ-loop : tie.MeasureT-loop
+μ-loop per from i t₀ t = i + 1 - t
 
-returns : tie.Need-returns
-unfolding frameOf
-returns c = add-one _
+loop-holds : tie.Need-loop-holds Inv-loop μ-loop
+loop-holds c = omega (arith, c .pre)
+
+mul-loop : tie.Need-mul-loop Inv-loop μ-loop
+mul-loop c = let s = c .before in omega (arith, c .loop .inv, s .pre, ends (c .loop .t) (s .args .per) (c .loop .inv .0))
+
+to : (c : tie.In-loop Inv-loop μ-loop) → c .before .loop .t ≤ c .before .before .args .i
+to c = let s = c .before .before in omega (arith, c, le-mul-of-pos-right (c .before .loop .t) (s .pre .0 .0))
+
+add-t : tie.Need-add-t Inv-loop μ-loop
+add-t c = omega (arith, to c)
+
+loop-less : tie.Need-loop-less Inv-loop μ-loop
+loop-less c = omega (arith, to c)
+
+loop-again : tie.Need-loop-again Inv-loop μ-loop
+loop-again c = omega (arith, c, next-from (c .before .loop .t) (c .before .loop .t + 1) (c .before .before .args .per) refl)
+
+returns : tie.Need-returns Inv-loop μ-loop
+returns c =
+    let a = c .before .before .args in
+    let t = c .before .loop .t in
+    let o : OutputOf (a .per) t (a .i) = omega (arith, c) in
+    (frame-is (a .per) t (a .i) o, (only-input (a .per) t (1 + a .i) (omega (arith, o)), only-output (a .per) t (a .i) o))
 
 pub frame-of-spec : {M : Type 1} → statement M
-frame-of-spec = tie.close (tie.spec div-result add-result returns)
+frame-of-spec = tie.close (tie.spec Inv-loop μ-loop loop-holds mul-loop add-t loop-less loop-again returns)

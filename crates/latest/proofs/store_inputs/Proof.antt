@@ -1,4 +1,5 @@
--- `latest::store_inputs` meets its contract. The invariant: the latest frames of the constant and of the first i inputs are stored.
+-- `latest::store_inputs` meets its contract. The invariant: the latest frames of the constant and of the first i inputs are stored,
+-- and `frame` is not after input i.
 -- Assumes nothing.
 use mathlib.Core.Path.{_≡_, refl, _∙_}
 use mathlib.Core.List.{[], _∷_}
@@ -8,30 +9,35 @@ use native.Mathlib.Omega.{arith}
 use denote.Ref.{now}
 use lib.ListN.{length, take, length-set}
 use Rattle.circuit.specs.Circuit.{frameOf}
+use Rattle.circuit.specs.Frames.{NotAfter}
 use Rattle.circuit.proofs.Laws.{fill-grown}
+use Rattle.circuit.proofs.Frames.{not-after-first, not-after-next}
 use Rattle.latest.specs.Latest.{inputFrames}
 use Rattle.latest.proofs.Laws.{inputs-none}
 use Rattle.latest.proofs.store_inputs.Statement.{statement}
 use Rattle.latest.proofs.store_inputs.Tie as tie
 
 abbrev Inv-loop : tie.InvT-loop
-Inv-loop inputs count latest₀ i₀ latest i = (i ≤ count) × (length latest ≡ length latest₀) × (take (1 + i) latest ≡ inputFrames inputs i)
+Inv-loop inputs count latest₀ frame₀ i₀ latest frame i =
+    (i ≤ count) × (length latest ≡ length latest₀) × (take (1 + i) latest ≡ inputFrames inputs i) × NotAfter inputs frame i
 
 abbrev μ-loop : tie.MeasureT-loop
-μ-loop inputs count latest₀ i₀ latest i = count - i
+μ-loop inputs count latest₀ frame₀ i₀ latest frame i = count - i
 
 slice-write-latest : tie.Need-slice-write-latest Inv-loop μ-loop
 slice-write-latest c = omega arith
 
 loop-holds : tie.Need-loop-holds Inv-loop μ-loop
-loop-holds c = (omega arith, refl, inputs-none (c .before .args .inputs) (now (c .before .args .latest)) (omega arith))
+loop-holds c =
+    let a = c .before .args in
+    (omega arith, refl, inputs-none (a .inputs) (now (a .latest)) (omega arith), not-after-first (a .inputs) 0)
 
 frame-of-requires : tie.Need-frame-of-requires Inv-loop μ-loop
-frame-of-requires c κs = omega arith
+frame-of-requires c κs = omega (arith, c .before .loop .inv)
 
 cast-latest : tie.Need-cast-latest Inv-loop μ-loop
 unfolding frameOf
-cast-latest c = let l = c .before .before in omega (arith, c .frame-of .ensures, div-le-self (l .loop .i) (l .before .before .args .inputs))
+cast-latest c = let l = c .before .before in omega (arith, c .frame-of .ensures .0, div-le-self (l .loop .i) (l .before .before .args .inputs))
 
 add-latest : tie.Need-add-latest Inv-loop μ-loop
 add-latest c = omega arith
@@ -52,7 +58,8 @@ loop-again c =
     let a = c .before .before .before .before .args in (
       omega arith,
       length-set (l .latest) (1 + l .i) (c .frame-of .result) ∙ l .inv .1,
-      fill-grown (0 ∷ []) (λ _ k. frameOf (a .inputs) k) (l .latest) (1 + l .i) (l .i) (c .frame-of .result) (slice-write-latest-2 c) (l .inv .2) (c .frame-of .ensures) (1 + (l .i + 1)) (l .i + 1) (omega arith) refl,
+      fill-grown (0 ∷ []) (λ _ k. frameOf (a .inputs) k) (l .latest) (1 + l .i) (l .i) (c .frame-of .result) (slice-write-latest-2 c) (l .inv .2) (c .frame-of .ensures .0) (1 + (l .i + 1)) (l .i + 1) (omega arith) refl,
+      not-after-next (a .inputs) (c .frame-of .result) (l .i) (c .frame-of .ensures .1 .1 .0),
     )
 
 same-length : tie.Need-same-length Inv-loop μ-loop

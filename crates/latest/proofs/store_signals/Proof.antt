@@ -25,7 +25,7 @@ sub-store-inputs : tie.Need-sub-store-inputs Inv-loop μ-loop
 sub-store-inputs c = omega (arith, c .before .before .pre)
 
 store-inputs-requires : tie.Need-store-inputs-requires Inv-loop μ-loop
-store-inputs-requires c κs = let s = c .before .before .before in (omega (arith, s .pre), omega (arith, s .pre), omega (arith, s .pre))
+store-inputs-requires c κs = let s = c .before .before .before in omega (arith, s .pre)
 
 loop-holds : tie.Need-loop-holds Inv-loop μ-loop
 unfolding latestFrames
