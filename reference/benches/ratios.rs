@@ -48,6 +48,9 @@ fn circuit_level() {
     let crossed = look_ahead::crossed_out(&mut rng, &clean, Circuit::MOST_GATES).to_bytes();
     let few = Runs { runs: 3, calls: 1 };
     check_line("check 4096 gates, crossed out", &few, &crossed);
+    // The most outputs and nothing else: finding their frames takes more of the time than elsewhere.
+    let outputs = circuits::legal(&mut rng, Sizes::new(1, 16, 16), 256).to_bytes();
+    check_line("check 256 outputs over 16 frames", &often, &outputs);
 }
 
 /// The most sequences: in one call, and by the plain implementation one at a time.

@@ -173,16 +173,25 @@ fn each_output_may_show_its_own_frame_and_no_later_one() {
 }
 
 #[test]
-fn each_output_may_show_its_own_frame_among_the_most_sequences() {
+fn first_and_last_outputs_of_frames_show_them_among_the_most_sequences() {
     for (inputs, frames) in [(1, 16), (2, 8), (4, 4), (8, 2)] {
-        let sizes = Sizes::new(inputs, 2, frames);
-        for output in 0..sizes.output_gates() {
-            let own = last_input_of(&sizes, output);
-            finds_one_input_shown(0, sizes, output, own);
-            if own < sizes.input_signals() {
-                finds_one_input_shown(0, sizes, output, own + 1);
+        for outputs in [1, 3, 16] {
+            let sizes = Sizes::new(inputs, outputs, frames);
+            for output in 0..sizes.output_gates() {
+                if [0, outputs - 1].contains(&(output % outputs)) {
+                    shows_its_own_frame(sizes, output);
+                }
             }
         }
+    }
+}
+
+/// An output may show the last input of its frame, and not the one after it.
+fn shows_its_own_frame(sizes: Sizes, output: usize) {
+    let own = last_input_of(&sizes, output);
+    finds_one_input_shown(0, sizes, output, own);
+    if own < sizes.input_signals() {
+        finds_one_input_shown(0, sizes, output, own + 1);
     }
 }
 
