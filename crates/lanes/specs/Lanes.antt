@@ -37,8 +37,8 @@ Lanes v k values = (j : ℕ) → j < laneCount → take k (lane j v) ≡ values 
 abbrev pub InputLanes : (n T t : ℕ) (h : ℕ → ℕ) (i : ℕ) (v : List ℕ) → Type 0
 InputLanes n T t h i v = Lanes v (1 + i) (λ j. inputValues (sequence (2 ^ n) T t (h j)) n i)
 
--- lane j of v has, at each signal s that is an input of frame f, a bit of word f of that sequence: the one with the signal's place in the frame;
--- and s is one of no other frame
+-- document 02, point 5, of the inputs: at a signal s of frame f, lane j of v has the bit of word f of the same sequence that has the signal's place
+-- in the frame, and s is of no other frame
 abbrev pub FrameLanes : (n T t : ℕ) (h : ℕ → ℕ) (v : List ℕ) → Type 0
 FrameLanes n T t h v = (f s j : ℕ) → f ≤ T → InputOf n f s → j < laneCount
     → (bit (getD v s 0) j ≡ bit (getD (sequence (2 ^ n) T t (h j)) (f - 1) 0) (s - 1 - (f - 1) * n)) × OnlyInputOf n f s
