@@ -8,7 +8,7 @@ use lanes::neighbours;
 use lanes::room;
 use lanes::store_signals;
 use latest::first_reaching;
-use latest::frame_of;
+use latest::output_frame;
 use sizes::power;
 use verdict::Refusal;
 use verdict::Verdict;
@@ -62,7 +62,7 @@ fn first_differing(
     let first = head.base + (head.gates - head.total);
     let mut frame = 1;
     for q in from..found {
-        frame = frame_of(head.outputs, frame, q);
+        frame = output_frame(head.outputs, frame, q);
         let later = head.frames - frame;
         let seen = lanes[first + q];
         let due = first_of_blocks(seen, at, head.inputs * later, kept[q]);

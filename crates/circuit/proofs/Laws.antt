@@ -67,13 +67,12 @@ module _ {A : Type 0} (start : List A) (next : List A → ℕ → A) where
 
 -- what is held of the signals in an array v: at first that of the constant and the inputs, and at last that of all
 module _ {A : Type 0} where
-  pub signals-none : (f : ℕ → ℕ → List A) (next : List A → ℕ → A) (b : List ℕ) (v : List A) (n base : ℕ) → n ≡ inputs b → base ≡ 1 + allInputs b
-      → take (1 + (base - 1)) v ≡ f n (base - 1) → take (base + 0) v ≡ grown (f (inputs b) (allInputs b)) next 0
+  pub signals-none : (f : ℕ → ℕ → List A) (next : List A → ℕ → A) (b : List ℕ) (v : List A) (n count base : ℕ) → n ≡ inputs b → count ≡ allInputs b → base ≡ 1 + allInputs b
+      → take (1 + count) v ≡ f n count → take (base + 0) v ≡ grown (f (inputs b) (allInputs b)) next 0
   unfolding grown
-  signals-none f next b v n base en eb h =
-      let k : base - 1 ≡ allInputs b = omega arith in
-      let i : base + 0 ≡ 1 + (base - 1) = omega arith in
-      rw (i, h, en, k)
+  signals-none f next b v n count base en ec eb h =
+      let i : base + 0 ≡ 1 + count = omega arith in
+      rw (i, h, en, ec)
 
   pub signals-all : (f : ℕ → List A) (b : List ℕ) (v : List A) (base g : ℕ) → base ≡ 1 + allInputs b → g ≡ gates b → take (base + g) v ≡ f g
       → take (gateSignal b (gates b)) v ≡ f (gates b)

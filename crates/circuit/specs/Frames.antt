@@ -19,6 +19,6 @@ OutputOf m t q = ((t - 1) * m ≤ q) × (q < t * m)
 abbrev pub OnlyOutputOf : (m t q : ℕ) → Type 0
 OnlyOutputOf m t q = OutputOf m t q × ((u : ℕ) → OutputOf m u q → u ≡ t)
 
--- with `per` items to a frame, frame t does not begin after item i, from 0: counting along the frames may start there
-abbrev pub NotAfter : (per t i : ℕ) → Type 0
-NotAfter per t i = (1 ≤ t) × ((t - 1) * per ≤ i)
+-- frame t does not begin after output index q: counting along the frames may start there
+abbrev pub NotAfter : (m t q : ℕ) → Type 0
+NotAfter m t q = (1 ≤ t) × ((t - 1) * m ≤ q)

@@ -26,7 +26,7 @@ use Rattle.circuit.proofs.Ahead.{beq-same}
 use Rattle.circuit.proofs.Bits.{digit, bit-none, bit-packed}
 use Rattle.circuit.proofs.Laws.{fill-grown, signal-before, values-grow}
 use Rattle.circuit.proofs.Lists.{listed-after}
-use Rattle.circuit.proofs.Frames.{ends, from-first, only-input}
+use Rattle.circuit.proofs.Frames.{ends, inputs-are, from-first, only-input}
 use Rattle.lanes.specs.Limits.{laneBits, laneCount}
 use Rattle.lanes.specs.Lanes.{lane, literalLanes, sequence, Lanes, InputLanes, FrameLanes, Settled, Ready, Unnamed, FirstUses, SignalLanes}
 use Rattle.lanes.proofs.Bits.{bit-and, bit-not, bit-part, bit-low, bit-high}
@@ -178,10 +178,6 @@ literal-bit v l j x w hj ex =
     go false = refl
 
 -- ---- gates
-
-pub inputs-are : (b : List ℕ) (n T : ℕ) → n ≡ inputs b → T ≡ frames b → T * n ≡ allInputs b
-unfolding allInputs
-inputs-are b n T en eT = rw (en, eT) (mul-comm (frames b) (inputs b))
 
 -- the first gate that may have another value never rises
 pub lower : (before after k first : ℕ) {r n : ℕ} → r ≡ cond (eqb before after) k (min k first) → k ≤ n → r ≤ n

@@ -1,6 +1,7 @@
 -- The latest frames that signals depend on by their gates (document 01): no part of what number 4 means, since an input that is reached may
 -- have no effect; but an output whose gates reach no later input cannot look ahead.
-use Prim.Native.Nat.{ℕ, _/_, max}
+use Prim.Native.Nat.{ℕ, _+_, _*_, _/_, _<_, max}
+use mathlib.Core.Path.{_≡_}
 use mathlib.Core.List.{List, [], _∷_}
 use mathlib.Core.Bool.{Bool}
 use lib.ListN.{getD}
@@ -12,6 +13,10 @@ use Rattle.circuit.specs.Circuit.{gates, leftsAt, rightsAt, literalAt, allInput
 -- the latest frames of the constant and the inputs
 unfoldable pub inputFrames : (n count : ℕ) → List ℕ
 inputFrames n count = listed (0 ∷ []) (frameOf n) count
+
+-- v holds the latest frame of the constant, and those of inputs 0 to k - 1 of each of T frames
+abbrev pub InputsTo : (n T k : ℕ) (v : List ℕ) → Type 0
+InputsTo n T k v = (getD v 0 0 ≡ 0) × ((f j : ℕ) → f < T → j < k → getD v (1 + (f * n + j)) 0 ≡ f + 1)
 
 -- the later of the latest frames of gate g's operands, given those of the signals before it
 unfoldable pub laterFrame : List ℕ → List ℕ → (g : ℕ) → ℕ

@@ -3,27 +3,25 @@ use circuit::Head;
 use circuit::Limits;
 use circuit::read_gate;
 ghost use mathlib.Core.Path.{_≡_};
-ghost use Prim.Native.Nat.{_+_, _≤_, _<_, max};
-ghost use lib.ListN.{length, take, replicate};
-ghost use Rattle.sizes.specs.Limits.{mostBits};
+ghost use Prim.Native.Nat.{ℕ, _+_, _*_, _≤_, _<_, max};
+ghost use lib.ListN.{length, getD, take, replicate};
+ghost use Rattle.sizes.specs.Limits.{mostOutputs, mostBits};
 ghost use Rattle.layered.specs.Search.{least};
 ghost use Rattle.circuit.specs.Limits.{mostGates, mostSignals};
 ghost use Rattle.circuit.specs.Circuit.{gates, gateSignal, allOutputs, frameOf};
 ghost use Rattle.circuit.specs.Frames.{NotAfter, OnlyInputOf, OnlyOutputOf};
 ghost use Rattle.circuit.specs.WellFormed.{WellFormed};
-ghost use Rattle.latest.specs.Latest.{inputFrames, latestFrames, reachesLater};
+ghost use Rattle.latest.specs.Latest.{inputFrames, InputsTo, latestFrames, reachesLater};
 
-// The frame, from 1, of item i of a row with `per` items to a frame, counted along from a frame that is not later. Item i of the inputs is signal
-// 1 + i.
-pub fn frame_of(per: usize, from: usize, i: usize) -> usize
-    requires { ⌜ (1 ≤ per) × (per ≤ mostGates) × (i ≤ mostGates) ⌝ }
-    requires { ⌜ NotAfter per from i ⌝ }
-    ensures frame { λ r. ⌜ r ≡ frameOf per i ⌝ }
-    ensures input { λ r. ⌜ OnlyInputOf per r (1 + i) ⌝ }
-    ensures output { λ r. ⌜ OnlyOutputOf per r i ⌝ }
+// The frame, from 1, of output q, counted along from a frame that is not later.
+pub fn output_frame(outputs: usize, from: usize, q: usize) -> usize
+    requires { ⌜ (1 ≤ outputs) × (outputs ≤ mostOutputs) × (q ≤ mostGates) ⌝ }
+    requires { ⌜ NotAfter outputs from q ⌝ }
+    ensures frame { λ r. ⌜ r ≡ frameOf outputs q ⌝ }
+    ensures only { λ r. ⌜ OnlyOutputOf outputs r q ⌝ }
 {
     let mut t = from;
-    while t * per <= i {
+    while t * outputs <= q {
         t += 1;
     }
     t
@@ -43,16 +41,28 @@ fn room() -> [u8; Limits::SIGNALS]
     [0; Limits::SIGNALS]
 }
 
-// Stores the latest frames of the constant and of `count` inputs: the frame is counted along.
-fn store_inputs(inputs: usize, count: usize, latest: &mut [u8])
-    requires { ⌜ (1 ≤ inputs) × (inputs ≤ mostBits) × (count ≤ mostBits) × (count < length (now latest)) ⌝ }
-    ensures { λ _. ⌜ take (1 + count) (now (latest .exit)) ≡ inputFrames inputs count ⌝ }
+// Stores the latest frames of input k, from 0, of each frame: frame by frame.
+fn store_input(inputs: usize, frames: usize, k: usize, latest: &mut [u8])
+    requires { ⌜ (k < inputs) × (inputs ≤ mostBits) × (frames * inputs ≤ mostBits) × (frames * inputs < length (now latest)) ⌝ }
+    requires { ⌜ InputsTo inputs frames k (now latest) ⌝ }
+    ensures { λ _. ⌜ InputsTo inputs frames (k + 1) (now (latest .exit)) ⌝ }
+{
+    let mut s = 1 + k;
+    for t in 0..frames {
+        latest[s] = (t + 1) as u8;
+        s += inputs;
+    }
+}
+
+// Stores the latest frames of the constant and of all inputs.
+fn store_inputs(inputs: usize, frames: usize, latest: &mut [u8])
+    requires { ⌜ (1 ≤ inputs) × (inputs ≤ mostBits) × (frames * inputs ≤ mostBits) × (frames * inputs < length (now latest)) ⌝ }
+    ensures frames { λ _. ⌜ take (1 + frames * inputs) (now (latest .exit)) ≡ inputFrames inputs (frames * inputs) ⌝ }
+    ensures only { λ _. ⌜ ((s : ℕ) → 1 ≤ s → s ≤ frames * inputs → OnlyInputOf inputs (getD (now (latest .exit)) s 0) s) ⌝ }
 {
     latest[0] = 0;
-    let mut frame = 1;
-    for i in 0..count {
-        frame = frame_of(inputs, frame, i);
-        latest[1 + i] = frame as u8;
+    for k in 0..inputs {
+        store_input(inputs, frames, k, latest);
     }
 }
 
@@ -64,7 +74,7 @@ fn store_signals(circuit: &[u8], head: Head, latest: &mut [u8])
 {
     let count = head.gates;
     let base = head.base;
-    store_inputs(head.inputs, base - 1, latest);
+    store_inputs(head.inputs, head.frames, latest);
     for g in 0..count {
         let gate = read_gate(circuit, head, g);
         let left = gate.left / 2;
@@ -85,7 +95,7 @@ pub fn first_reaching(circuit: &[u8], head: Head) -> usize
     let first = head.base + (head.gates - total);
     let mut frame = 1;
     for q in 0..total {
-        frame = frame_of(outputs, frame, q);
+        frame = output_frame(outputs, frame, q);
         if (frame as u8) < latest[first + q] {
             return q;
         }

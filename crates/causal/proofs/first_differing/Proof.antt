@@ -74,12 +74,12 @@ of-head c = c .before .before .before .before .read .ensures
 inside : (c : tie.In-loop Inv-loop μ-loop) → q₁ c < allOutputs (b₀ c)
 inside c = omega (arith, c, start c .pre)
 
-frame-of-requires : tie.Need-frame-of-requires Inv-loop μ-loop
-frame-of-requires c κs = omega (arith, of-head c, headed c, c .before .loop .inv, output-few (b₀ c) (headed c) (s₀ c) (of-head c) (q₁ c) (inside c))
+output-frame-requires : tie.Need-output-frame-requires Inv-loop μ-loop
+output-frame-requires c κs = omega (arith, of-head c, headed c, c .before .loop .inv, output-few (b₀ c) (headed c) (s₀ c) (of-head c) (q₁ c) (inside c))
 
 -- once the frame is found: the turn
 sub-later : tie.Need-sub-later Inv-loop μ-loop
-sub-later c = let i = c .before .before in frame-in (b₀ i) (headed i) (s₀ i) (of-head i) (q₁ i) (inside i) (c .before .frame-of .result) (c .before .frame-of .ensures .0)
+sub-later c = let i = c .before .before in frame-in (b₀ i) (headed i) (s₀ i) (of-head i) (q₁ i) (inside i) (c .before .output-frame .result) (c .before .output-frame .ensures .0)
 
 add-seen : tie.Need-add-seen Inv-loop μ-loop
 add-seen c = let i = c .before .before in omega (arith, signal-is (b₀ i) (headed i) (s₀ i) (of-head i) (q₁ i) (inside i), signal-in (b₀ i) (headed i) (s₀ i) (of-head i) (q₁ i) (inside i))
@@ -91,7 +91,7 @@ shared-slice-read-seen : tie.Need-shared-slice-read-seen Inv-loop μ-loop
 shared-slice-read-seen c = let i = c .before .before .before in omega (arith, signal-is (b₀ i) (headed i) (s₀ i) (of-head i) (q₁ i) (inside i), signal-in (b₀ i) (headed i) (s₀ i) (of-head i) (q₁ i) (inside i), start i .pre)
 
 mul-first-of-blocks : tie.Need-mul-first-of-blocks Inv-loop μ-loop
-mul-first-of-blocks c = let i = c .before .before .before .before in omega (arith, later-to (b₀ i) (headed i) (s₀ i) (of-head i) (q₁ i) (inside i) (c .before .before .before .frame-of .result) (c .before .before .before .frame-of .ensures .0))
+mul-first-of-blocks c = let i = c .before .before .before .before in omega (arith, later-to (b₀ i) (headed i) (s₀ i) (of-head i) (q₁ i) (inside i) (c .before .before .before .output-frame .result) (c .before .before .before .output-frame .ensures .0))
 
 mul-first-of-blocks-2 : tie.Need-mul-first-of-blocks-2 Inv-loop μ-loop
 mul-first-of-blocks-2 c = let i = c .before .before .before .before in omega (arith, output-few (b₀ i) (headed i) (s₀ i) (of-head i) (q₁ i) (inside i))
@@ -106,7 +106,7 @@ slice-read-first-of-blocks c = room (c .before .before .before .before .before)
 first-of-blocks-requires : tie.Need-first-of-blocks-requires Inv-loop μ-loop
 first-of-blocks-requires c κs =
     let i = c .before .before .before .before .before in
-    let k = c .before .before .before .before .frame-of in
+    let k = c .before .before .before .before .output-frame in
     (later-to (b₀ i) (headed i) (s₀ i) (of-head i) (q₁ i) (inside i) (k .result) (k .ensures .0), start i .pre .1 .0 .0)
 
 -- once the lanes that are due are known: the turn, and both
@@ -124,7 +124,7 @@ due : (c : tie.After-first-of-blocks Inv-loop μ-loop) → Holds (c .first-of-bl
 unfolding Firsts
 due c =
     let i = turn c in
-    let k = c .before .before .before .before .before .frame-of in
+    let k = c .before .before .before .before .before .output-frame in
     due-holds (b₀ i) (start i .args .at) (q₁ i) _ _ (c .first-of-blocks .result) _
     (later-is (b₀ i) (headed i) (s₀ i) (of-head i) (q₁ i) (inside i) (k .result) (k .ensures .0)) (seen i)
     (λ p. i .before .loop .inv .5 p (q₁ i) (omega arith) (omega (arith, i)))
@@ -168,7 +168,7 @@ loop-again c =
     let l = i .before .loop in
     let s = start i in
     let q = q₁ i in
-    let f = k .before .before .before .before .before .frame-of in (
+    let f = k .before .before .before .before .before .output-frame in (
       omega (arith, l .inv),
       omega (arith, i),
       simp length-set (l .inv .2),
@@ -177,7 +177,7 @@ loop-again c =
           (λ _. part-same (b₀ i) (s .args .at) q _ _ (seen i) (due k) (c .if1 .left)) j (omega arith) lo,
       firsts-more (b₀ i) (s .args .at) (l .kept) q (k .first-of-blocks .result) (s .args .from) (room i) (l .inv .4) (due k),
       λ p. firsts-rest (b₀ i) (s .args .at - laneCount) (l .kept) q (k .first-of-blocks .result) (s .args .found) (l .inv .5 p),
-      not-after-next _ (f .result) q (f .ensures .1 .1 .0),
+      not-after-next _ (f .result) q (f .ensures .1 .0),
     )
 
 same-length-2 : tie.Need-same-length-2 Inv-loop μ-loop
@@ -207,7 +207,7 @@ first-differing-spec =
     sub-first
     add-first
     loop-holds
-    frame-of-requires
+    output-frame-requires
     sub-later
     add-seen
     mul-seen

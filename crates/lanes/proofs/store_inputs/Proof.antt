@@ -13,9 +13,9 @@ use lib.Seq.{getD-set-same}
 use Rattle.sizes.specs.Limits.{mostBits}
 use Rattle.circuit.specs.Circuit.{allInputs}
 use Rattle.circuit.specs.WellFormed.{WellFormed}
-use Rattle.circuit.proofs.Frames.{next-from}
+use Rattle.circuit.proofs.Frames.{next-from, inputs-are}
 use Rattle.lanes.specs.Lanes.{NumberLanes, InputLanes, Settled, Ready, FirstUses}
-use Rattle.lanes.proofs.Laws.{inputs-none, inputs-framed, inputs-are, settled-used, settled-none}
+use Rattle.lanes.proofs.Laws.{inputs-none, inputs-framed, settled-used, settled-none}
 use Rattle.lanes.proofs.store_inputs.Statement.{statement}
 use Rattle.lanes.proofs.store_inputs.Tie as tie
 

@@ -10,9 +10,10 @@ use lib.Seq.{getD-set-other}
 use Rattle.circuit.specs.Limits.{mostSignals}
 use Rattle.circuit.specs.Circuit.{gates, allInputs}
 use Rattle.circuit.proofs.Laws.{signals-fit}
+use Rattle.circuit.proofs.Frames.{inputs-are}
 use Rattle.lanes.specs.Limits.{laneCount}
 use Rattle.lanes.specs.Lanes.{NumberLanes, Lanes, Settled}
-use Rattle.lanes.proofs.Laws.{inputsOf, inputs-are, inputs-stored, inputs-kept, settled-more, settled-signals}
+use Rattle.lanes.proofs.Laws.{inputsOf, inputs-stored, inputs-kept, settled-more, settled-signals}
 use Rattle.lanes.proofs.store_signals.Statement.{statement}
 use Rattle.lanes.proofs.store_signals.Tie as tie
 

@@ -51,8 +51,8 @@ loop-holds c = (omega arith, λ i h. absurd (omega arith), not-after-first _ 0)
 abbrev start : tie.In-loop Inv-loop μ-loop → tie.Start Inv-loop μ-loop
 start c = c .before .before .before .before .before .before .before .before .before
 
-frame-of-requires : tie.Need-frame-of-requires Inv-loop μ-loop
-frame-of-requires c κs = omega (arith, start c .pre, c .before .loop .inv)
+output-frame-requires : tie.Need-output-frame-requires Inv-loop μ-loop
+output-frame-requires c κs = omega (arith, start c .pre, c .before .loop .inv)
 
 cast-if1 : tie.Need-cast-if1 Inv-loop μ-loop
 unfolding frameOf
@@ -60,7 +60,7 @@ cast-if1 c =
     let s = start (c .before) in
     let q = c .before .before .loop .q in
     let p = output-parts (now (s .args .circuit)) (s .pre .headed) q (omega (arith, s .pre)) in
-    omega (arith, c .frame-of .ensures .0 ∙ ap (λ m. suc (q / m)) (s .pre .head-is .outputs-is), p .0, s .pre .headed .sizes .frames-to)
+    omega (arith, c .output-frame .ensures .0 ∙ ap (λ m. suc (q / m)) (s .pre .head-is .outputs-is), p .0, s .pre .headed .sizes .frames-to)
 
 add-if1 : tie.Need-add-if1 Inv-loop μ-loop
 add-if1 c = omega (arith, start (c .before) .pre)
@@ -69,13 +69,13 @@ array-read-if1 : tie.Need-array-read-if1 Inv-loop μ-loop
 array-read-if1 c = omega (arith, start (c .before) .pre)
 
 -- what is stored of all signals
-abbrev latest : tie.After-frame-of Inv-loop μ-loop → List ℕ
+abbrev latest : tie.After-output-frame Inv-loop μ-loop → List ℕ
 latest c = c .before .before .before .before .before .before .store-signals .last .1 .1 .0
 
 -- the test of a turn is the definition's
-test : (c : tie.After-frame-of Inv-loop μ-loop)
+test : (c : tie.After-output-frame Inv-loop μ-loop)
     → reachesLater (now (start (c .before) .args .circuit)) (c .before .before .loop .q)
-    ≡ ltb (c .frame-of .result)
+    ≡ ltb (c .output-frame .result)
     (getD (latest c) (start (c .before) .args .head .base + (start (c .before) .args .head .gates - start (c .before) .args .head .total) + c .before .before .loop .q) 0)
 test c =
     let a = start (c .before) in
@@ -83,8 +83,8 @@ test c =
     let h = a .args .head in
     let q = c .before .before .loop .q in
     let e = output-at b (h .base) (h .gates) (h .total) q (a .pre .head-is .base-is) (a .pre .head-is .gates-is) (a .pre .head-is .total-is) in
-    reaches-is b (latest c) (h .outputs) (c .frame-of .result) (h .base + (h .gates - h .total) + q) q
-    (c .before .before .before .before .before .before .store-signals .ensures) (a .pre .head-is .outputs-is) (c .frame-of .ensures .0) e
+    reaches-is b (latest c) (h .outputs) (c .output-frame .result) (h .base + (h .gates - h .total) + q) q
+    (c .before .before .before .before .before .before .store-signals .ensures) (a .pre .head-is .outputs-is) (c .output-frame .ensures .0) e
     (omega (arith, e, output-in b q (a .pre .headed .outputs-to) (omega (arith, a .pre))))
 
 returns : tie.Need-returns Inv-loop μ-loop
@@ -101,10 +101,10 @@ loop-less c = omega arith
 loop-again : tie.Need-loop-again Inv-loop μ-loop
 loop-again c =
     let l = c .before .before .before .loop in
-    let k = c .before .frame-of in (
+    let k = c .before .output-frame in (
       omega arith,
       rw (add-one (l .q)) (below-suc {P = λ i. reachesLater (now (start (c .before .before) .args .circuit)) i ≡ false} (l .inv .1) (test (c .before) ∙ le-ltb _ _ (c .if1 .left))),
-      not-after-next _ (k .result) (l .q) (k .ensures .1 .1 .0),
+      not-after-next _ (k .result) (l .q) (k .ensures .1 .0),
     )
 
 returns-2 : tie.Need-returns-2 Inv-loop μ-loop
@@ -125,7 +125,7 @@ first-reaching-spec =
     sub-first
     add-first
     loop-holds
-    frame-of-requires
+    output-frame-requires
     cast-if1
     add-if1
     array-read-if1

@@ -1,74 +1,61 @@
--- `latest::store_inputs` meets its contract. The invariant: the latest frames of the constant and of the first i inputs are stored,
--- and `frame` is not after input i.
+-- `latest::store_inputs` meets its contract. The invariant: the latest frames of the constant and of inputs 0 to k - 1 of every frame are stored.
 -- Assumes nothing.
-use mathlib.Core.Path.{_≡_, refl, _∙_}
-use mathlib.Core.List.{[], _∷_}
-use Prim.Native.Nat.{_+_, _-_, _≤_}
-use native.Mathlib.Nat.{div-le-self}
+use mathlib.Core.Path.{_≡_, refl, _∙_, subst}
+use Prim.Native.Nat.{_-_, _≤_}
 use native.Mathlib.Omega.{arith}
 use denote.Ref.{now}
-use lib.ListN.{length, take, length-set}
-use Rattle.circuit.specs.Circuit.{frameOf}
-use Rattle.circuit.specs.Frames.{NotAfter}
-use Rattle.circuit.proofs.Laws.{fill-grown}
-use Rattle.circuit.proofs.Frames.{not-after-first, not-after-next}
-use Rattle.latest.specs.Latest.{inputFrames}
-use Rattle.latest.proofs.Laws.{inputs-none}
+use lib.ListN.{length, length-set}
+use Rattle.latest.specs.Latest.{InputsTo}
+use Rattle.latest.proofs.Laws.{inputs-none, inputs-all, input-only}
 use Rattle.latest.proofs.store_inputs.Statement.{statement}
 use Rattle.latest.proofs.store_inputs.Tie as tie
 
 abbrev Inv-loop : tie.InvT-loop
-Inv-loop inputs count latest₀ frame₀ i₀ latest frame i =
-    (i ≤ count) × (length latest ≡ length latest₀) × (take (1 + i) latest ≡ inputFrames inputs i) × NotAfter inputs frame i
+Inv-loop inputs frames latest₀ k₀ latest k = (k ≤ inputs) × (length latest ≡ length latest₀) × InputsTo inputs frames k latest
 
 abbrev μ-loop : tie.MeasureT-loop
-μ-loop inputs count latest₀ frame₀ i₀ latest frame i = count - i
+μ-loop inputs frames latest₀ k₀ latest k = inputs - k
 
 slice-write-latest : tie.Need-slice-write-latest Inv-loop μ-loop
-slice-write-latest c = omega arith
+slice-write-latest c = omega (arith, c .before .pre)
 
 loop-holds : tie.Need-loop-holds Inv-loop μ-loop
-loop-holds c =
-    let a = c .before .args in
-    (omega arith, refl, inputs-none (a .inputs) (now (a .latest)) (omega arith), not-after-first (a .inputs) 0)
+loop-holds c = let a = c .before .args in (omega arith, refl, inputs-none (a .inputs) (a .frames) (now (a .latest)) (omega (arith, c .before .pre)))
 
-frame-of-requires : tie.Need-frame-of-requires Inv-loop μ-loop
-frame-of-requires c κs = omega (arith, c .before .loop .inv)
+store-input-requires : tie.Need-store-input-requires Inv-loop μ-loop
+store-input-requires c κs =
+    let s = c .before .before .before .before in
+    let l = c .before .before .loop in
+    (omega (arith, c .before, s .pre, l .inv .1, length-set (now (s .args .latest)) 0 0), l .inv .2)
 
-cast-latest : tie.Need-cast-latest Inv-loop μ-loop
-unfolding frameOf
-cast-latest c = let l = c .before .before in omega (arith, c .frame-of .ensures .0, div-le-self (l .loop .i) (l .before .before .args .inputs))
+-- once input k is stored: the turn
+abbrev turn : tie.After-slice-known2 Inv-loop μ-loop → tie.In-loop Inv-loop μ-loop
+turn c = c .before .before .before .before
 
-add-latest : tie.Need-add-latest Inv-loop μ-loop
-add-latest c = omega arith
-
-slice-write-latest-2 : tie.Need-slice-write-latest-2 Inv-loop μ-loop
-slice-write-latest-2 c = omega (arith, c .before .before .loop .inv .1 ∙ length-set (now (c .before .before .before .before .args .latest)) 0 0)
-
-add-i : tie.Need-add-i Inv-loop μ-loop
-add-i c = omega arith
+add-k : tie.Need-add-k Inv-loop μ-loop
+add-k c = omega (arith, turn c, turn c .before .before .before .pre)
 
 loop-less : tie.Need-loop-less Inv-loop μ-loop
-loop-less c = omega arith
+loop-less c = omega (arith, turn c)
 
 loop-again : tie.Need-loop-again Inv-loop μ-loop
-unfolding inputFrames
 loop-again c =
-    let l = c .before .before .loop in
-    let a = c .before .before .before .before .args in (
-      omega arith,
-      length-set (l .latest) (1 + l .i) (c .frame-of .result) ∙ l .inv .1,
-      fill-grown (0 ∷ []) (λ _ k. frameOf (a .inputs) k) (l .latest) (1 + l .i) (l .i) (c .frame-of .result) (slice-write-latest-2 c) (l .inv .2) (c .frame-of .ensures .0) (1 + (l .i + 1)) (l .i + 1) (omega arith) refl,
-      not-after-next (a .inputs) (c .frame-of .result) (l .i) (c .frame-of .ensures .1 .1 .0),
-    )
+    let k = c .before .before .store-input in
+    (omega (arith, turn c), k .kept .1 .1 .1 .0 ∙ turn c .before .loop .inv .1, k .ensures)
 
 same-length : tie.Need-same-length Inv-loop μ-loop
 same-length c = c .before .loop .inv .1 ∙ length-set (now (c .before .before .before .args .latest)) 0 0
 
 returns : tie.Need-returns Inv-loop μ-loop
 returns c =
-    let e : c .before .loop .i ≡ c .before .before .before .args .count = omega arith in
-    rw (← e) (c .before .loop .inv .2)
+    let s = c .before .before .before in
+    let a = s .args in
+    let l = c .before .loop in
+    let e : l .k ≡ a .inputs = omega (arith, c, l .inv .0) in
+    let stored : InputsTo (a .inputs) (a .frames) (a .inputs) (l .latest) = subst (λ k. InputsTo (a .inputs) (a .frames) k (l .latest)) e (l .inv .2) in (
+      inputs-all (a .inputs) (a .frames) (l .latest) (s .pre .0) (omega (arith, l .inv .1, length-set (now (a .latest)) 0 0, s .pre)) stored,
+      input-only (a .inputs) (a .frames) (l .latest) (s .pre .0) stored,
+    )
 
 pub store-inputs-spec : {M : Type 1} → statement M
 store-inputs-spec =
@@ -78,11 +65,8 @@ store-inputs-spec =
     μ-loop
     slice-write-latest
     loop-holds
-    frame-of-requires
-    cast-latest
-    add-latest
-    slice-write-latest-2
-    add-i
+    store-input-requires
+    add-k
     loop-less
     loop-again
     same-length

@@ -2,13 +2,14 @@
 -- Assumes nothing.
 use mathlib.Core.Path.{_≡_, refl, ap, _∙_}
 use mathlib.Core.List.{List}
-use Prim.Native.Nat.{ℕ, _+_, _-_, _/_, _≤_, _<_}
+use Prim.Native.Nat.{ℕ, _+_, _*_, _-_, _/_, _≤_, _<_}
 use native.Mathlib.Omega.{arith}
 use denote.Ref.{now}
 use lib.ListN.{length, take, set, length-set}
 use Rattle.circuit.specs.Limits.{mostSignals}
-use Rattle.circuit.specs.Circuit.{gates}
+use Rattle.circuit.specs.Circuit.{gates, allInputs}
 use Rattle.circuit.proofs.Laws.{signals-none, signals-all}
+use Rattle.circuit.proofs.Frames.{inputs-are}
 use Rattle.latest.specs.Latest.{inputFrames, laterFrame, latestFrames}
 use Rattle.latest.proofs.Laws.{latest-more}
 use Rattle.latest.proofs.store_signals.Statement.{statement}
@@ -21,11 +22,12 @@ Inv-loop circuit head latest₀ count base g₀ latest g =
 abbrev μ-loop : tie.MeasureT-loop
 μ-loop circuit head latest₀ count base g₀ latest g = count - g
 
-sub-store-inputs : tie.Need-sub-store-inputs Inv-loop μ-loop
-sub-store-inputs c = omega (arith, c .before .before .pre)
+-- how many inputs there are
+all-inputs : (c : tie.Start Inv-loop μ-loop) → c .args .head .frames * c .args .head .inputs ≡ allInputs (now (c .args .circuit))
+all-inputs c = let h = c .args .head in inputs-are (now (c .args .circuit)) (h .inputs) (h .frames) (c .pre .0 .head-is .inputs-is) (c .pre .0 .head-is .frames-is)
 
 store-inputs-requires : tie.Need-store-inputs-requires Inv-loop μ-loop
-store-inputs-requires c κs = let s = c .before .before .before in omega (arith, s .pre)
+store-inputs-requires c κs = let s = c .before .before .before in omega (arith, s .pre, all-inputs s)
 
 loop-holds : tie.Need-loop-holds Inv-loop μ-loop
 unfolding latestFrames
@@ -37,7 +39,7 @@ loop-holds c =
       omega arith,
       omega (arith, k .kept .1 .1 .0, s .pre),
       refl,
-      signals-none inputFrames (laterFrame b) b (k .last .1 .1 .0) (h .inputs) (h .base) (s .pre .0 .head-is .inputs-is) (s .pre .0 .head-is .base-is) (k .ensures),
+      signals-none inputFrames (laterFrame b) b (k .last .1 .1 .0) (h .inputs) (h .frames * h .inputs) (h .base) (s .pre .0 .head-is .inputs-is) (all-inputs s) (s .pre .0 .head-is .base-is) (k .ensures .0),
     )
 
 -- in a turn: the entry, the circuit and the gate
@@ -122,7 +124,6 @@ store-signals-spec =
     (tie.spec
     Inv-loop
     μ-loop
-    sub-store-inputs
     store-inputs-requires
     loop-holds
     read-gate-requires
