@@ -1,5 +1,5 @@
-/* Folds parity, reads its table aloud, prices it, counts the histories that reach its states, steps it, and draws
- * gates from it. docs/EXAMPLE.md walks through it.
+/* Asks for parity's plan, folds as planned, reads the table aloud, prices it, counts the histories that reach its
+ * states, steps it, and draws gates from it. docs/EXAMPLE.md walks through it.
  *
  *   rt staticlib tff
  *   cc -Iinclude examples/parity.c -Ltarget/staticlib -ltff -o target/parity && target/parity
@@ -22,10 +22,17 @@ int main(void) {
                                5, 0, 4, 0, 9, 0, 1, 0, 1, 0};   /* right literals */
     uint16_t scratch[8];
     uint8_t table[36], reached[40], drawn[76];
-    uint64_t answer[5];
+    uint64_t asked[23], answer[5];
+    const uint64_t *plan = asked + 2;                           /* n, m, T, states of layers 0 to 16, bytes */
 
-    tff_fold(circuit, sizeof circuit, scratch, 8, table, sizeof table, answer, 2);
-    printf("fold: %d, %d\n", (int)answer[0], (int)answer[1]);
+    tff_ask(circuit, sizeof circuit, scratch, 8, asked, 23);
+    printf("ask: %d, %d: n %d, m %d, T %d, states", (int)asked[0], (int)asked[1], (int)plan[0], (int)plan[1],
+           (int)plan[2]);
+    for (unsigned t = 0; t <= plan[2]; t++) printf(" %d", (int)plan[3 + t]);
+    printf(", %d bytes\n", (int)plan[20]);
+
+    tff_commit(circuit, sizeof circuit, plan, 21, scratch, 8, table, sizeof table, answer, 2);
+    printf("commit: %d, %d\n", (int)answer[0], (int)answer[1]);
 
     unsigned frames = word(table, 2), entry = 4 + frames, entries = 0;
     for (unsigned t = 0; t < frames; t++) entries += 2 * word(table, 3 + t);

@@ -17,8 +17,8 @@
  * where there are no elements. A slice that a call may write to shares no element with another.
  *
  * Each call puts a number and a place into answer[0] and answer[1], tff_step three values more,
- * tff_price one; the rest of answer stays as it was. Where answer is too short for them, nothing at
- * all is changed.
+ * tff_price one, tff_ask 21; the rest of answer stays as it was. Where answer is too short for them,
+ * nothing at all is changed.
  *
  *   number  place                       when
  *   0       bytes or words written,     accepted; what follows the result stays as it was
@@ -37,9 +37,11 @@
  *   11      layer given                 position that the table does not have
  *   12      length of the list          list of input words not T long, for tff_simulate count*T
  *   13      count given                 above 32 sequences
+ *   14      0                           plan is not what asking returns for this circuit
  *
- * A refused call changes nothing but answer, save that a fold refused with 7 clears the scratch
- * that it needs.
+ * A refused call changes nothing but answer and, as said here, scratch. tff_fold, tff_ask and
+ * tff_commit need 2 * 2^(n*T) numbers of scratch. These end as zeros where the call is accepted, or
+ * refused with 14 or 7; scratch beyond them is never changed.
  */
 
 #ifndef TFF_H
@@ -66,13 +68,28 @@ void tff_simulate(const uint8_t *circuit, size_t circuit_len,
                   uint64_t *answer, size_t answer_len);
 
 /* Puts into result the table of the circuit, with the fewest states at every layer.
- * Refuses as the check, then 6, 7. Accepted: place is the bytes written.
- * Scratch takes 2 * 2^(n*T) numbers; these end as zeros where the call is accepted or refused
- * with 7, and scratch beyond them is never changed. */
+ * Refuses as the check, then 6, 7. Accepted: place is the bytes written. */
 void tff_fold(const uint8_t *circuit, size_t circuit_len,
               uint16_t *scratch, size_t scratch_len,
               uint8_t *result, size_t result_len,
               uint64_t *answer, size_t answer_len);
+
+/* The plan of a circuit: what its table takes, without writing it. Answers 23 values: number, place
+ * and the 21 numbers of the plan, which are n, m, T, the state counts of layers 0 to 16, 0 beyond T,
+ * and the bytes of the table. Refuses as the check, then 6, with a plan of zeros.
+ * Accepted: place 0. */
+void tff_ask(const uint8_t *circuit, size_t circuit_len,
+             uint16_t *scratch, size_t scratch_len,
+             uint64_t *answer, size_t answer_len);
+
+/* Puts into result the table of the circuit as tff_fold does, but only where plan is just the 21
+ * numbers that tff_ask returns for it. Refuses as the check, then 6, 14 (a plan of another length as
+ * well), 7. Accepted: place is the bytes written. */
+void tff_commit(const uint8_t *circuit, size_t circuit_len,
+                const uint64_t *plan, size_t plan_len,
+                uint16_t *scratch, size_t scratch_len,
+                uint8_t *result, size_t result_len,
+                uint64_t *answer, size_t answer_len);
 
 /* Judges a table: 1, 2, 1, 2, 1, 5. Accepted: place 0. */
 void tff_check_table(const uint8_t *table, size_t table_len,

@@ -1,5 +1,5 @@
 //! Times of the proved library beside those of the plain implementation, one line a case; then of
-//! pricing beside checking, both proved.
+//! asking and committing beside folding, and of pricing beside checking, all proved.
 //!
 //! The two take turns in one run; a line gives their median times and the ratio of these.
 
@@ -7,7 +7,13 @@ use std::hint::black_box;
 use std::time::Instant;
 
 use reference::gen::{any_sequence, any_sequences, circuits, look_ahead, tables, Rng};
-use reference::{Circuit, Sizes, Table};
+use reference::{examples, Circuit, Sizes, Table};
+
+/// For calls of which one is too short to be measured alone.
+const MANY_CALLS: Runs = Runs {
+    runs: 21,
+    calls: 500,
+};
 
 fn main() {
     heading("proved", "plain");
@@ -15,6 +21,10 @@ fn main() {
     table_level();
     fold_level();
     unfold_level();
+    heading("ask", "fold");
+    each_planned(ask_beside_fold);
+    heading("commit", "fold");
+    each_planned(commit_beside_fold);
     heading("price", "check");
     price_beside_check();
 }
@@ -29,14 +39,9 @@ fn circuit_level() {
     let mut rng = Rng::new(1);
     let circuit = circuits::legal(&mut rng, sizes, Circuit::MOST_GATES).to_bytes();
     let words = any_sequence(&mut rng, &sizes);
-    // One call is too short to be measured alone.
-    let often = Runs {
-        runs: 21,
-        calls: 500,
-    };
-    check_line("check 4096 gates", &often, &circuit);
+    check_line("check 4096 gates", &MANY_CALLS, &circuit);
     let mut result = vec![0; sizes.frames];
-    often.measure(
+    MANY_CALLS.measure(
         "simulate 4096 gates",
         &mut result,
         |result| tff::simulate_one(black_box(&circuit), &words, result),
@@ -50,7 +55,7 @@ fn circuit_level() {
     check_line("check 4096 gates, crossed out", &few, &crossed);
     // The most outputs and nothing else: finding their frames takes more of the time than elsewhere.
     let outputs = circuits::legal(&mut rng, Sizes::new(1, 16, 16), 256).to_bytes();
-    check_line("check 256 outputs over 16 frames", &often, &outputs);
+    check_line("check 256 outputs over 16 frames", &MANY_CALLS, &outputs);
 }
 
 /// The most sequences: in one call, and by the plain implementation one at a time.
@@ -146,11 +151,8 @@ fn most_states() -> Vec<u8> {
 /// Folding with the most sequences, to few and to many states.
 fn fold_level() {
     for (inputs, frames) in [(1, 16), (2, 8), (4, 4), (8, 2)] {
-        // With 200 gates there is no room for 16 outputs in each of 16 frames.
-        for (gates, outputs) in [(200, 11), (Circuit::MOST_GATES, 16)] {
-            let sizes = Sizes::new(inputs, outputs, frames);
-            fold_line("few states", &circuits::few_states(inputs, frames, gates));
-            fold_line("many states", &circuits::many_states(sizes, gates));
+        for (kind, circuit) in few_and_many_states(inputs, frames) {
+            fold_line(kind, &circuit);
         }
     }
     // Most gates of those above depend on no late input, so they seldom have to be evaluated again.
@@ -159,6 +161,19 @@ fn fold_level() {
     fold_line("frame by frame", &circuits::unrolled(&mut rng, sizes, 150));
     let any_order = circuits::legal(&mut rng, sizes, Circuit::MOST_GATES);
     fold_line("any order", &any_order);
+}
+
+/// Circuits that fold to few and to many states, with 200 gates and with the most.
+fn few_and_many_states(inputs: usize, frames: usize) -> Vec<(&'static str, Circuit)> {
+    let mut all = Vec::new();
+    // With 200 gates there is no room for 16 outputs in each of 16 frames.
+    for (gates, outputs) in [(200, 11), (Circuit::MOST_GATES, 16)] {
+        let sizes = Sizes::new(inputs, outputs, frames);
+        let few = circuits::few_states(inputs, frames, gates);
+        all.push(("few states", few));
+        all.push(("many states", circuits::many_states(sizes, gates)));
+    }
+    all
 }
 
 /// Unfolding to the most gates.
@@ -182,16 +197,59 @@ fn unfold_level() {
 }
 
 fn fold_line(kind: &str, circuit: &Circuit) {
-    let Sizes { inputs, frames, .. } = circuit.sizes;
-    let gates = circuit.gates();
+    let case = format!("fold {}", named(kind, circuit));
     let circuit = circuit.to_bytes();
     let few = Runs { runs: 3, calls: 1 };
-    let mut memory = (vec![0; 1 << 17], vec![0; 1 << 20]);
     few.measure(
-        &format!("fold {inputs}x{frames}, {gates} gates, {kind}"),
-        &mut memory,
+        &case,
+        &mut fold_memory(),
         |(scratch, result)| tff::fold(black_box(&circuit), scratch, result),
         |(scratch, result)| reference::plain_fold(black_box(&circuit), scratch, result),
+    );
+}
+
+fn named(kind: &str, circuit: &Circuit) -> String {
+    let Sizes { inputs, frames, .. } = circuit.sizes;
+    format!("{inputs}x{frames}, {} gates, {kind}", circuit.gates())
+}
+
+/// Scratch and result that suffice for every circuit.
+fn fold_memory() -> (Vec<u16>, Vec<u8>) {
+    (vec![0; 1 << 17], vec![0; 1 << 20])
+}
+
+/// A line for each circuit whose plan is asked for and committed to: a small one, and some with the
+/// most sequences.
+fn each_planned(line: fn(&str, &Runs, &[u8])) {
+    let parity = examples::parity();
+    line(&named("parity", &parity), &MANY_CALLS, &parity.to_bytes());
+    let some = Runs { runs: 21, calls: 2 };
+    for (inputs, frames) in [(1, 16), (4, 4)] {
+        for (kind, circuit) in few_and_many_states(inputs, frames) {
+            line(&named(kind, &circuit), &some, &circuit.to_bytes());
+        }
+    }
+}
+
+/// What a plan costs, beside the table.
+fn ask_beside_fold(case: &str, runs: &Runs, circuit: &[u8]) {
+    runs.measure(
+        case,
+        &mut fold_memory(),
+        |(scratch, _)| tff::ask(black_box(circuit), scratch),
+        |(scratch, result)| tff::fold(black_box(circuit), scratch, result),
+    );
+}
+
+/// What it costs to judge a plan, here the right one, before the table is written.
+fn commit_beside_fold(case: &str, runs: &Runs, circuit: &[u8]) {
+    let mut memory = fold_memory();
+    let plan = tff::ask(circuit, &mut memory.0).expect("a legal circuit");
+    runs.measure(
+        case,
+        &mut memory,
+        |(scratch, result)| tff::commit(black_box(circuit), &plan, scratch, result),
+        |(scratch, result)| tff::fold(black_box(circuit), scratch, result),
     );
 }
 

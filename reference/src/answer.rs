@@ -30,6 +30,8 @@ pub const POSITION: u64 = 11;
 pub const WORD_COUNT: u64 = 12;
 /// More sequences than are simulated at once; place: the count given.
 pub const SEQUENCES: u64 = 13;
+/// A plan that is not what asking returns for the circuit; place: 0.
+pub const PLAN: u64 = 14;
 
 pub fn accepted(place: usize) -> Answer {
     (0, place as u64)

@@ -20,16 +20,26 @@ pub fn fold_by(
     scratch: &mut [u16],
     result: &mut [u8],
 ) -> Answer {
-    let circuit = match Circuit::read(circuit) {
-        Ok(circuit) => circuit,
-        Err(refusal) => return refusal,
-    };
+    match table_in(table_of, circuit, scratch) {
+        Ok(table) => deliver(&table.to_bytes(), result),
+        Err(refusal) => refusal,
+    }
+}
+
+/// The circuit's table, if the circuit passes every check and `scratch` is long enough. The part of
+/// `scratch` that is needed ends as zeros.
+pub fn table_in(
+    table_of: fn(&Circuit) -> Table,
+    circuit: &[u8],
+    scratch: &mut [u16],
+) -> Result<Table, Answer> {
+    let circuit = Circuit::read(circuit)?;
     let needed = 2 * circuit.sizes.histories(circuit.sizes.frames);
     if scratch.len() < needed {
-        return refused(SCRATCH, needed);
+        return Err(refused(SCRATCH, needed));
     }
     scratch[..needed].fill(0);
-    deliver(&table_of(&circuit).to_bytes(), result)
+    Ok(table_of(&circuit))
 }
 
 /// The histories one word longer than `history`, by that word.

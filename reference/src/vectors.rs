@@ -3,10 +3,16 @@
 use crate::answer::Answer;
 use crate::circuit::Circuit;
 use crate::examples;
+use crate::plan::Plan;
 use crate::words::{set_word, to_bytes};
 
 /// Words of the table that parity folds to.
 pub const PARITY_TABLE: [u16; 18] = [1, 1, 2, 1, 2, 1, 0, 1, 0, 1, 1, 0, 0, 1, 0, 0, 0, 0];
+
+/// Numbers of the plan that asking returns for parity.
+pub const PARITY_PLAN: Plan = [
+    1, 1, 2, 1, 2, 1, 0, 0, 0, 0, 0, 0, 0, 0, 0, 0, 0, 0, 0, 0, 36,
+];
 
 /// Left and right literals of the circuit that parity's table unfolds to.
 pub const PARITY_UNFOLDED: [[u16; 17]; 2] = [
@@ -56,7 +62,9 @@ mod tests {
     use super::*;
     use crate::gen::{circuits, Rng};
     use crate::program::printed;
-    use crate::{check_circuit, fold, plain_fold, run, simulate, step, unfold, Sizes, Table};
+    use crate::{
+        ask, check_circuit, commit, fold, plain_fold, run, simulate, step, unfold, Sizes, Table,
+    };
 
     /// The table that a circuit folds to; both ways to fold must find the same.
     fn folded(circuit: &Circuit) -> Vec<u8> {
@@ -138,19 +146,51 @@ mod tests {
         }
     }
 
+    /// A call with so much room gives this answer and leaves what belongs to it.
+    fn assert_left(
+        (numbers, bytes): (usize, usize),
+        answer: Answer,
+        call: impl FnOnce(&mut [u16], &mut [u8]) -> Answer,
+    ) {
+        let (mut scratch, mut result) = (vec![7; numbers + 1], vec![0xee; bytes]);
+        assert_eq!(call(&mut scratch[..numbers], &mut result), answer);
+        // Enough scratch is cleared and no more of it; a refusal leaves the result.
+        let cleared = if answer.0 == 6 { 0 } else { 8 };
+        assert!(scratch[..cleared].iter().all(|&number| number == 0));
+        assert!(scratch[cleared..].iter().all(|&number| number == 7));
+        assert_eq!(answer.0 != 0, result.iter().all(|&byte| byte == 0xee));
+    }
+
     #[test]
     fn scratch_and_result_are_judged_as_given() {
+        let circuit = examples::parity().to_bytes();
         for (numbers, bytes, answer) in PARITY_FOLDED {
-            let (mut scratch, mut result) = (vec![7; numbers + 1], vec![0xee; bytes]);
-            let circuit = examples::parity().to_bytes();
-            let found = fold(&circuit, &mut scratch[..numbers], &mut result);
-            assert_eq!(found, answer);
-            // Enough scratch is cleared and no more of it; a refusal leaves the result.
-            let cleared = if answer.0 == 6 { 0 } else { 8 };
-            assert!(scratch[..cleared].iter().all(|&number| number == 0));
-            assert!(scratch[cleared..].iter().all(|&number| number == 7));
-            assert_eq!(answer.0 != 0, result.iter().all(|&byte| byte == 0xee));
+            assert_left((numbers, bytes), answer, |scratch, result| {
+                fold(&circuit, scratch, result)
+            });
         }
+    }
+
+    #[test]
+    fn a_plan_is_judged_after_scratch_and_before_result() {
+        let circuit = examples::parity().to_bytes();
+        for (numbers, bytes, answer) in PARITY_FOLDED {
+            let refusal = if answer.0 == 6 { answer } else { (14, 0) };
+            for (plan, answer) in [(&PARITY_PLAN[..], answer), (&PARITY_PLAN[..20], refusal)] {
+                assert_left((numbers, bytes), answer, |scratch, result| {
+                    commit(&circuit, plan, scratch, result)
+                });
+            }
+        }
+    }
+
+    #[test]
+    fn parity_has_the_given_plan() {
+        let mut scratch = [7; 9];
+        let asked = ask(&examples::parity().to_bytes(), &mut scratch);
+        assert_eq!((asked.number, asked.place), (0, 0));
+        assert_eq!(asked.plan, PARITY_PLAN);
+        assert_eq!(scratch, [0, 0, 0, 0, 0, 0, 0, 0, 7]);
     }
 
     #[test]

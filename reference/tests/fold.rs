@@ -7,10 +7,12 @@ mod folded;
 mod folding;
 #[path = "common/outputs.rs"]
 mod outputs;
+#[path = "common/to_fold.rs"]
+mod to_fold;
 
 use common::{seeds, short_answers_change_nothing, Room, Seen};
 use folded::folded;
-use folding::{ample, call_fold, fold, fold_case, scratch_needed};
+use folding::{ample, call_fold, fold, fold_case, longest_table, scratch_needed};
 use outputs::assert_same_outputs;
 use reference::gen::{any_sizes, circuits, damaged, sizes_with, Rng};
 use reference::vectors::{self, PARITY_FOLDED, PARITY_TABLE};
@@ -55,44 +57,29 @@ fn circuits_of_the_sources_fold_to_the_given_counts() {
 
 #[test]
 fn every_behaviour_of_one_input_one_output_and_three_frames_is_folded() {
-    let sizes = Sizes::new(1, 1, 3);
-    // A bit for each history of one, two and three words: 2 + 4 + 8.
-    for seed in seeds(1 << 14) {
-        let first_bit = [0, 2, 6];
-        let circuit = circuits::with_outputs(sizes, |frame, history| {
-            (seed >> (first_bit[frame] + history) & 1) as u16
-        });
+    for (seed, circuit) in to_fold::every_behaviour(Sizes::new(1, 1, 3)) {
         accepts(seed, &circuit);
     }
 }
 
 #[test]
 fn every_behaviour_of_one_input_two_outputs_and_two_frames_is_folded() {
-    let sizes = Sizes::new(1, 2, 2);
-    // Two bits for each history of one and two words: 4 + 8.
-    for seed in seeds(1 << 12) {
-        let first_bit = [0, 4];
-        let circuit = circuits::with_outputs(sizes, |frame, history| {
-            (seed >> (first_bit[frame] + 2 * history) & 3) as u16
-        });
+    for (seed, circuit) in to_fold::every_behaviour(Sizes::new(1, 2, 2)) {
         accepts(seed, &circuit);
     }
 }
 
 #[test]
 fn random_circuits_are_folded() {
-    for seed in seeds(4_000) {
-        accepts(seed, &circuits::any_legal(&mut Rng::new(seed), 9, 60));
+    for (seed, circuit) in to_fold::random() {
+        accepts(seed, &circuit);
     }
 }
 
 #[test]
 fn unrolled_machines_are_folded() {
-    for seed in seeds(2_000) {
-        let mut rng = Rng::new(seed);
-        let sizes = any_sizes(&mut rng, 10);
-        let memory = rng.between(1, 4);
-        accepts(seed, &circuits::unrolled(&mut rng, sizes, memory));
+    for (seed, circuit) in to_fold::unrolled() {
+        accepts(seed, &circuit);
     }
 }
 
@@ -132,22 +119,16 @@ fn circuits_with_most_gates_and_sequences_are_folded() {
 
 #[test]
 fn most_states_are_numbered() {
-    for (inputs, frames) in [(1, 16), (4, 4), (8, 2)] {
-        let sizes = Sizes::new(inputs, 16, frames);
-        let circuit = circuits::many_states(sizes, sizes.output_gates());
-        let room = ample(&sizes);
-        // No table of these sizes is longer: every history has its own state.
-        assert_eq!(accepts(0, &circuit), room.bytes - 5);
+    for circuit in to_fold::most_states() {
+        assert_eq!(accepts(0, &circuit), longest_table(&circuit.sizes));
     }
 }
 
 #[test]
 fn few_states_are_found_among_most_sequences() {
-    for (inputs, frames) in [(1, 16), (2, 8), (4, 4), (8, 2)] {
-        let circuit = circuits::few_states(inputs, frames, 200);
-        // Set inputs are counted modulo 4, and before the last layer each count matters.
-        let states: usize = (0..frames).map(|layer| (inputs * layer + 1).min(4)).sum();
-        let bytes = 8 + 2 * frames + 4 * (states << inputs);
+    for (circuit, counts) in to_fold::few_states() {
+        let entries = counts.iter().sum::<usize>() * circuit.sizes.input_words();
+        let bytes = 8 + 2 * circuit.sizes.frames + 4 * entries;
         assert_eq!(accepts(0, &circuit), bytes);
     }
 }
@@ -164,25 +145,18 @@ fn folded_tables_run_as_their_circuits_simulate() {
 #[test]
 fn circuits_with_faults_are_refused_and_change_nothing() {
     let mut seen = Seen::default();
-    for seed in seeds(6_000) {
-        let mut rng = Rng::new(seed);
-        let sizes = any_sizes(&mut rng, 8);
-        let gates = sizes.output_gates() + rng.below(12);
-        let mut file = circuits::careless(&mut rng, sizes, gates).to_bytes();
-        if rng.one_in(2) {
-            file = damaged(&mut rng, &file);
-        }
-        seen.note(fold(seed, &file, ample(&sizes)));
+    for (seed, file, room) in to_fold::with_faults() {
+        seen.note(fold(seed, &file, room));
     }
     seen.expect(&[0, 1, 2, 3, 4, 6]);
 }
 
 #[test]
 fn scratch_is_judged_from_the_sizes_alone() {
-    for sizes in sizes_with(1) {
-        let file = circuits::legal(&mut Rng::new(0), sizes, sizes.frames).to_bytes();
-        let needed = scratch_needed(&sizes);
-        for numbers in [0, 1, needed / 2, needed - 1] {
+    for (circuit, too_short) in to_fold::short_of_scratch() {
+        let file = circuit.to_bytes();
+        let needed = scratch_needed(&circuit.sizes);
+        for numbers in too_short {
             for bytes in [0, 100] {
                 let answer = fold(0, &file, Room { numbers, bytes });
                 assert_eq!(answer, [6, needed as u64]);

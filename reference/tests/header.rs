@@ -11,10 +11,11 @@ use std::path::Path;
 use std::process::Command;
 
 use child::written;
-use reference::vectors::PARITY_TABLE;
+use reference::vectors::{PARITY_PLAN, PARITY_TABLE};
 use reference::words::{to_bytes, words_at};
 use reference::{
-    check_circuit, check_table, examples, fold, price, reach, run, simulate, step, unfold,
+    ask, check_circuit, check_table, commit, examples, fold, price, reach, run, simulate, step,
+    unfold,
 };
 use root::root;
 
@@ -45,8 +46,18 @@ fn example_lines() -> String {
     let circuit = examples::parity().to_bytes();
     let (mut table, mut reached, mut drawn) = ([0; 36], [0; 40], [0; 76]);
     let mut text = String::new();
-    let (number, place) = fold(&circuit, &mut [0; 8], &mut table);
-    writeln!(text, "fold: {number}, {place}").unwrap();
+    let asked = ask(&circuit, &mut [0; 8]);
+    let [inputs, outputs, frames, counts @ .., bytes] = asked.plan;
+    writeln!(
+        text,
+        "ask: {}, {}: n {inputs}, m {outputs}, T {frames}, states{}, {bytes} bytes",
+        asked.number,
+        asked.place,
+        listed(&counts[..=frames as usize])
+    )
+    .unwrap();
+    let (number, place) = commit(&circuit, &asked.plan, &mut [0; 8], &mut table);
+    writeln!(text, "commit: {number}, {place}").unwrap();
 
     // Parity has states 1 2 1, so six entries behind the six words of the head.
     let words = words_at(&table, 0, 18);
@@ -125,6 +136,16 @@ fn calls_lines() -> String {
         (36, &words[3..], 2),
         (36, &words[..2], 1),
     ];
+    let plan = [&PARITY_PLAN[..], &[0]].concat();
+    // Refused with 1, 6, 14, 14, 7, and accepted.
+    let commits = [
+        (27, 21, 8, 36),
+        (28, 21, 7, 36),
+        (28, 20, 8, 36),
+        (28, 22, 8, 36),
+        (28, 21, 8, 35),
+        (28, 21, 8, 36),
+    ];
     let steps = [
         (36, 0, 0, 1),
         (36, 1, 0, 1),
@@ -148,6 +169,24 @@ fn calls_lines() -> String {
         text += &line("fold", |numbers, bytes| {
             fold(
                 &circuit[..length],
+                &mut numbers[..scratch],
+                &mut bytes[..result],
+            )
+            .into()
+        });
+    }
+    // Its answer is too short.
+    text += &line("ask", |_, _| []);
+    for (length, scratch) in [(27, 8), (28, 7), (28, 8)] {
+        text += &line("ask", |numbers, _| {
+            ask(&circuit[..length], &mut numbers[..scratch]).into()
+        });
+    }
+    for (length, planned, scratch, result) in commits {
+        text += &line("commit", |numbers, bytes| {
+            commit(
+                &circuit[..length],
+                &plan[..planned],
                 &mut numbers[..scratch],
                 &mut bytes[..result],
             )
@@ -188,7 +227,7 @@ fn line<const N: usize>(
     name: &str,
     call: impl FnOnce(&mut [u16], &mut [u8]) -> [u64; N],
 ) -> String {
-    let (mut answer, mut numbers, mut bytes) = ([99; 6], [99; 9], [99; 77]);
+    let (mut answer, mut numbers, mut bytes) = ([99; 24], [99; 9], [99; 77]);
     let values = call(&mut numbers, &mut bytes);
     answer[..N].copy_from_slice(&values);
     let [answer, numbers, bytes] = [listed(&answer), listed(&numbers), listed(&bytes)];

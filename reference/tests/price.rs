@@ -34,7 +34,7 @@ fn price_case(seed: u64, file: &[u8]) -> Case<'_> {
         call: "price",
         seed,
         file,
-        words: &[],
+        ..Case::default()
     }
 }
 

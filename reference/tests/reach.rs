@@ -33,7 +33,7 @@ fn reach_case(seed: u64, file: &[u8]) -> Case<'_> {
         call: "reach",
         seed,
         file,
-        words: &[],
+        ..Case::default()
     }
 }
 

@@ -27,6 +27,7 @@ fn simulate(seed: u64, file: &[u8], count: usize, words: &[u16], length: usize) 
             seed,
             file,
             words,
+            ..Case::default()
         },
         result_of(length),
         |result, _| reference::simulate(file, count, words, result).into(),
@@ -414,6 +415,7 @@ fn a_short_answer_changes_nothing() {
                 seed,
                 file: &file,
                 words: &words,
+                ..Case::default()
             };
             let room = result_of(words.len());
             short_answers_change_nothing(&case, room, 2, |result, _, answer| {

@@ -62,6 +62,7 @@ fn step_case<'a>(seed: u64, file: &'a [u8], place: &'a Place) -> Case<'a> {
         seed,
         file,
         words: place,
+        ..Case::default()
     }
 }
 

@@ -37,7 +37,7 @@ fn unfold_case(seed: u64, file: &[u8]) -> Case<'_> {
         call: "unfold",
         seed,
         file,
-        words: &[],
+        ..Case::default()
     }
 }
 

@@ -2,11 +2,12 @@
 //!
 //! Safe calls of the proved library. Every call takes its memory from the caller, but for the list
 //! that `simulate` joins its sequences into, and answers with a number, 0 where it accepts and
-//! otherwise the reason of its refusal, and a place. The meaning of both, and of every byte written,
-//! is that of `include/tff.h`.
+//! otherwise the reason of its refusal, and a place; `ask` gives a plan where it accepts. The meaning
+//! of all of them, and of every byte written, is that of `include/tff.h`.
 
 mod circuit;
 mod fold;
+mod plan;
 mod price;
 mod reach;
 mod table;
@@ -16,6 +17,7 @@ pub mod raw;
 
 pub use circuit::{check_circuit, simulate, simulate_one};
 pub use fold::fold;
+pub use plan::{ask, commit, Plan};
 pub use price::{price, Priced};
 pub use reach::reach;
 pub use table::{check_table, run, step, Stepped};

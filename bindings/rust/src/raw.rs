@@ -36,6 +36,28 @@ extern "C" {
         answer_len: usize,
     );
 
+    pub fn tff_ask(
+        circuit: *const u8,
+        circuit_len: usize,
+        scratch: *mut u16,
+        scratch_len: usize,
+        answer: *mut u64,
+        answer_len: usize,
+    );
+
+    pub fn tff_commit(
+        circuit: *const u8,
+        circuit_len: usize,
+        plan: *const u64,
+        plan_len: usize,
+        scratch: *mut u16,
+        scratch_len: usize,
+        result: *mut u8,
+        result_len: usize,
+        answer: *mut u64,
+        answer_len: usize,
+    );
+
     pub fn tff_check_table(table: *const u8, table_len: usize, answer: *mut u64, answer_len: usize);
 
     pub fn tff_run(

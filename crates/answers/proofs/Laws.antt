@@ -1,17 +1,28 @@
 -- Laws of `answerAfter` and `bufferAfter`: what is stored stands in front, and too short an `answer` leaves all as it was. Assumes nothing.
-use mathlib.Core.Path.{_≡_, ap, _∙_}
-use mathlib.Core.List.{List}
-use Prim.Native.Nat.{ℕ, _≤_, _<_}
+use mathlib.Core.Path.{_≡_, sym, ap, ap₂, _∙_}
+use mathlib.Core.List.{List, [], _∷_, _++_}
+use Prim.Native.Nat.{ℕ, _+_, _≤_, _<_}
 use native.Mathlib.Nat.{zero-add}
 use native.Mathlib.Omega.{arith}
-use lib.ListN.{length}
-use lib.Seq.{sets, sets-eq}
+use lib.ListN.{length, take, drop}
+use lib.Seq.{take-all, drop-drop, sets, sets-eq, paste}
 use borrow.Author.Tests.{lt-ltb, le-ltb}
-use Rattle.answers.specs.Answer.{filled, verdictLength, answerAfter, bufferAfter}
+use Rattle.answers.specs.Answer.{filled, answerAfter, bufferAfter}
 
 -- numbers stored one behind the other
 pub fills : (numbers answer : List ℕ) → length numbers ≤ length answer → sets answer 0 numbers ≡ filled numbers answer
 fills numbers answer h = sets-eq numbers answer 0 (omega arith) ∙ rw zero-add
+
+-- number and place, and then others behind them
+pub fills-behind : (n p k : ℕ) (numbers answer answer₁ now : List ℕ) → length numbers ≡ k → answer₁ ≡ filled (n ∷ p ∷ []) answer → now ≡ paste answer₁ 2 numbers k
+    → now ≡ filled (n ∷ p ∷ numbers) answer
+fills-behind n p k numbers answer answer₁ now e q h =
+    let d : drop (2 + k) answer₁ ≡ drop (2 + k) answer = sym (drop-drop k 2 answer₁) ∙ ap (λ (l : List ℕ). drop k (drop 2 l)) q ∙ drop-drop k 2 answer in
+    let t : take 2 answer₁ ≡ n ∷ p ∷ [] = ap (take 2) q in
+    let i : 2 + k ≡ length (n ∷ p ∷ numbers) = omega arith in
+    h
+    ∙ ap₂ (λ (f r : List ℕ). (f ++ take k numbers) ++ r) t (d ∙ ap (λ (j : ℕ). drop j answer) i)
+    ∙ ap (λ (l : List ℕ). n ∷ p ∷ (l ++ drop (length (n ∷ p ∷ numbers)) answer)) (take-all k numbers (omega arith))
 
 pub answer-kept : (numbers answer : List ℕ) → length answer < length numbers → answer ≡ answerAfter numbers answer
 unfolding answerAfter
@@ -22,10 +33,10 @@ pub answer-put : (defined numbers answer now : List ℕ) → length defined ≤ 
 unfolding answerAfter
 answer-put defined numbers answer now h e q = rw (le-ltb _ _ h) (q ∙ ap (λ (l : List ℕ). filled l answer) e)
 
-pub buffer-kept : (answer after before : List ℕ) → length answer < verdictLength → before ≡ bufferAfter answer after before
+pub buffer-kept : (count : ℕ) (answer after before : List ℕ) → length answer < count → before ≡ bufferAfter count answer after before
 unfolding bufferAfter
-buffer-kept answer after before h = rw (lt-ltb _ _ h)
+buffer-kept count answer after before h = rw (lt-ltb _ _ h)
 
-pub buffer-left : (answer now after before : List ℕ) → verdictLength ≤ length answer → now ≡ after → now ≡ bufferAfter answer after before
+pub buffer-left : (count : ℕ) (answer now after before : List ℕ) → count ≤ length answer → now ≡ after → now ≡ bufferAfter count answer after before
 unfolding bufferAfter
-buffer-left answer now after before h e = rw (le-ltb _ _ h) e
+buffer-left count answer now after before h e = rw (le-ltb _ _ h) e

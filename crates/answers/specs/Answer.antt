@@ -1,5 +1,5 @@
 -- What the C interface leaves in `answer` and in the buffers beside it.
-use Prim.Native.Nat.{ℕ}
+use Prim.Native.Nat.{ℕ, _+_}
 use mathlib.Core.Bool.{cond}
 use mathlib.Core.List.{List, [], _∷_, _++_}
 use lib.Dec.{ltb}
@@ -7,6 +7,7 @@ use lib.ListN.{length, drop}
 use Rattle.verdict.specs.declared.Figures.{Figures}
 use Rattle.steps.specs.declared.StepFigures.{StepFigures}
 use Rattle.price.specs.declared.PriceFigures.{PriceFigures}
+use Rattle.folded.specs.Planned.{planLength}
 
 -- the numbers that a call answers: number and place
 abbrev pub verdictNumbers : Figures → List ℕ
@@ -28,10 +29,13 @@ filled numbers answer = numbers ++ drop (length numbers) answer
 unfoldable pub answerAfter : (numbers answer : List ℕ) → List ℕ
 answerAfter numbers answer = cond (ltb (length answer) (length numbers)) answer (filled numbers answer)
 
--- how long it is at least where a call answers number and place. In src/ this is an associated constant of `Limits`.
+-- how many numbers a call answers: number and place; asking the plan too. In src/ these are associated constants of `Limits`.
 abbrev pub verdictLength : ℕ
 verdictLength = 2
 
--- what such a call leaves in another buffer: as the library's call does, but as before where `answer` is too short
-unfoldable pub bufferAfter : (answer after before : List ℕ) → List ℕ
-bufferAfter answer after before = cond (ltb (length answer) verdictLength) before after
+abbrev pub askLength : ℕ
+askLength = verdictLength + planLength
+
+-- what a call that answers so many leaves in another buffer: as the library's call does, but as before where `answer` is too short
+unfoldable pub bufferAfter : (count : ℕ) (answer after before : List ℕ) → List ℕ
+bufferAfter count answer after before = cond (ltb (length answer) count) before after

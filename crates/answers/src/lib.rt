@@ -1,4 +1,5 @@
-// What a call of the C interface leaves in `answer`: number and place, and the further values of a step and of a price.
+// What a call of the C interface leaves in `answer`: number and place, and the further values of a step, of a price and of asking.
+use ask::plan::Asked;
 use price::PriceFigures;
 use steps::StepFigures;
 use verdict::Verdict;
@@ -6,9 +7,10 @@ ghost use mathlib.Core.Path.{_≡_};
 ghost use Prim.Native.Nat.{_≤_};
 ghost use lib.ListN.{length};
 ghost use Rattle.verdict.specs.Judgements.{figures};
+ghost use Rattle.ask.specs.Plan.{askNumbers};
 ghost use Rattle.answers.specs.Answer.{verdictNumbers, stepNumbers, priceNumbers, filled};
 
-// How many numbers a call answers: number and place; a step also output, layer and state; pricing also the cents.
+// How many numbers a call answers: number and place; a step also output, layer and state; pricing also the cents; asking also the plan.
 pub struct Limits;
 
 impl Limits {
@@ -17,6 +19,8 @@ impl Limits {
     pub const STEP: usize = 5;
 
     pub const PRICE: usize = 3;
+
+    pub const ASK: usize = Limits::VERDICT + ask::plan::Limits::NUMBERS;
 }
 
 // Puts the figures of a verdict into `answer`, which has room for them.
@@ -49,4 +53,16 @@ pub fn put_price(price: PriceFigures, answer: &mut [u64])
     answer[0] = price.number as u64;
     answer[1] = price.place as u64;
     answer[2] = price.cents as u64;
+}
+
+// Puts number, place and plan of what asking answered into `answer`, which has room for them.
+pub fn put_ask(asked: Asked, answer: &mut [u64])
+    requires { ⌜ length (askNumbers asked) ≤ length (now answer) ⌝ }
+    ensures { λ _. ⌜ now (answer .exit) ≡ filled (askNumbers asked) (now (answer .entry)) ⌝ }
+{
+    put(asked.verdict(), answer);
+    let plan = asked.plan_numbers();
+    for i in 0..ask::plan::Limits::NUMBERS {
+        answer[Limits::VERDICT + i] = plan[i];
+    }
 }

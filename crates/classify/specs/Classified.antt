@@ -10,7 +10,6 @@ use Rattle.layered.specs.States.{count, number}
 use Rattle.circuit.specs.Circuit.{allInputs}
 use Rattle.circuit.specs.Theorems.{response}
 use Rattle.rows.specs.declared.Layer.{Layer}
-use Rattle.classify.specs.declared.Plan.{Plan}
 
 -- how many histories of T words there are: the scratch has two numbers for each
 abbrev pub historyCount : List ℕ → ℕ
@@ -41,8 +40,8 @@ stateCount b t = count (2 ^ inputs b) (frames b) (response b) t
 unfoldable pub Known : (b s : List ℕ) (t : ℕ) → Type 0
 Known b s t = (u h : ℕ) → t ≤ u → u < frames b → h < (2 ^ inputs b) ^ u → getD s (layerAt (2 ^ inputs b) u + h) 0 ≡ stateNumber b u h
 
--- the plan holds the counts of layers 0 to T, and 0 beyond
-pub record Counted (b : List ℕ) (plan : Plan) : Type 0 where
-  pub places : length (plan .counts) ≡ mostFrames + 1
-  pub none-beyond : (t : ℕ) → frames b < t → getD (plan .counts) t 0 ≡ 0
-  pub counts-are : (t : ℕ) → t ≤ frames b → getD (plan .counts) t 0 ≡ stateCount b t
+-- these are the counts of layers 0 to T, and 0 beyond
+pub record Counted (b counts : List ℕ) : Type 0 where
+  pub places : length counts ≡ mostFrames + 1
+  pub none-beyond : (t : ℕ) → frames b < t → getD counts t 0 ≡ 0
+  pub counts-are : (t : ℕ) → t ≤ frames b → getD counts t 0 ≡ stateCount b t

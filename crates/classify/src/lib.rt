@@ -7,16 +7,11 @@ use rows::Layer;
 use sizes::Limits;
 ghost use mathlib.Core.Path.{_≡_};
 ghost use Prim.Native.Nat.{suc, _*_, _^_, _≤_, _<_};
-ghost use lib.ListN.{length};
+ghost use lib.ListN.{length, replicate};
 ghost use Rattle.sizes.specs.Limits.{mostBits};
 ghost use Rattle.sizes.specs.Sizes.{frames};
 ghost use Rattle.circuit.specs.WellFormed.{WellFormed};
 ghost use Rattle.classify.specs.Classified.{historyCount, layerAt, LayerOf, stateCount, Known, Counted};
-
-// What is known of a table before it is written: the counts of layers 0 to T, and 0 beyond.
-pub struct Plan {
-    pub counts: [u16; Limits::FRAMES + 1],
-}
 
 // Where the numbers of the histories of t words begin.
 fn layer_at(inputs: usize, t: usize) -> usize
@@ -62,8 +57,8 @@ fn classify_layer(circuit: &[u8], head: Head, scratch: &mut [u16], t: usize) -> 
     number_layer(scratch, layer)
 }
 
-// Numbers the histories of all layers, and answers how many states each has.
-pub fn classify(circuit: &[u8], head: Head, scratch: &mut [u16]) -> Plan
+// Numbers the histories of all layers, and answers how many states each has: of layers 0 to T, and 0 beyond.
+pub fn classify(circuit: &[u8], head: Head, scratch: &mut [u16]) -> [u16; Limits::FRAMES + 1]
     requires { ⌜ WellFormed (now circuit) head ⌝ }
     requires { ⌜ length (now scratch) ≡ 2 * historyCount (now circuit) ⌝ }
     ensures { λ r. ⌜ Known (now (circuit .entry)) (now (scratch .exit)) 0 ⌝ }
@@ -77,5 +72,16 @@ pub fn classify(circuit: &[u8], head: Head, scratch: &mut [u16]) -> Plan
         t -= 1;
         counts[t] = classify_layer(circuit, head, scratch, t) as u16;
     }
-    Plan { counts }
+    counts
+}
+
+// Sets all numbers to zero.
+pub fn clear(scratch: &mut [u16])
+    ensures { λ _. ⌜ now (scratch .exit) ≡ replicate (length (now (scratch .entry))) 0 ⌝ }
+{
+    let mut i = 0;
+    while i < scratch.len() {
+        scratch[i] = 0;
+        i += 1;
+    }
 }

@@ -6,7 +6,7 @@ use Prim.Native.Nat.{ℕ, suc, _+_, _*_, _^_, _≤_}
 use native.Mathlib.Nat.{le-refl}
 use native.Mathlib.Omega.{arith}
 use lib.ListN.{length, take, length-append, length-take}
-use lib.Seq.{ext-getD, getD-take}
+use lib.Seq.{getD-take}
 use native.Mathlib.Decide.{le-ind}
 use native.Mathlib.Numerals.{add-one}
 use Rattle.words.specs.Words.{stored}
@@ -15,11 +15,10 @@ use Rattle.sizes.specs.Sizes.{inputs, outputs, frames}
 use Rattle.layered.specs.Search.{join, tabulate}
 use Rattle.layered.specs.States.{history}
 use Rattle.layered.specs.Machines.{entries, tableWords, folded}
-use Rattle.layered.proofs.Lists.{join-cong, tabulate-length, tabulate-at}
+use Rattle.layered.proofs.Lists.{join-cong, tabulate-length, tabulated}
 use Rattle.layered.proofs.Theorems.{rows}
 use Rattle.circuit.specs.Theorems.{response}
 use Rattle.classify.specs.Classified.{stateCount, Counted}
-use Rattle.classify.specs.declared.Plan.{Plan}
 use Rattle.listing.specs.Entries.{entryOf, rowWords, layerWords}
 use Rattle.listing.proofs.Laws.{layer-length}
 use Rattle.emit.specs.Emitted.{arrayWords, headWords, allWords}
@@ -53,25 +52,21 @@ module _ (b : List ℕ) where
   unfolding allWords
   all-length = rw (length-append, length-append) (omega (arith, head-length))
 
-  -- the counts of a plan
-  counts-taken : (plan : Plan) → Counted b plan → frames b ≤ 16 → take (frames b + 1) (plan .counts) ≡ tabulate (suc (frames b)) (stateCount b)
-  counts-taken plan C h =
-      let l : length (take (frames b + 1) (plan .counts)) ≡ suc (frames b) = length-take (frames b + 1) (plan .counts) ∙ omega (arith, C .places) in
-      ext-getD 0 (take (frames b + 1) (plan .counts)) (tabulate (suc (frames b)) (stateCount b)) (l ∙ sym (tabulate-length (suc (frames b)) (stateCount b)))
-      (λ i k.
-      getD-take (frames b + 1) (plan .counts) i 0 (omega arith)
-      ∙ C .counts-are i (omega arith)
-      ∙ sym (tabulate-at (suc (frames b)) i (stateCount b) (omega arith)))
+  -- the counts of layers 0 to T
+  counts-taken : (counts : List ℕ) → Counted b counts → frames b ≤ 16 → take (frames b + 1) counts ≡ tabulate (suc (frames b)) (stateCount b)
+  counts-taken counts C h =
+      tabulated (suc (frames b)) (stateCount b) (take (frames b + 1) counts) (length-take (frames b + 1) counts ∙ omega (arith, C .places))
+      (λ i k. getD-take (frames b + 1) counts i 0 (omega arith) ∙ C .counts-are i (omega arith))
 
   module _ (r : List ℕ) (room : 2 * length (allWords b) ≤ length r) where
-    pub head-stored : (plan : Plan) → Counted b plan → frames b ≤ 16 → (r₁ r₂ : List ℕ) (layers : ℕ) → layers ≡ frames b + 1
-        → r₁ ≡ stored 2 r 0 (inputs b ∷ outputs b ∷ frames b ∷ []) → r₂ ≡ stored 2 r₁ 6 (take layers (plan .counts)) → r₂ ≡ stored 2 r 0 (headWords b)
+    pub head-stored : (counts : List ℕ) → Counted b counts → frames b ≤ 16 → (r₁ r₂ : List ℕ) (layers : ℕ) → layers ≡ frames b + 1
+        → r₁ ≡ stored 2 r 0 (inputs b ∷ outputs b ∷ frames b ∷ []) → r₂ ≡ stored 2 r₁ 6 (take layers counts) → r₂ ≡ stored 2 r 0 (headWords b)
     unfolding headWords
-    head-stored plan C h r₁ r₂ layers el e₁ e₂ =
+    head-stored counts C h r₁ r₂ layers el e₁ e₂ =
         e₂
-        ∙ ap (λ (k : ℕ). stored 2 r₁ 6 (take k (plan .counts))) el
+        ∙ ap (λ (k : ℕ). stored 2 r₁ 6 (take k counts)) el
         ∙ stored-behind 2 r r₁ 0 (inputs b ∷ outputs b ∷ frames b ∷ []) _ 6 e₁ refl (omega (arith, all-length))
-        ∙ ap (λ (c : List ℕ). stored 2 r 0 (inputs b ∷ outputs b ∷ frames b ∷ c)) (counts-taken plan C h)
+        ∙ ap (λ (c : List ℕ). stored 2 r 0 (inputs b ∷ outputs b ∷ frames b ∷ c)) (counts-taken counts C h)
 
     pub outputs-stored : (r₂ r₃ : List ℕ) (at : ℕ) → at ≡ 8 + 2 * frames b → r₂ ≡ stored 2 r 0 (headWords b) → r₃ ≡ stored 2 r₂ at (arrayWords b false (frames b))
         → r₃ ≡ stored 2 r 0 (headWords b ++ arrayWords b false (frames b))

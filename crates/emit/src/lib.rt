@@ -1,6 +1,6 @@
 // Writes the table of a circuit whose histories are classified: word after word, so that the rest of the result stays as it was.
 use circuit::Head;
-use classify::Plan;
+use classify::clear;
 use classify::layer_of;
 use listing::Column;
 use listing::list_entries;
@@ -80,21 +80,16 @@ fn put_array(
     end
 }
 
-// Sets all numbers to zero.
-pub fn clear(scratch: &mut [u16])
-    ensures { λ _. ⌜ now (scratch .exit) ≡ replicate (length (now (scratch .entry))) 0 ⌝ }
-{
-    let mut i = 0;
-    while i < scratch.len() {
-        scratch[i] = 0;
-        i += 1;
-    }
-}
-
 // Writes the table to the front of the result, and clears the scratch.
-pub fn write_table(circuit: &[u8], head: Head, plan: Plan, scratch: &mut [u16], result: &mut [u8])
+pub fn write_table(
+    circuit: &[u8],
+    head: Head,
+    counts: &[u16],
+    scratch: &mut [u16],
+    result: &mut [u8],
+)
     requires { ⌜ WellFormed (now circuit) head ⌝ }
-    requires { ⌜ Counted (now circuit) plan ⌝ }
+    requires { ⌜ Counted (now circuit) (now counts) ⌝ }
     requires { ⌜ length (now scratch) ≡ 2 * historyCount (now circuit) ⌝ }
     requires { ⌜ Known (now circuit) (now scratch) 0 × (2 * length (allWords (now circuit)) ≤ length (now result)) ⌝ }
     ensures table { λ _. ⌜ now (result .exit) ≡ stored 2 (now (result .entry)) 0 (allWords (now (circuit .entry))) ⌝ }
@@ -102,9 +97,8 @@ pub fn write_table(circuit: &[u8], head: Head, plan: Plan, scratch: &mut [u16], 
 {
     let sizes = [head.inputs as u16, head.outputs as u16, head.frames as u16];
     store_all(&sizes, 3, result, 0);
-    let counts = plan.counts;
     let layers = head.frames + 1;
-    store_all(&counts, layers, result, Limits::SIZES);
+    store_all(counts, layers, result, Limits::SIZES);
     let outputs_at = head_length(head.frames);
     let outputs = Array {
         nexts: false,

@@ -1,2 +1,2 @@
 -- The proofs of `fold`: laws by subject, lowest first.
-mod Stages
+pub mod Stages

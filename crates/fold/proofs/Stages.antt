@@ -1,79 +1,88 @@
--- The last stage of folding: room for the bytes, the scratch cleared, and the promises of each outcome. Assumes nothing.
-use mathlib.Core.Path.{_≡_, sym, ap, _∙_}
+-- What is judged before the table is written, the bytes that are written, and what folding and committing make of it. Assumes nothing.
+use mathlib.Core.Path.{_≡_, refl, sym, ap, ap₂, _∙_}
+use mathlib.Core.Bool.{Bool, not, cond}
 use mathlib.Core.List.{List, _++_}
-use Prim.Native.Nat.{ℕ, _*_, _≤_, _<_}
+use Prim.Native.Nat.{ℕ, _*_, _≤_}
 use native.Mathlib.Omega.{arith}
-use native.Mathlib.Decide.{decLt}
-use lib.ListN.{length, take, drop, replicate, length-take}
-use borrow.Author.Tests.{le-ltb}
+use lib.Dec.{ltb}
+use lib.ListN.{length, drop}
 use Rattle.words.specs.Words.{stored, wordBytes}
 use Rattle.words.proofs.Laws.{allBytes-length}
-use Rattle.verdict.specs.Judgements.{answer, resultAfter}
+use Rattle.verdict.specs.Judgements.{answer, refusalFigures, andThen, resultAfter}
 use Rattle.verdict.specs.declared.Figures.{Figures}
-use Rattle.circuit.specs.Circuit.{checked}
+use Rattle.verdict.specs.declared.Refusal.{Refusal}
+use Rattle.verdict.proofs.Laws.{refusal-number, both-accept, passed, refuse-then, kept, left}
 use Rattle.emit.specs.Emitted.{allWords}
 use Rattle.emit.proofs.Laws.{words-are}
-use Rattle.folded.specs.Folded.{foldedBytes, scratchNeeded, foldChecked, foldResult, foldScratch}
+use Rattle.folded.specs.Folded.{foldedBytes, askChecked, roomChecked, foldChecked, foldResult, scratchAfter}
+use Rattle.folded.specs.Planned.{asked}
 use Rattle.folded.specs.Theorems.{Foldings}
-use Rattle.folded.proofs.Outcomes.{Outcome, cleared, room-refused, folded-accepted}
+use Rattle.folded.proofs.Outcomes.{accepted}
 use Rattle.folded.proofs.Tables.{foldedWords, folded-written}
 use Rattle.folded.proofs.Theorems.{foldings}
-use Rattle.fold.specs.Fold.{Promised}
+use Rattle.ask.specs.declared.plan.Asked.{Asked}
+use Rattle.ask.specs.Plan.{askNumbers, ScratchLeft}
+use Rattle.ask.proofs.Answered.{scratch-back}
+use Rattle.fold.specs.Fold.{agreedChecked, agreedResult, Promised}
 
 -- the room that the words take
-pub words-room : (b : List ℕ) → 2 * length (allWords b) ≡ length (foldedBytes b)
+words-room : (b : List ℕ) → 2 * length (allWords b) ≡ length (foldedBytes b)
 unfolding foldedBytes wordBytes
 words-room b = sym (allBytes-length 2 (foldedWords b) ∙ ap (λ (ws : List ℕ). 2 * length ws) (sym (words-are b)))
 
--- ---- the last stage, of a circuit that is accepted
+module _ (b r : List ℕ) (room : ℕ) (agreed : Bool) where
+  -- what is judged where asking accepts
+  pub judged-is : (x : ℕ) (f g h : Figures) → askChecked b room ≡ answer 0 0 → x ≡ length (foldedBytes b)
+      → f ≡ cond (not agreed) (answer 14 0) (answer 0 0) → g ≡ cond (ltb (length r) x) (answer 7 x) (answer 0 x) → h ≡ andThen f g
+      → h ≡ agreedChecked b agreed room (length r)
+  unfolding agreedChecked roomChecked
+  judged-is x f g h A ex ef eg eh =
+      rw A (eh ∙ ap₂ andThen ef (eg ∙ ap (λ (x : ℕ). cond (ltb (length r) x) (answer 7 x) (answer 0 x)) ex) ∙ refuse-then (not agreed) 14 0 _ refl)
 
-module _ (b s r : List ℕ) (C : checked b .number ≡ 0) (S : scratchNeeded b ≤ length s) where
-  accepts-it : checked b ≡ answer 0 (checked b .place)
-  accepts-it = ap (λ (n : ℕ). answer n (checked b .place)) C
+  -- and where it refuses
+  pub refuses : (x : Refusal) → askChecked b room ≡ refusalFigures x → refusalFigures x ≡ agreedChecked b agreed room (length r)
+  unfolding agreedChecked
+  refuses x e = rw (e, refusal-number x)
 
-  pub too-short : (x : ℕ) → x ≡ length (foldedBytes b) → length r < x → Outcome b s r (answer 7 x) (cleared b s) r
-  too-short x e l = rw e (room-refused b s r (checked b .place) accepts-it S (omega arith))
+  -- a refusal leaves the result
+  pub result-kept : (x : Refusal) → refusalFigures x ≡ agreedChecked b agreed room (length r) → r ≡ agreedResult b agreed room r
+  unfolding agreedResult
+  result-kept x e = kept _ x (foldedBytes b) r e
 
-  pub enough : (x : ℕ) → x ≡ length (foldedBytes b) → x ≤ length r → (r′ : List ℕ) → r′ ≡ stored 2 r 0 (allWords b) → Outcome b s r (answer 0 x) (cleared b s) r′
-  enough x e l r′ q =
-      let w : r′ ≡ foldedBytes b ++ drop (length (foldedBytes b)) r = q ∙ ap (stored 2 r 0) (words-are b) ∙ folded-written b r in
-      rw (e, w) (folded-accepted b s r (checked b .place) accepts-it S (omega arith))
+  module _ (p : ℕ) (e : agreedChecked b agreed room (length r) ≡ answer 0 p) where
+    -- where it accepts, so does folding
+    fold-accepts : foldChecked b room (length r) ≡ answer 0 p
+    unfolding agreedChecked foldChecked
+    fold-accepts =
+        let (q, a, c) = both-accept (askChecked b room) _ p e in
+        let k = passed (not agreed) 14 0 (roomChecked b (length r)) p refl c .1 in
+        ap (λ (t : Figures). andThen t (roomChecked b (length r))) a ∙ k
 
--- ---- outcomes
+    pub words-fit : 2 * length (allWords b) ≤ length r
+    words-fit = omega (arith, words-room b, accepted b room (length r) p fold-accepts .room-enough)
 
--- what a fold promises, of an outcome
-pub promises : (b s r : List ℕ) (f : Figures) (s′ r′ : List ℕ) → Outcome b s r f s′ r′
-    → (f ≡ foldChecked b (length s) (length r)) × ((r′ ≡ foldResult b (length s) r) × ((s′ ≡ foldScratch b s (length r)) × Promised b f r′))
-unfolding Promised Foldings
-promises b s r f s′ r′ O =
-    (O .figures-are, (O .result-left, (O .scratch-left, λ p e. rw (O .result-left) (foldings b r (length s) p (sym (O .figures-are) ∙ e)))))
+    pub result-written : (r′ : List ℕ) → r′ ≡ stored 2 r 0 (allWords b) → r′ ≡ agreedResult b agreed room r
+    unfolding agreedResult
+    result-written r′ q =
+        left (agreedChecked b agreed room (length r)) p (foldedBytes b) r r′ (sym e)
+        (q ∙ ap (stored 2 r 0) (words-are b) ∙ folded-written b r
+        ∙ ap (λ (n : ℕ). foldedBytes b ++ drop n r) (sym (accepted b room (length r) p fold-accepts .place-is)))
 
--- ---- the part of the scratch that is needed, its first k numbers, lent to the last stage
+    same-result : agreedResult b agreed room r ≡ foldResult b room r
+    unfolding agreedResult foldResult
+    same-result = ap (λ (f : Figures). resultAfter f (foldedBytes b) r) (e ∙ sym fold-accepts)
 
-module _ (b s r : List ℕ) (C : checked b .number ≡ 0) (k : ℕ) (needed : k ≡ scratchNeeded b) (within : k ≤ length s) where
-  pub part-length : length (take k s) ≡ k
-  part-length = length-take k s ∙ omega arith
+  -- demands 2 and 3
+  promised : (f : Figures) (r′ : List ℕ) → f ≡ agreedChecked b agreed room (length r) → r′ ≡ agreedResult b agreed room r → Promised b f r′
+  unfolding Promised Foldings
+  promised f r′ ef er p e = let a = sym ef ∙ e in rw (er ∙ same-result p a) (foldings b r room p (fold-accepts p a))
 
-  -- that part is enough, and so is the whole
-  same-answer : foldChecked b (length (take k s)) (length r) ≡ foldChecked b (length s) (length r)
-  unfolding foldChecked
-  same-answer =
-      let p = part-length in
-      rw (le-ltb (length (take k s)) (scratchNeeded b) (omega arith), le-ltb (length s) (scratchNeeded b) (omega arith))
-
-  -- the needed scratch is zero, whether there is room or not
-  ends-cleared : cleared b s ≡ foldScratch b s (length r)
-  ends-cleared = go (decLt (length r) (length (foldedBytes b)))
-    where
-      go : Dec (length r < length (foldedBytes b)) → cleared b s ≡ foldScratch b s (length r)
-      go (yes l) = room-refused b s r (checked b .place) (accepts-it b s r C (omega arith)) (omega arith) l .scratch-left
-      go (no n) = folded-accepted b s r (checked b .place) (accepts-it b s r C (omega arith)) (omega arith) (omega arith) .scratch-left
-
-  pub last-stage : (f : Figures) (z r′ : List ℕ) → f ≡ foldChecked b (length (take k s)) (length r) → r′ ≡ foldResult b (length (take k s)) r
-      → z ≡ replicate (length (take k s)) 0 → Outcome b s r f (z ++ drop k s) r′
-  unfolding foldResult
-  last-stage f z r′ ef er ez = record {
-    figures-are = ef ∙ same-answer;
-    scratch-left = ap (λ (z : List ℕ). z ++ drop k s) (ez ∙ ap (λ (n : ℕ). replicate n 0) part-length) ∙ ap (λ (k : ℕ). replicate k 0 ++ drop k s) needed ∙ ends-cleared;
-    result-left = er ∙ ap (λ (f : Figures). resultAfter f (foldedBytes b) r) same-answer;
-  }
+-- of a scratch s that `classify_checked` left as s₁; d are the figures that define the call
+pub outcome : (b s r s₁ : List ℕ) (x : Asked) → length s₁ ≡ length s → askNumbers x ≡ asked b (length s) → ScratchLeft x b s s₁
+    → (agreed : Bool) (d : Figures) → agreedChecked b agreed (length s) (length r) ≡ d
+    → (f : Figures) (s′ r′ : List ℕ) → f ≡ agreedChecked b agreed (length s₁) (length r) → r′ ≡ agreedResult b agreed (length s₁) r → s′ ≡ scratchAfter b s₁
+    → (f ≡ d) × ((r′ ≡ resultAfter d (foldedBytes b) r) × ((s′ ≡ scratchAfter b s) × Promised b f r′))
+unfolding agreedResult
+outcome b s r s₁ x l A L agreed d e f s′ r′ ef er es =
+    let n : agreedChecked b agreed (length s₁) (length r) ≡ d = ap (λ (n : ℕ). agreedChecked b agreed n (length r)) l ∙ e in
+    (ef ∙ n, (er ∙ ap (λ (f : Figures). resultAfter f (foldedBytes b) r) n, (es ∙ scratch-back b s s₁ x l A L, promised b r (length s₁) agreed f r′ ef er)))

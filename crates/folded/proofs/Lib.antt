@@ -7,6 +7,8 @@ pub mod Read
 pub mod Response
 pub mod Tables
 pub mod Outcomes
+pub mod Asked
 pub mod Theorems
+pub mod Plans
 pub mod Determined
 pub mod Wrong

@@ -1,6 +1,6 @@
 -- What folding answers and leaves: the table of the circuit's response, as bytes.
 use Prim.Native.Nat.{ℕ, _*_, _^_}
-use mathlib.Core.Bool.{_||_, cond}
+use mathlib.Core.Bool.{cond}
 use mathlib.Core.List.{List, _++_}
 use lib.Dec.{ltb, eqb}
 use lib.ListN.{length, drop, replicate}
@@ -20,21 +20,31 @@ foldedBytes b = wordBytes (tableWords (inputs b) (outputs b) (2 ^ inputs b) (fra
 unfoldable pub scratchNeeded : List ℕ → ℕ
 scratchNeeded b = 2 * 2 ^ allInputs b
 
--- the circuit's checks, then 6, then 7
-unfoldable pub foldChecked : List ℕ → (scratchRoom resultRoom : ℕ) → Figures
-foldChecked b scratchRoom resultRoom =
+-- what is judged before a circuit is folded: its checks, then 6
+unfoldable pub askChecked : List ℕ → (scratchRoom : ℕ) → Figures
+askChecked b scratchRoom =
     andThen (checked b)
     (refuse (ltb scratchRoom (scratchNeeded b)) 6 (scratchNeeded b)
-    (refuse (ltb resultRoom (length (foldedBytes b))) 7 (length (foldedBytes b))
-    (answer 0 (length (foldedBytes b)))))
+    (answer 0 0))
+
+-- and what is judged once its table is known: 7
+unfoldable pub roomChecked : List ℕ → (resultRoom : ℕ) → Figures
+roomChecked b resultRoom =
+    refuse (ltb resultRoom (length (foldedBytes b))) 7 (length (foldedBytes b))
+    (answer 0 (length (foldedBytes b)))
+
+-- what folding answers
+unfoldable pub foldChecked : List ℕ → (scratchRoom resultRoom : ℕ) → Figures
+foldChecked b scratchRoom resultRoom = andThen (askChecked b scratchRoom) (roomChecked b resultRoom)
 
 -- what the result holds after folding
 unfoldable pub foldResult : List ℕ → (scratchRoom : ℕ) (before : List ℕ) → List ℕ
 foldResult b scratchRoom before = resultAfter (foldChecked b scratchRoom (length before)) (foldedBytes b) before
 
--- what the scratch holds after it: where it accepts or the result is too short (7), the needed numbers are zero and the rest is as before;
--- on every other refusal all is as before
-unfoldable pub foldScratch : List ℕ → (before : List ℕ) (resultRoom : ℕ) → List ℕ
-foldScratch b before resultRoom =
-    let f = foldChecked b (length before) resultRoom in
-    cond (eqb (f .number) 0 || eqb (f .number) 7) (replicate (scratchNeeded b) 0 ++ drop (scratchNeeded b) before) before
+-- the scratch with the needed numbers zero, the rest as before
+unfoldable pub cleared : (b before : List ℕ) → List ℕ
+cleared b before = replicate (scratchNeeded b) 0 ++ drop (scratchNeeded b) before
+
+-- what the scratch holds after it: cleared where the circuit's checks and 6 pass, whatever is judged then; else as before
+unfoldable pub scratchAfter : (b before : List ℕ) → List ℕ
+scratchAfter b before = cond (eqb (askChecked b (length before) .number) 0) (cleared b before) before

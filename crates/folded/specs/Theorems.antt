@@ -1,10 +1,10 @@
--- Demands 2 and 3, of the bytes. b is a circuit; t are the bytes that folding it wrote. The table is the machine that the bytes are, with
+-- Demands 2 and 3, of the bytes, and what holds of asking and committing. b is a circuit; t are the bytes that folding it wrote. The table is the machine that the bytes are, with
 -- start 0; its states are those that it reaches when fed; the outputs of a circuit are what its simulation gives.
-use Prim.Native.Nat.{ℕ, _-_, _^_, _≤_, _<_}
+use Prim.Native.Nat.{ℕ, _+_, _-_, _^_, _≤_, _<_}
 use mathlib.Core.Path.{_≡_}
 use mathlib.Core.Logic.{_↔_}
-use mathlib.Core.List.{List, _++_}
-use lib.ListN.{length, take, drop}
+use mathlib.Core.List.{List, _∷_, _++_}
+use lib.ListN.{length, getD, take, drop}
 use Rattle.verdict.specs.Judgements.{answer}
 use Rattle.sizes.specs.Sizes.{inputs, outputs, frames}
 use Rattle.layered.specs.States.{Words}
@@ -13,7 +13,8 @@ use Rattle.layered.specs.Machines.{Machine, Legal, Gives, Renumbered}
 use Rattle.circuit.specs.Circuit.{outputWords}
 use Rattle.table.specs.Table.{states, machine, checked}
 use Rattle.layered.specs.Machines.{reached}
-use Rattle.folded.specs.Folded.{foldChecked, foldResult}
+use Rattle.folded.specs.Folded.{foldChecked, foldResult, cleared, scratchAfter}
+use Rattle.folded.specs.Planned.{planOf, asked, commitChecked, commitResult}
 
 -- the state of the table that the history c comes to
 unfoldable pub stateOf : List ℕ → List ℕ → ℕ
@@ -58,3 +59,36 @@ unfoldable pub Foldings : Type 0
 Foldings = (b before : List ℕ) (room p : ℕ) → foldChecked b room (length before) ≡ answer 0 p
     → Folding (2 ^ inputs b) (outputs b) (frames b) b (take p (foldResult b room before))
     × Canonical (2 ^ inputs b) (outputs b) (frames b) b (take p (foldResult b room before))
+
+-- of the plan that asking returns for the circuit b with so much scratch
+pub record Asking (b : List ℕ) (room : ℕ) (plan : List ℕ) : Type 0 where
+  -- folding with as much scratch accepts and writes the plan's bytes where the result has room for them; where it has less, 7 asks for as many
+  pub enough : (x : ℕ) → getD plan 20 0 ≤ x → foldChecked b room x ≡ answer 0 (getD plan 20 0)
+  pub too-short : (x : ℕ) → x < getD plan 20 0 → foldChecked b room x ≡ answer 7 (getD plan 20 0)
+  -- whatever folding writes has the plan's sizes, counts and bytes
+  pub as-folded : (before : List ℕ) (scratchRoom p : ℕ) → foldChecked b scratchRoom (length before) ≡ answer 0 p → plan ≡ planOf (take p (foldResult b scratchRoom before))
+  -- every layered machine that gives the outputs has at each layer at least as many states as the plan counts
+  pub fewest : (M : Machine) → Legal (2 ^ inputs b) (outputs b) (frames b) M → Gives (2 ^ inputs b) (frames b) M (outputWords b)
+      → (k : ℕ) → k ≤ frames b → getD plan (3 + k) 0 ≤ M .states k
+
+-- whatever asking returns
+unfoldable pub Askings : Type 0
+Askings = (b : List ℕ) (room : ℕ) (plan : List ℕ) → asked b room ≡ 0 ∷ 0 ∷ plan → Asking b room plan
+
+-- of committing to a plan for the circuit b, with this scratch and this result
+pub record Committing (b plan scratch result : List ℕ) : Type 0 where
+  -- with the plan that asking returned, whatever scratch it had, it answers and writes what folding does (and leaves of the scratch what folding
+  -- does with any plan, by one definition)
+  pub as-folding : (room : ℕ) → asked b room ≡ 0 ∷ 0 ∷ plan
+      → (commitChecked b plan (length scratch) (length result) ≡ foldChecked b (length scratch) (length result))
+      × (commitResult b plan (length scratch) result ≡ foldResult b (length scratch) result)
+  -- with any other, where asking with this scratch returns one, it is 14: the result untouched, the scratch cleared
+  pub other-plan : (its : List ℕ) → asked b (length scratch) ≡ 0 ∷ 0 ∷ its → ¬ (plan ≡ its)
+      → (commitChecked b plan (length scratch) (length result) ≡ answer 14 0)
+      × (commitResult b plan (length scratch) result ≡ result)
+      × (scratchAfter b scratch ≡ cleared b scratch)
+  -- with any plan, where asking with this scratch refuses, it refuses alike, and nothing changes
+  pub as-asking : (number place : ℕ) (none : List ℕ) → asked b (length scratch) ≡ number ∷ place ∷ none → ¬ (number ≡ 0)
+      → (commitChecked b plan (length scratch) (length result) ≡ answer number place)
+      × (commitResult b plan (length scratch) result ≡ result)
+      × (scratchAfter b scratch ≡ scratch)

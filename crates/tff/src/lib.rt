@@ -2,6 +2,7 @@
 // further values named; the rest of it stays as before. Where `answer` is too short for that, nothing at all is changed.
 use answers::Limits;
 use answers::put;
+use answers::put_ask;
 use answers::put_price;
 use answers::put_step;
 use positions::Position;
@@ -13,11 +14,12 @@ ghost use Rattle.simulate.specs.Simulate.{simulated, simulationResult};
 ghost use Rattle.table.specs.Table.{checked as tableChecked};
 ghost use Rattle.steps.specs.Steps.{stepped};
 ghost use Rattle.run.specs.Run.{ran, runResult};
-ghost use Rattle.folded.specs.Folded.{foldChecked, foldResult, foldScratch};
+ghost use Rattle.folded.specs.Folded.{foldChecked, foldResult, scratchAfter};
+ghost use Rattle.folded.specs.Planned.{asked, commitChecked, commitResult};
 ghost use Rattle.price.specs.Price.{priced};
 ghost use Rattle.reach.specs.Reach.{reachChecked, reachResult};
 ghost use Rattle.unfolded.specs.Unfolded.{unfoldChecked, unfoldResult};
-ghost use Rattle.answers.specs.Answer.{verdictNumbers, stepNumbers, priceNumbers, answerAfter, bufferAfter};
+ghost use Rattle.answers.specs.Answer.{verdictNumbers, stepNumbers, priceNumbers, answerAfter, verdictLength, askLength, bufferAfter};
 
 #[no_mangle]
 pub extern "C" fn tff_check_circuit(circuit: &[u8], answer: &mut [u64])
@@ -39,7 +41,7 @@ pub extern "C" fn tff_simulate(
     answer: &mut [u64],
 )
     ensures answer { λ _. ⌜ now (answer .exit) ≡ answerAfter (verdictNumbers (simulated (now (circuit .entry)) count (now (words .entry)) (length (now (result .entry))))) (now (answer .entry)) ⌝ }
-    ensures result { λ _. ⌜ now (result .exit) ≡ bufferAfter (now (answer .entry)) (simulationResult (now (circuit .entry)) count (now (words .entry)) (now (result .entry))) (now (result .entry)) ⌝ }
+    ensures result { λ _. ⌜ now (result .exit) ≡ bufferAfter verdictLength (now (answer .entry)) (simulationResult (now (circuit .entry)) count (now (words .entry)) (now (result .entry))) (now (result .entry)) ⌝ }
 {
     if answer.len() < Limits::VERDICT {
         return;
@@ -62,7 +64,7 @@ pub extern "C" fn tff_check_table(table: &[u8], answer: &mut [u64])
 #[no_mangle]
 pub extern "C" fn tff_run(table: &[u8], words: &[u16], result: &mut [u16], answer: &mut [u64])
     ensures answer { λ _. ⌜ now (answer .exit) ≡ answerAfter (verdictNumbers (ran (now (table .entry)) (now (words .entry)) (length (now (result .entry))))) (now (answer .entry)) ⌝ }
-    ensures result { λ _. ⌜ now (result .exit) ≡ bufferAfter (now (answer .entry)) (runResult (now (table .entry)) (now (words .entry)) (now (result .entry))) (now (result .entry)) ⌝ }
+    ensures result { λ _. ⌜ now (result .exit) ≡ bufferAfter verdictLength (now (answer .entry)) (runResult (now (table .entry)) (now (words .entry)) (now (result .entry))) (now (result .entry)) ⌝ }
 {
     if answer.len() < Limits::VERDICT {
         return;
@@ -94,13 +96,44 @@ pub extern "C" fn tff_fold(
     answer: &mut [u64],
 )
     ensures answer { λ _. ⌜ now (answer .exit) ≡ answerAfter (verdictNumbers (foldChecked (now (circuit .entry)) (length (now (scratch .entry))) (length (now (result .entry))))) (now (answer .entry)) ⌝ }
-    ensures result { λ _. ⌜ now (result .exit) ≡ bufferAfter (now (answer .entry)) (foldResult (now (circuit .entry)) (length (now (scratch .entry))) (now (result .entry))) (now (result .entry)) ⌝ }
-    ensures scratch { λ _. ⌜ now (scratch .exit) ≡ bufferAfter (now (answer .entry)) (foldScratch (now (circuit .entry)) (now (scratch .entry)) (length (now (result .entry)))) (now (scratch .entry)) ⌝ }
+    ensures result { λ _. ⌜ now (result .exit) ≡ bufferAfter verdictLength (now (answer .entry)) (foldResult (now (circuit .entry)) (length (now (scratch .entry))) (now (result .entry))) (now (result .entry)) ⌝ }
+    ensures scratch { λ _. ⌜ now (scratch .exit) ≡ bufferAfter verdictLength (now (answer .entry)) (scratchAfter (now (circuit .entry)) (now (scratch .entry))) (now (scratch .entry)) ⌝ }
 {
     if answer.len() < Limits::VERDICT {
         return;
     }
     let verdict: Verdict = fold::fold(circuit, scratch, result);
+    put(verdict, answer);
+}
+
+#[no_mangle]
+pub extern "C" fn tff_ask(circuit: &[u8], scratch: &mut [u16], answer: &mut [u64])
+    ensures answer { λ _. ⌜ now (answer .exit) ≡ answerAfter (asked (now (circuit .entry)) (length (now (scratch .entry)))) (now (answer .entry)) ⌝ }
+    ensures scratch { λ _. ⌜ now (scratch .exit) ≡ bufferAfter askLength (now (answer .entry)) (scratchAfter (now (circuit .entry)) (now (scratch .entry))) (now (scratch .entry)) ⌝ }
+{
+    if answer.len() < Limits::ASK {
+        return;
+    }
+    let asked = ask::ask(circuit, scratch);
+    put_ask(asked, answer);
+}
+
+#[no_mangle]
+pub extern "C" fn tff_commit(
+    circuit: &[u8],
+    plan: &[u64],
+    scratch: &mut [u16],
+    result: &mut [u8],
+    answer: &mut [u64],
+)
+    ensures answer { λ _. ⌜ now (answer .exit) ≡ answerAfter (verdictNumbers (commitChecked (now (circuit .entry)) (now (plan .entry)) (length (now (scratch .entry))) (length (now (result .entry))))) (now (answer .entry)) ⌝ }
+    ensures result { λ _. ⌜ now (result .exit) ≡ bufferAfter verdictLength (now (answer .entry)) (commitResult (now (circuit .entry)) (now (plan .entry)) (length (now (scratch .entry))) (now (result .entry))) (now (result .entry)) ⌝ }
+    ensures scratch { λ _. ⌜ now (scratch .exit) ≡ bufferAfter verdictLength (now (answer .entry)) (scratchAfter (now (circuit .entry)) (now (scratch .entry))) (now (scratch .entry)) ⌝ }
+{
+    if answer.len() < Limits::VERDICT {
+        return;
+    }
+    let verdict: Verdict = commit::commit_numbers(circuit, plan, scratch, result);
     put(verdict, answer);
 }
 
@@ -118,7 +151,7 @@ pub extern "C" fn tff_price(table: &[u8], answer: &mut [u64])
 #[no_mangle]
 pub extern "C" fn tff_reach(table: &[u8], result: &mut [u8], answer: &mut [u64])
     ensures answer { λ _. ⌜ now (answer .exit) ≡ answerAfter (verdictNumbers (reachChecked (now (table .entry)) (length (now (result .entry))))) (now (answer .entry)) ⌝ }
-    ensures result { λ _. ⌜ now (result .exit) ≡ bufferAfter (now (answer .entry)) (reachResult (now (table .entry)) (now (result .entry))) (now (result .entry)) ⌝ }
+    ensures result { λ _. ⌜ now (result .exit) ≡ bufferAfter verdictLength (now (answer .entry)) (reachResult (now (table .entry)) (now (result .entry))) (now (result .entry)) ⌝ }
 {
     if answer.len() < Limits::VERDICT {
         return;
@@ -130,7 +163,7 @@ pub extern "C" fn tff_reach(table: &[u8], result: &mut [u8], answer: &mut [u64])
 #[no_mangle]
 pub extern "C" fn tff_unfold(table: &[u8], result: &mut [u8], answer: &mut [u64])
     ensures answer { λ _. ⌜ now (answer .exit) ≡ answerAfter (verdictNumbers (unfoldChecked (now (table .entry)) (length (now (result .entry))))) (now (answer .entry)) ⌝ }
-    ensures result { λ _. ⌜ now (result .exit) ≡ bufferAfter (now (answer .entry)) (unfoldResult (now (table .entry)) (now (result .entry))) (now (result .entry)) ⌝ }
+    ensures result { λ _. ⌜ now (result .exit) ≡ bufferAfter verdictLength (now (answer .entry)) (unfoldResult (now (table .entry)) (now (result .entry))) (now (result .entry)) ⌝ }
 {
     if answer.len() < Limits::VERDICT {
         return;

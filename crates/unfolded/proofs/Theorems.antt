@@ -8,7 +8,7 @@ use native.Mathlib.Omega.{arith}
 use lib.ListN.{length, getD, take, drop, length-take, length-drop}
 use lib.Seq.{ext-getD, getD-take, getD-drop, take-take}
 use Rattle.verdict.specs.Judgements.{answer}
-use Rattle.verdict.proofs.Laws.{both-accept, finds-none}
+use Rattle.verdict.proofs.Laws.{finds-none}
 use Rattle.sizes.specs.Limits.{mostInputs}
 use Rattle.sizes.specs.Sizes.{inputs, outputs, frames}
 use Rattle.sizes.specs.Sized.{Sized}
@@ -28,6 +28,7 @@ use Rattle.table.specs.Sound.{Sound}
 use Rattle.layered.specs.Machines.{reached}
 use Rattle.folded.specs.Folded.{foldedBytes, scratchNeeded, foldChecked}
 use Rattle.layered.proofs.Feeding.{words-length, feed-length}
+use Rattle.folded.proofs.Asked.{ask-accepts, fold-accepts}
 use Rattle.folded.proofs.Outcomes.{circuit-sized, accepted as foldAccepted, written-bytes as foldWritten}
 use Rattle.folded.proofs.Theorems.{folding, same-bytes}
 use Rattle.unfolded.specs.Unfolded.{drawing, drawn, gatesNeeded, unfoldedBytes}
@@ -136,11 +137,18 @@ module _ (b : List ℕ) (S : Sound b) (G : length (drawn b) ≤ mostGates) where
 
 -- ---- folding it again
 
+same-scratch : (d t : List ℕ) → inputs t ≡ inputs d → frames t ≡ frames d → scratchNeeded t ≡ scratchNeeded d
+unfolding scratchNeeded allInputs
+same-scratch d t i f = rw (i, f)
+
 -- circuits of the same sizes and the same folded bytes are folded alike
 alike : (d t : List ℕ) (room rest p q : ℕ) → inputs t ≡ inputs d → frames t ≡ frames d → foldedBytes t ≡ foldedBytes d
     → circuitChecked t ≡ answer 0 q → foldChecked d room rest ≡ answer 0 p → foldChecked t room rest ≡ answer 0 p
-unfolding foldChecked scratchNeeded allInputs
-alike d t room rest p q i f e c a = rw (c, i, f, e) (both-accept (circuitChecked d) _ p a .2)
+alike d t room rest p q i f e c a =
+    let A = foldAccepted d room rest p a in
+    let s = same-scratch d t i f in
+    let l : length (foldedBytes t) ≡ length (foldedBytes d) = ap length e in
+    fold-accepts t room rest p (ask-accepts t room q c (omega (arith, A .scratch-enough))) (A .place-is ∙ sym l) (omega (arith, A .room-enough))
 
 -- a table that folding d wrote
 module _ (b : List ℕ) (S : Sound b) (G : length (drawn b) ≤ mostGates) (d : List ℕ) (q : ℕ) (C : circuitChecked d ≡ answer 0 q) (e : b ≡ foldedBytes d) where

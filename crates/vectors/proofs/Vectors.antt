@@ -8,11 +8,11 @@ use Rattle.words.specs.Words.{wordAt}
 use Rattle.verdict.specs.Judgements.{refuseFirst, firstRefusal}
 use Rattle.verdict.specs.declared.Figures.{Figures}
 use Rattle.sizes.specs.Sizes.{inputs, outputs, frames, sizesChecked}
-use Rattle.layered.specs.Search.{every, total}
+use Rattle.layered.specs.Search.{every, total, equal}
 use Rattle.layered.specs.Histories.{historyWords}
 use Rattle.layered.specs.Machines.{tableWords}
 use Rattle.layered.specs.States.{count, number, history}
-use Rattle.layered.proofs.Search.{both}
+use Rattle.layered.proofs.Search.{both, equal-lists}
 use Rattle.circuit.specs.Lists.{grown, bit, packed, blockStart}
 use Rattle.circuit.specs.Circuit as circuit
 use Rattle.circuit.specs.Theorems.{response}
@@ -22,7 +22,7 @@ use Rattle.steps.specs.Steps as steps
 use Rattle.folded.specs.Folded as folded
 use Rattle.unfolded.specs.Unfolded as unfolded
 use Rattle.latest.specs.Latest.{inputFrames, laterFrame, latestFrames, reachesLater}
-use Rattle.vectors.specs.Vectors.{Call, Check, Fold, Unfold, Step, Outcome, Row, rows, outcomeOf, equal, agree, hold, Each}
+use Rattle.vectors.specs.Vectors.{Call, Check, Fold, Unfold, Step, Outcome, Row, rows, outcomeOf, agree, hold, Each}
 use Rattle.vectors.proofs.Quick.{quickAhead, quickChecked, quick-checked}
 
 -- ---- all that is unfolded to compute a circuit's outputs, its check, the same quickly, a folded table's bytes, and a table's check
@@ -76,20 +76,13 @@ quick-hold (r ∷ rs) = ap₂ (λ o h. agree o (r .expected) && h) (quick-outcom
 
 -- every row, computed
 quick : quickHold rows ≡ true
-unfolding quickHold quickOutcome outcomeOf agree rows circuit-quick folded-bytes table-checked folded.foldChecked folded.foldResult folded.foldScratch folded.scratchNeeded unfolded.unfoldResult steps.stepped steps.stepChecked positions.positionChecked positions.placeChecked steps.entryChecked
+unfolding quickHold quickOutcome outcomeOf agree rows circuit-quick folded-bytes table-checked folded.foldChecked folded.foldResult folded.askChecked folded.roomChecked folded.scratchAfter folded.cleared folded.scratchNeeded equal unfolded.unfoldResult steps.stepped steps.stepChecked positions.positionChecked positions.placeChecked steps.entryChecked
 quick = refl
 
 pub vectors-hold : hold rows ≡ true
 vectors-hold = quick-hold rows ∙ quick
 
 -- ---- what it shows
-
-equal-lists : (xs ys : List ℕ) → T (equal xs ys) → xs ≡ ys
-unfolding equal
-equal-lists [] [] t = refl
-equal-lists (x ∷ xs) (y ∷ ys) t = let h = both (eqb x y) (equal xs ys) .0 t in ap₂ {C = List ℕ} (λ a l. a ∷ l) (eqb→eq x y (h .0)) (equal-lists xs ys (h .1))
-equal-lists [] (y ∷ ys) t = absurd t
-equal-lists (x ∷ xs) [] t = absurd t
 
 agreed : (o p : Outcome) → T (agree o p) → o ≡ p
 unfolding agree

@@ -12,7 +12,8 @@ use Rattle.verdict.specs.declared.Figures.{Figures}
 use Rattle.circuit.specs.Circuit.{checked}
 use Rattle.circuit.specs.Examples.{parity, identity, silent, delayed}
 use Rattle.steps.specs.Steps.{stepped}
-use Rattle.folded.specs.Folded.{foldChecked, foldResult, foldScratch}
+use Rattle.layered.specs.Search.{equal}
+use Rattle.folded.specs.Folded.{foldChecked, foldResult, scratchAfter}
 use Rattle.unfolded.specs.Unfolded.{unfoldChecked, unfoldResult}
 
 -- ---- calls
@@ -36,7 +37,7 @@ outcomeOf (Check b) = record { figures = checked b; result = []; scratch = [] }
 outcomeOf (Fold b scratch result) = record {
   figures = foldChecked b (length scratch) (length result);
   result = foldResult b (length scratch) result;
-  scratch = foldScratch b scratch (length result);
+  scratch = scratchAfter b scratch;
 }
 outcomeOf (Unfold b result) = record { figures = unfoldChecked b (length result); result = unfoldResult b result; scratch = [] }
 outcomeOf (Step b layer state word) =
@@ -128,13 +129,6 @@ rows =
     ∷ []
 
 -- ---- the test
-
--- the lists are as long, with equal elements
-unfoldable pub equal : (xs ys : List ℕ) → Bool
-equal [] [] = true
-equal (x ∷ xs) (y ∷ ys) = eqb x y && equal xs ys
-equal [] (y ∷ ys) = false
-equal (x ∷ xs) [] = false
 
 -- number, place, result and scratch are equal
 unfoldable pub agree : Outcome → Outcome → Bool

@@ -8,13 +8,13 @@ use Rattle.verdict.specs.declared.Figures.{Figures}
 use Rattle.verdict.specs.declared.Verdict.{Verdict}
 use Rattle.verdict.specs.declared.Verdict.the-variants.{Accepted, Refused}
 use Rattle.verdict.specs.declared.Refusal.{Refusal}
-use Rattle.verdict.specs.declared.Refusal.the-variants.{Length, Size, Literal, LookAhead, Entry, Scratch, Room, Gates, Word, End, Position, Count, Sequences}
+use Rattle.verdict.specs.declared.Refusal.the-variants.{Length, Size, Literal, LookAhead, Entry, Scratch, Room, Gates, Word, End, Position, Count, Sequences, Plan}
 
 -- a number and a place; number 0 is acceptance
 abbrev pub answer : (number place : ℕ) → Figures
 answer number place = record { number = number; place = place }
 
--- what document 01 gives each case, and document 02 the last
+-- what document 01 gives each case, and document 02 from 13 on
 abbrev pub refusalFigures : Refusal → Figures
 refusalFigures (Length p) = answer 1 p
 refusalFigures (Size p) = answer 2 p
@@ -29,6 +29,7 @@ refusalFigures (End p) = answer 10 p
 refusalFigures (Position p) = answer 11 p
 refusalFigures (Count p) = answer 12 p
 refusalFigures (Sequences p) = answer 13 p
+refusalFigures (Plan p) = answer 14 p
 
 abbrev pub figures : Verdict → Figures
 figures (Accepted p) = answer 0 p

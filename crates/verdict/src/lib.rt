@@ -23,6 +23,7 @@ pub enum Refusal {
     Position(usize),
     Count(usize),
     Sequences(usize),
+    Plan(usize),
 }
 
 // Document 01's number and place.
@@ -49,6 +50,7 @@ impl Refusal {
             Refusal::Position(place) => Figures { number: 11, place },
             Refusal::Count(place) => Figures { number: 12, place },
             Refusal::Sequences(place) => Figures { number: 13, place },
+            Refusal::Plan(place) => Figures { number: 14, place },
         }
     }
 }

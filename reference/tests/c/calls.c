@@ -5,7 +5,7 @@
 #include "tff.h"
 
 /* What the calls may write to, with an element more than any is lent. */
-static uint64_t answer[6];
+static uint64_t answer[24];
 static uint16_t numbers[9];
 static uint8_t bytes[77];
 
@@ -29,7 +29,9 @@ static void show(const char *call) {
     printf("\n");
 }
 
-#define CALL(call, ...) (fill(), tff_##call(__VA_ARGS__, answer, 5), show(#call))
+/* A call that is lent an answer of so many values. */
+#define CALL_FOR(values, call, ...) (fill(), tff_##call(__VA_ARGS__, answer, values), show(#call))
+#define CALL(...) CALL_FOR(23, __VA_ARGS__)
 
 int main(void) {
     const uint8_t circuit[] = {1, 0, 1, 0, 2, 0, 5, 0,          /* n, m, T, gates */
@@ -37,6 +39,7 @@ int main(void) {
                                5, 0, 4, 0, 9, 0, 1, 0, 1, 0};   /* right literals */
     const uint16_t words[] = {1, 1, 1, 0, 2};
     uint8_t table[36];
+    uint64_t plan[22] = {0};   /* 21 numbers, and a 0 behind them */
 
     CALL(check_circuit, circuit, 28);
     CALL(check_circuit, circuit, 27);
@@ -56,6 +59,19 @@ int main(void) {
     CALL(fold, circuit, 28, numbers, 8, bytes, 35);
     CALL(fold, circuit, 28, numbers, 8, bytes, 36);
     for (size_t i = 0; i < sizeof table; i++) table[i] = bytes[i];
+
+    CALL_FOR(22, ask, circuit, 28, numbers, 8);
+    CALL(ask, circuit, 27, numbers, 8);
+    CALL(ask, circuit, 28, numbers, 7);
+    CALL(ask, circuit, 28, numbers, 8);
+    for (size_t i = 0; i < 21; i++) plan[i] = answer[2 + i];
+
+    CALL(commit, circuit, 27, plan, 21, numbers, 8, bytes, 36);
+    CALL(commit, circuit, 28, plan, 21, numbers, 7, bytes, 36);
+    CALL(commit, circuit, 28, plan, 20, numbers, 8, bytes, 36);
+    CALL(commit, circuit, 28, plan, 22, numbers, 8, bytes, 36);
+    CALL(commit, circuit, 28, plan, 21, numbers, 8, bytes, 35);
+    CALL(commit, circuit, 28, plan, 21, numbers, 8, bytes, 36);
 
     CALL(check_table, table, 36);
     CALL(check_table, table, 35);

@@ -102,7 +102,7 @@ fn check_case(seed: u64, file: &[u8]) -> Case<'_> {
         call: "check",
         seed,
         file,
-        words: &[],
+        ..Case::default()
     }
 }
 
@@ -112,6 +112,7 @@ fn evaluate_case<'a>(seed: u64, file: &'a [u8], words: &'a [u16]) -> Case<'a> {
         seed,
         file,
         words,
+        ..Case::default()
     }
 }
 

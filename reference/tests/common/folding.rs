@@ -24,7 +24,7 @@ pub fn fold_case(seed: u64, file: &[u8]) -> Case<'_> {
         call: "fold",
         seed,
         file,
-        words: &[],
+        ..Case::default()
     }
 }
 
@@ -40,13 +40,18 @@ pub fn fold(seed: u64, file: &[u8], room: Room) -> [u64; 2] {
 
 /// Room that suffices for every circuit of these sizes, and some more.
 pub fn ample(sizes: &Sizes) -> Room {
-    let longest: usize = (1..=sizes.frames)
-        .map(|length| sizes.histories(length))
-        .sum();
     Room {
         numbers: scratch_needed(sizes) + 3,
-        bytes: 8 + 2 * sizes.frames + 4 * longest + 5,
+        bytes: longest_table(sizes) + 5,
     }
+}
+
+/// Bytes of a table in which every history has its own state: none of these sizes is longer.
+pub fn longest_table(sizes: &Sizes) -> usize {
+    let entries: usize = (1..=sizes.frames)
+        .map(|length| sizes.histories(length))
+        .sum();
+    8 + 2 * sizes.frames + 4 * entries
 }
 
 pub fn scratch_needed(sizes: &Sizes) -> usize {

@@ -67,12 +67,15 @@ impl Seen {
 }
 
 /// One call and what it is given; a failing comparison shows it.
+#[derive(Default)]
 pub struct Case<'a> {
     pub call: &'a str,
     pub seed: u64,
     pub file: &'a [u8],
     /// Input words, or layer, state and word.
     pub words: &'a [u16],
+    /// The plan to commit to.
+    pub plan: &'a [u64],
 }
 
 impl fmt::Display for Case<'_> {
@@ -81,6 +84,7 @@ impl fmt::Display for Case<'_> {
         const SHOWN: usize = 20_000;
         writeln!(f, "call {}, seed {}", self.call, self.seed)?;
         writeln!(f, "words {:?}", self.words)?;
+        writeln!(f, "plan {:?}", self.plan)?;
         write!(f, "file of {} bytes ", self.file.len())?;
         for byte in self.file.iter().take(SHOWN) {
             write!(f, "{byte:02x}")?;
@@ -148,12 +152,14 @@ impl Buffers {
     /// Hands the slices to the proved call, which may not change its inputs.
     fn pass(&mut self, case: &Case, proved: impl FnOnce(&mut [u16], &mut [u8], &mut [u64])) {
         let (file, words) = (case.file.to_vec(), case.words.to_vec());
+        let plan = case.plan.to_vec();
         proved(self.numbers.part(), self.bytes.part(), self.answer.part());
         assert!(black_box(case.file) == file, "input bytes changed\n{case}");
         assert!(
             black_box(case.words) == words,
             "input words changed\n{case}"
         );
+        assert!(black_box(case.plan) == plan, "the plan changed\n{case}");
     }
 
     fn assert_found(&self, case: &Case, room: Room, found: &Buffers) {

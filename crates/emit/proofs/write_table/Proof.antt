@@ -1,6 +1,6 @@
 -- `emit::write_table` meets its contract: head, counts, outputs and next states are stored one behind the other.
 -- Assumes nothing.
-use mathlib.Core.Path.{_≡_, sym, ap, ap₂, _∙_}
+use mathlib.Core.Path.{_≡_, ap, ap₂, _∙_}
 use mathlib.Core.Bool.{false}
 use mathlib.Core.List.{List, [], _∷_}
 use Prim.Native.Nat.{ℕ, _+_, _*_}
@@ -18,43 +18,38 @@ use borrow.Author.Needs.{needs}
 use Rattle.emit.proofs.write_table.Statement.{statement}
 use Rattle.emit.proofs.write_table.Tie as tie
 
+cast-t12 : tie.Need-cast-t12
+cast-t12 c = search needs
+
 cast-t13 : tie.Need-cast-t13
 cast-t13 c = search needs
 
 cast-t14 : tie.Need-cast-t14
 cast-t14 c = search needs
 
-cast-t15 : tie.Need-cast-t15
-cast-t15 c = search needs
-
 slice-aggregate-store-all : tie.Need-slice-aggregate-store-all
 slice-aggregate-store-all c = search needs
 
 store-all-requires : tie.Need-store-all-requires
 store-all-requires c κs =
-    let a = c .before .before .before .before .before .before .before .before in
+    let a = c .before .before .before .before .before .before .before .before .before in
     (omega arith, omega (arith, all-length (now (a .args .circuit)), a .pre .1 .1 .1 .1))
 
 add-layers : tie.Need-add-layers
 add-layers c = search needs
 
-slice-aggregate-store-all-2 : tie.Need-slice-aggregate-store-all-2
-slice-aggregate-store-all-2 c =
-    let a = c .before .before .before .before .before .before .before .before .before .before .before .before .before .before in
-    sym (a .pre .1 .0 .places)
-
 -- the entry of the function, from each part
 abbrev start : tie.After-store-all → tie.Start
-start p = p .before .before .before .before .before .before .before .before .before
+start p = p .before .before .before .before .before .before .before .before .before .before
 
 store-all-requires-2 : tie.Need-store-all-requires-2
 store-all-requires-2 c κs =
-    let p = c .before .before .before .before .before .before in
+    let p = c .before .before .before .before in
     let a = start p in
     (omega (arith, a .pre .1 .0 .places, a .pre .0 .head-is, a .pre .0 .headed .sizes), omega (arith, all-length (now (a .args .circuit)), a .pre .1 .1 .1 .1, p .store-all .kept .1 .1 .0, a .pre .0 .head-is))
 
 abbrev start₂ : tie.After-store-all2 → tie.Start
-start₂ p = start (p .before .before .before .before .before .before .before)
+start₂ p = start (p .before .before .before .before .before)
 
 head-length-requires : tie.Need-head-length-requires
 head-length-requires c κs = let p = start₂ (c .before .before) .pre .0 in omega (arith, p .head-is, p .headed .sizes)
@@ -66,17 +61,17 @@ first-words n m t b e f g = ap₂ (λ (x : ℕ) (l : List ℕ). x ∷ l) e (ap�
 -- what is stored after the counts, and how long the result is
 head₂ : (p : tie.After-store-all2) → p .store-all2 .last .1 .1 .0 ≡ stored 2 (now (start₂ p .args .result)) 0 (headWords (now (start₂ p .args .circuit)))
 head₂ p =
-    let w = p .before .before .before .before .before .before .before in
+    let w = p .before .before .before .before .before in
     let a = start₂ p in
     let b = now (a .args .circuit) in
     let h = a .pre .0 .head-is in
-    head-stored b (now (a .args .result)) (a .pre .1 .1 .1 .1) (a .args .plan) (a .pre .1 .0) (a .pre .0 .headed .sizes .frames-to)
+    head-stored b (now (a .args .result)) (a .pre .1 .1 .1 .1) (now (a .args .counts)) (a .pre .1 .0) (a .pre .0 .headed .sizes .frames-to)
     (w .store-all .last .1 .1 .0) (p .store-all2 .last .1 .1 .0) (a .args .head .frames + 1) (ap (λ (t : ℕ). t + 1) (h .frames-is))
     (w .store-all .ensures ∙ ap (stored 2 (now (a .args .result)) 0) (first-words _ _ _ b (h .inputs-is) (h .outputs-is) (h .frames-is)))
     (p .store-all2 .ensures)
 
 len₂ : (p : tie.After-store-all2) → length (p .store-all2 .last .1 .1 .0) ≡ length (now (start₂ p .args .result))
-len₂ p = p .store-all2 .kept .1 .1 .0 ∙ p .before .before .before .before .before .before .before .store-all .kept .1 .1 .0
+len₂ p = p .store-all2 .kept .1 .1 .0 ∙ p .before .before .before .before .before .store-all .kept .1 .1 .0
 
 -- where the outputs begin
 abbrev before₁ : tie.After-head-length → tie.After-store-all2
@@ -143,13 +138,12 @@ pub write-table-spec : {M : Type 1} → statement M
 write-table-spec =
     tie.close
     (tie.spec
+    cast-t12
     cast-t13
     cast-t14
-    cast-t15
     slice-aggregate-store-all
     store-all-requires
     add-layers
-    slice-aggregate-store-all-2
     store-all-requires-2
     head-length-requires
     put-array-requires

@@ -1,10 +1,11 @@
--- The contract of `proved`: what proofs/Theorems proves.
+-- The contract of `proved`: what proofs/Theorems and proofs/Plans prove.
 use Rattle.folded.proofs.proved.Statement.{statement}
 use Rattle.folded.proofs.proved.Tie as tie
 use Rattle.folded.proofs.Theorems.{foldings}
+use Rattle.folded.proofs.Plans.{askings, committing}
 
 returns : tie.Need-returns
-returns c = foldings
+returns c = (foldings, (askings, committing))
 
 pub proved-spec : {M : Type 1} → statement M
 proved-spec = tie.close (tie.spec returns)

@@ -45,6 +45,9 @@ enum-known-self-12 c = search needs
 enum-known-self-13 : tie.Need-enum-known-self-13
 enum-known-self-13 c = search needs
 
+enum-known-self-14 : tie.Need-enum-known-self-14
+enum-known-self-14 c = search needs
+
 returns : tie.Need-returns
 returns c = sym (ap refusalFigures (c .before .self .given .1))
 
@@ -84,6 +87,9 @@ returns-12 c = sym (ap refusalFigures (c .before .self12 .given .1))
 returns-13 : tie.Need-returns-13
 returns-13 c = sym (ap refusalFigures (c .before .self13 .given .1))
 
+returns-14 : tie.Need-returns-14
+returns-14 c = sym (ap refusalFigures (c .before .self14 .given .1))
+
 pub figures-spec : {M : Type 1} → statement M
 figures-spec =
     tie.close
@@ -101,6 +107,7 @@ figures-spec =
     enum-known-self-11
     enum-known-self-12
     enum-known-self-13
+    enum-known-self-14
     returns
     returns-2
     returns-3
@@ -113,4 +120,5 @@ figures-spec =
     returns-10
     returns-11
     returns-12
-    returns-13)
+    returns-13
+    returns-14)

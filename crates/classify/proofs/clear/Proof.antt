@@ -1,4 +1,4 @@
--- `emit::clear` meets its contract. The invariant: the numbers so far are zero.
+-- `classify::clear` meets its contract. The invariant: the numbers so far are zero.
 -- Assumes nothing.
 use mathlib.Core.Path.{_≡_, ap, _∙_}
 use mathlib.Core.List.{List, _++_, append-nil}
@@ -8,8 +8,8 @@ use denote.Ref.{now}
 use lib.ListN.{length, drop, set, replicate, length-set, length-append, length-drop, length-replicate}
 use lib.Seq.{drop-length}
 use borrow.Author.Fill.{fill-none, fill-more}
-use Rattle.emit.proofs.clear.Statement.{statement}
-use Rattle.emit.proofs.clear.Tie as tie
+use Rattle.classify.proofs.clear.Statement.{statement}
+use Rattle.classify.proofs.clear.Tie as tie
 
 abbrev Inv-loop : tie.InvT-loop
 Inv-loop scratch₀ i₀ scratch i = (i ≤ length scratch₀) × (scratch ≡ replicate i 0 ++ drop i scratch₀)

@@ -1,14 +1,14 @@
--- `fold::bytes_needed` meets its contract. The invariant: the sum of the counts of the layers so far.
+-- `ask::bytes_needed` meets its contract. The invariant: the sum of the counts of the layers so far.
 -- Assumes nothing.
 use mathlib.Core.Path.{_≡_, refl, ap, ap₂, _∙_}
 use Prim.Native.Nat.{ℕ, _+_, _*_, _-_, _^_, _≤_, _<_}
 use native.Mathlib.Nat.{le-mul-of-pos-right}
-use native.Mathlib.Numerals.{add-one}
 use native.Mathlib.Omega.{arith}
 use denote.Ref.{now}
 use lib.ListN.{getD}
 use Rattle.sizes.specs.Sizes.{inputs, frames as framesOf}
 use Rattle.layered.specs.Search.{total}
+use Rattle.layered.proofs.Lists.{total-next}
 use Rattle.circuit.specs.Theorems.{response}
 use Rattle.table.specs.Table.{headLength}
 use Rattle.table.proofs.Offsets.{head-length}
@@ -17,8 +17,8 @@ use Rattle.layered.proofs.Rows.{power-fits}
 use Rattle.classify.proofs.Layers.{two-words, one-word}
 use Rattle.classify.proofs.Step.{bits-fit}
 use Rattle.folded.proofs.Tables.{folded-length, entries-most}
-use Rattle.fold.proofs.bytes_needed.Statement.{statement}
-use Rattle.fold.proofs.bytes_needed.Tie as tie
+use Rattle.ask.proofs.bytes_needed.Statement.{statement}
+use Rattle.ask.proofs.bytes_needed.Tie as tie
 
 abbrev Inv-loop : tie.InvT-loop
 Inv-loop circuit head counts frames states₀ t₀ states t = (t ≤ frames) × (states ≡ total t (stateCount circuit))
@@ -60,10 +60,9 @@ below i = omega (arith, i .loop-test .taken, start (i .before) .pre .0 .head-is)
 
 sum-more : (i : tie.In-loop Inv-loop μ-loop)
     → total (i .before .loop .t + 1) (stateCount (now (start (i .before) .args .circuit))) ≡ total (i .before .loop .t) (stateCount (now (start (i .before) .args .circuit))) + stateCount (now (start (i .before) .args .circuit)) (i .before .loop .t)
-unfolding total
-sum-more i = rw (add-one (i .before .loop .t))
+sum-more i = total-next (stateCount (now (start (i .before) .args .circuit))) (i .before .loop .t)
 
-count-is : (i : tie.In-loop Inv-loop μ-loop) → getD (start (i .before) .args .plan .counts) (i .before .loop .t) 0 ≡ stateCount (now (start (i .before) .args .circuit)) (i .before .loop .t)
+count-is : (i : tie.In-loop Inv-loop μ-loop) → getD (now (start (i .before) .args .counts)) (i .before .loop .t) 0 ≡ stateCount (now (start (i .before) .args .circuit)) (i .before .loop .t)
 count-is i = let a = start (i .before) in a .pre .1 .counts-are (i .before .loop .t) (omega (arith, i .loop-test .taken, a .pre .0 .head-is))
 
 -- the loop's head, from what follows it
@@ -89,24 +88,26 @@ product-small a = entries-small a (framesOf (now (a .args .circuit))) (omega ari
 mul-states : tie.Need-mul-states Inv-loop μ-loop
 mul-states c = omega (arith, within c)
 
-array-read-states : tie.Need-array-read-states Inv-loop μ-loop
-array-read-states c = omega (arith, within c)
+shared-slice-read-states : tie.Need-shared-slice-read-states Inv-loop μ-loop
+shared-slice-read-states c = omega (arith, within (c .before), start (c .before .before) .pre .1 .places)
 
 cast-states : tie.Need-cast-states Inv-loop μ-loop
-cast-states c = omega (arith, count-is c, sum-small (start (c .before)) (c .before .loop .t + 1) (below c), sum-more c)
+cast-states c = let i = c .before in omega (arith, count-is i, sum-small (start (i .before)) (i .before .loop .t + 1) (below i), sum-more i)
 
 add-states : tie.Need-add-states Inv-loop μ-loop
-add-states c = omega (arith, count-is c, c .before .loop .inv .1, sum-small (start (c .before)) (c .before .loop .t + 1) (below c), sum-more c)
+add-states c =
+    let i = c .before in
+    omega (arith, count-is i, i .before .loop .inv .1, sum-small (start (i .before)) (i .before .loop .t + 1) (below i), sum-more i)
 
 add-t : tie.Need-add-t Inv-loop μ-loop
-add-t c = omega (arith, within c)
+add-t c = omega (arith, within (c .before))
 
 loop-less : tie.Need-loop-less Inv-loop μ-loop
 loop-less c = omega arith
 
 loop-again : tie.Need-loop-again Inv-loop μ-loop
 unfolding total
-loop-again c = (omega arith, omega (arith, count-is c, c .before .loop .inv .1, sum-more c))
+loop-again c = let i = c .before in (omega arith, omega (arith, count-is i, i .before .loop .inv .1, sum-more i))
 
 head-length-requires : tie.Need-head-length-requires Inv-loop μ-loop
 head-length-requires c κs = omega (arith, start (c .before) .pre .0 .headed .sizes, start (c .before) .pre .0 .head-is)
@@ -136,7 +137,7 @@ bytes-needed-spec =
     μ-loop
     loop-holds
     mul-states
-    array-read-states
+    shared-slice-read-states
     cast-states
     add-states
     add-t

@@ -1,0 +1,2 @@
+-- The proofs of `commit`: laws by subject, lowest first.
+mod Compared

@@ -1,0 +1,40 @@
+-- `tff::tff_commit` meets its contract.
+-- Assumes nothing.
+use mathlib.Core.Path.{ap}
+use Rattle.answers.specs.Answer.{verdictNumbers}
+use Rattle.answers.proofs.Laws.{answer-kept, answer-put, buffer-kept, buffer-left}
+use borrow.Author.Needs.{needs}
+use Rattle.tff.proofs.tff_commit.Statement.{statement}
+use Rattle.tff.proofs.tff_commit.Tie as tie
+
+returns : tie.Need-returns
+returns c = (answer-kept _ _ (c .if1 .taken), (buffer-kept _ _ _ _ (c .if1 .taken), buffer-kept _ _ _ _ (c .if1 .taken)))
+
+commit-numbers-requires : tie.Need-commit-numbers-requires
+commit-numbers-requires c κs = search needs
+
+put-requires : tie.Need-put-requires
+put-requires c κs = search needs
+
+same-length : tie.Need-same-length
+same-length c = search needs
+
+same-length-2 : tie.Need-same-length-2
+same-length-2 c = search needs
+
+same-length-3 : tie.Need-same-length-3
+same-length-3 c = search needs
+
+returns-2 : tie.Need-returns-2
+returns-2 c =
+    let p = c .before .before in
+    let k = p .before .before .before .before .before .before in
+    let e = k .before .before .before in (
+      answer-put _ _ _ _ (e .if1 .left) (ap verdictNumbers (k .commit-numbers .ensures .0)) (p .put .ensures),
+      (buffer-left _ _ _ _ _ (e .if1 .left) (k .commit-numbers .ensures .1 .0), buffer-left _ _ _ _ _ (e .if1 .left) (k .commit-numbers .ensures .1 .1 .0)),
+    )
+
+pub tff-commit-spec : {M : Type 1} → statement M
+tff-commit-spec =
+    tie.close
+    (tie.spec returns commit-numbers-requires put-requires same-length same-length-2 same-length-3 returns-2)
