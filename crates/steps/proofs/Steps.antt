@@ -6,7 +6,7 @@ use native.Mathlib.Nat.{zero-add}
 use native.Mathlib.Omega.{arith}
 use lib.ListN.{length}
 use borrow.Author.Tests.{le-ltb, lt-leb, ne-eqb}
-use Rattle.verdict.specs.Judgements.{answer, refusalFigures, figures}
+use Rattle.verdict.specs.Judgements.{answer, refusalFigures, figures, andThen}
 use Rattle.verdict.specs.declared.Figures.{Figures}
 use Rattle.verdict.specs.declared.Refusal.{Refusal}
 use Rattle.verdict.specs.declared.Verdict.{Verdict}
@@ -15,10 +15,10 @@ use Rattle.verdict.proofs.Laws.{never, refusal-number, stop, go-on}
 use Rattle.sizes.specs.Sizes.{inputs, outputs, frames}
 use Rattle.layered.specs.States.{Words, none, more}
 use Rattle.layered.specs.Machines.{feed}
-use Rattle.table.specs.Table.{states, machine, headChecked, checked}
+use Rattle.table.specs.Table.{states, machine, checked}
 use Rattle.positions.specs.Positions.{placeChecked, positionChecked}
 use Rattle.positions.specs.declared.Position.{Position}
-use Rattle.steps.specs.Steps.{entryChecked, stepChecked, moved, handedBack, stepAfter, stepped, stepFigures}
+use Rattle.steps.specs.Steps.{entryChecked, moveChecked, stepChecked, moved, handedBack, stepAfter, stepped, stepFigures}
 use Rattle.steps.specs.declared.Stepped.{Stepped}
 use Rattle.steps.specs.declared.Stepped.the-variants.{Moved, Refused as Stopped}
 use Rattle.steps.specs.declared.StepFigures.{StepFigures}
@@ -46,10 +46,15 @@ module _ (b : List ℕ) (p : ℕ) (e : checked b ≡ answer 0 p) where
           lt-leb (states b (suc t)) (machine b .next t s w) (sound b p e .legal .next-is t s w ht hs hw),
         )
 
+    -- so does the move
+    pub move-passes : moveChecked b t s w ≡ answer 0 0
+    unfolding moveChecked
+    move-passes = rw (position-passes, entry-passes)
+
     -- a step from a state of a layer below T by a word below 2^n is accepted
     pub moves : stepped b t s w ≡ moved b t s w
     unfolding stepped stepChecked
-    moves = rw (head-accepts b p e .1, position-passes, entry-passes)
+    moves = rw (head-accepts b p e .1, move-passes)
 
   -- steps from a state give what the machine gives
   walks : {k : ℕ} {c : List ℕ} (t s : ℕ) → s < states b t → t + k ≤ frames b → Words (2 ^ inputs b) k c → walked b t s c ≡ feed (machine b) t s c
@@ -75,28 +80,19 @@ steps-feed b p e words r = walks b p e 0 0 (sound b p e .legal .start-is) (omega
 
 -- ---- what a step's answer tells
 
--- a step that is refused hands back the position it was given
-hands-back : (b : List ℕ) (t s w : ℕ) (x : Verdict) (r : Refusal) → figures x ≡ stepChecked b t s w → x ≡ Refused r → handedBack (refusalFigures r) t s ≡ stepped b t s w
-unfolding stepped
-hands-back b t s w x r e q = rw (← e, q, refusal-number r)
+-- an answer by the stages of its judgement
+module _ (b : List ℕ) (t s w : ℕ) where
+  -- one that refuses hands back the position that was given
+  hands-back : (x : Verdict) (f : Figures) (r : Refusal) → figures x ≡ f → x ≡ Refused r → handedBack (refusalFigures r) t s ≡ stepAfter f b t s w
+  hands-back x f r e q = rw (← e, q, refusal-number r)
 
--- a step's answer by its stages: the head refuses
-module _ (b : List ℕ) (t s w : ℕ) (x : Verdict) (ex : figures x ≡ headChecked b) where
-  pub refused-head : (r : Refusal) → x ≡ Refused r → handedBack (refusalFigures r) t s ≡ stepped b t s w
-  unfolding stepChecked
-  refused-head r q = hands-back b t s w x r (stop x (headChecked b) _ r ex q) q
+  -- a stage that refuses, whatever comes after it
+  pub stops : (x : Verdict) (f g : Figures) (r : Refusal) → figures x ≡ f → x ≡ Refused r → handedBack (refusalFigures r) t s ≡ stepAfter (andThen f g) b t s w
+  stops x f g r e q = hands-back x (andThen f g) r (stop x f g r e q) q
 
-  -- it accepts, and the position is refused
-  module _ (p : ℕ) (qx : x ≡ Accepted p) (y : Verdict) (ey : figures y ≡ positionChecked b t s w) where
-    pub refused-position : (r : Refusal) → y ≡ Refused r → handedBack (refusalFigures r) t s ≡ stepped b t s w
-    unfolding stepChecked
-    refused-position r q = hands-back b t s w y r (go-on x (headChecked b) _ _ p ex qx (stop y (positionChecked b t s w) _ r ey q)) q
-
-    -- both accept, and the entry answers
-    pub entry-answers : (q : ℕ) → y ≡ Accepted q → (f : StepFigures) → f ≡ stepAfter (entryChecked b t s w) b t s w → f ≡ stepped b t s w
-    unfolding stepped stepChecked
-    entry-answers q h f e =
-        e ∙ ap (λ (g : Figures). stepAfter g b t s w) (go-on x (headChecked b) _ _ p ex qx (go-on y (positionChecked b t s w) _ _ q ey h refl))
+  -- after a stage that accepts, what comes after it answers
+  pub goes-on : (x : Verdict) (f g : Figures) (p : ℕ) → figures x ≡ f → x ≡ Accepted p → (y : StepFigures) → y ≡ stepAfter g b t s w → y ≡ stepAfter (andThen f g) b t s w
+  goes-on x f g p e q y h = h ∙ ap (λ (k : Figures). stepAfter k b t s w) (go-on x f g g p e q refl)
 
 -- the answer x of a step that is accepted: the output and the position moved to, and no refusal
 module _ (b : List ℕ) (t s w : ℕ) (x : Stepped) (e : stepFigures x ≡ moved b t s w) where

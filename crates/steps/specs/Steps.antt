@@ -7,6 +7,7 @@ use Rattle.verdict.specs.Judgements.{answer, refusalFigures, refuse, andThen}
 use Rattle.verdict.specs.declared.Figures.{Figures}
 use Rattle.sizes.specs.Sizes.{outputs}
 use Rattle.positions.specs.Positions.{positionChecked}
+use Rattle.positions.specs.declared.Position.{Position}
 use Rattle.table.specs.Table.{states, outputsAt, nextsAt, entryAt, machine, headChecked}
 use Rattle.steps.specs.declared.Stepped.{Stepped}
 use Rattle.steps.specs.declared.Stepped.the-variants.{Moved, Refused}
@@ -19,10 +20,13 @@ entryChecked b t s w =
     (refuse (leb (states b (suc t)) (machine b .next t s w)) 5 (entryAt b (nextsAt b) t s w)
     (answer 0 0))
 
--- the verdict on a step: all of the table's order before 5, then 11, 10, 9, then 5
+-- the verdict on the move that a step makes: 11, 10, 9, then 5
+unfoldable pub moveChecked : List ℕ → (layer state word : ℕ) → Figures
+moveChecked b layer state word = andThen (positionChecked b layer state word) (entryChecked b layer state word)
+
+-- the verdict on a step: all of the table's order before 5, then that on the move
 unfoldable pub stepChecked : List ℕ → (layer state word : ℕ) → Figures
-stepChecked b layer state word =
-    andThen (headChecked b) (andThen (positionChecked b layer state word) (entryChecked b layer state word))
+stepChecked b layer state word = andThen (headChecked b) (moveChecked b layer state word)
 
 -- number, place, output, layer and state that a step returns: after acceptance it has moved on
 abbrev pub moved : List ℕ → (layer state word : ℕ) → StepFigures
@@ -39,6 +43,10 @@ stepAfter f b layer state word = cond (eqb (f .number) 0) (moved b layer state w
 -- what a step returns
 unfoldable pub stepped : List ℕ → (layer state word : ℕ) → StepFigures
 stepped b layer state word = stepAfter (stepChecked b layer state word) b layer state word
+
+-- the position in a step's answer
+abbrev pub positionOf : StepFigures → Position
+positionOf f = record { layer = f .layer; state = f .state }
 
 -- what document 01 gives each case of a step's answer
 abbrev pub stepFigures : Stepped → StepFigures

@@ -14,7 +14,7 @@ ghost use Rattle.verdict.specs.Judgements.{figures, answer};
 ghost use Rattle.sizes.specs.Sizes.{inputs, frames};
 ghost use Rattle.table.specs.Table.{states};
 ghost use Rattle.table.specs.Sound.{TableHeaded, layoutOf};
-ghost use Rattle.steps.specs.Steps.{entryChecked, stepAfter, stepped, stepFigures};
+ghost use Rattle.steps.specs.Steps.{entryChecked, moveChecked, stepAfter, stepped, positionOf, stepFigures};
 ghost use Rattle.steps.specs.Theorems.{StepReaches, StepsFeed};
 
 // What a step answers: the output and the position moved to, or the refusal and the position given.
@@ -57,6 +57,16 @@ impl Stepped {
         }
     }
 
+    // The position moved to, or the one handed back.
+    pub fn position(self) -> Position
+        ensures { λ r. ⌜ r ≡ positionOf (stepFigures self) ⌝ }
+    {
+        match self {
+            Stepped::Moved(_, position) => position,
+            Stepped::Refused(_, position) => position,
+        }
+    }
+
     // Its number and place alone.
     pub fn verdict(self) -> Verdict
         ensures { λ r. ⌜ figures r ≡ answer (stepFigures self .number) (stepFigures self .place) ⌝ }
@@ -95,7 +105,20 @@ fn read_entry(table: &[u8], layout: Layout, position: Position, word: usize) -> 
     Stepped::Moved(output as u16, moved)
 }
 
-// One step: the head, then the position and the word, then the entry are judged.
+// The move of a step, in a table whose head is accepted: the position and the word, then the entry are judged.
+pub fn move_on(table: &[u8], position: Position, word: u16) -> Stepped
+    requires { ⌜ TableHeaded (now table) ⌝ }
+    ensures { λ r. ⌜ stepFigures r ≡ stepAfter (moveChecked (now (table .entry)) (position .layer) (position .state) word) (now (table .entry)) (position .layer) (position .state) word ⌝ }
+{
+    let layout = Layout::read(table);
+    let placed = check_position(table, layout, position, word as usize);
+    if let Verdict::Refused(refusal) = placed {
+        return Stepped::Refused(refusal, position);
+    }
+    read_entry(table, layout, position, word as usize)
+}
+
+// One step: the head, then the move are judged.
 pub fn step(table: &[u8], position: Position, word: u16) -> Stepped
     ensures answer { λ r. ⌜ stepFigures r ≡ stepped (now (table .entry)) (position .layer) (position .state) word ⌝ }
     ensures reaches { λ r. ⌜ StepReaches (now (table .entry)) ⌝ }
@@ -105,10 +128,5 @@ pub fn step(table: &[u8], position: Position, word: u16) -> Stepped
     if let Verdict::Refused(refusal) = head {
         return Stepped::Refused(refusal, position);
     }
-    let layout = Layout::read(table);
-    let placed = check_position(table, layout, position, word as usize);
-    if let Verdict::Refused(refusal) = placed {
-        return Stepped::Refused(refusal, position);
-    }
-    read_entry(table, layout, position, word as usize)
+    move_on(table, position, word)
 }

@@ -76,7 +76,7 @@ quick-hold (r ∷ rs) = ap₂ (λ o h. agree o (r .expected) && h) (quick-outcom
 
 -- every row, computed
 quick : quickHold rows ≡ true
-unfolding quickHold quickOutcome outcomeOf agree rows circuit-quick folded-bytes table-checked folded.foldChecked folded.foldResult folded.askChecked folded.roomChecked folded.scratchAfter folded.cleared folded.scratchNeeded equal unfolded.unfoldResult steps.stepped steps.stepChecked positions.positionChecked positions.placeChecked steps.entryChecked
+unfolding quickHold quickOutcome outcomeOf agree rows circuit-quick folded-bytes table-checked folded.foldChecked folded.foldResult folded.askChecked folded.roomChecked folded.scratchAfter folded.cleared folded.scratchNeeded equal unfolded.unfoldResult steps.stepped steps.stepChecked steps.moveChecked positions.positionChecked positions.placeChecked steps.entryChecked
 quick = refl
 
 pub vectors-hold : hold rows ≡ true
