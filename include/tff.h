@@ -14,11 +14,12 @@
  * Input i is bit i-1 of a frame's input word, output j bit j-1 of its output word.
  *
  * A slice is passed as a pointer and a number of elements. The pointer is aligned and not null, also
- * where there are no elements. A slice that a call may write to shares no element with another.
+ * where there are no elements. A slice that a call may write to shares no element with another. A
+ * position is passed as such a pointer too, and shares no memory with a slice.
  *
  * Each call puts a number and a place into answer[0] and answer[1], tff_step three values more,
- * tff_price one, tff_ask 21; the rest of answer stays as it was. Where answer is too short for them,
- * nothing at all is changed.
+ * tff_price and tff_quiet_step one, tff_ask 21; the rest of answer stays as it was. Where answer is
+ * too short for them, nothing at all is changed.
  *
  *   number  place                       when
  *   0       bytes or words written,     accepted; what follows the result stays as it was
@@ -38,6 +39,8 @@
  *   12      length of the list          list of input words not T long, for tff_simulate count*T
  *   13      count given                 above 32 sequences
  *   14      0                           plan is not what asking returns for this circuit
+ *   15      index of the window from 0  first bad window; else 32 where there are above 32
+ *   16      0                           minute above 10,079
  *
  * A refused call changes nothing but answer and, as said here, scratch. tff_fold, tff_ask and
  * tff_commit need 2 * 2^(n*T) numbers of scratch. These end as zeros where the call is accepted, or
@@ -109,6 +112,28 @@ void tff_run(const uint8_t *table, size_t table_len,
 void tff_step(const uint8_t *table, size_t table_len,
               uint16_t layer, uint16_t state, uint16_t word,
               uint64_t *answer, size_t answer_len);
+
+/* A layer, and a state of it; the start is layer 0, state 0. */
+typedef struct tff_position {
+    size_t layer;
+    size_t state;
+} tff_position;
+
+/* One step from the position, as tff_step takes it, to the position that it then holds; in a quiet
+ * minute the output is 0, and the position moves all the same. Answers three values: number, place
+ * and output word. Minutes are those of the week, 0 to 10,079, from Monday midnight on. Windows has
+ * the first and last minute of up to 32 windows in turn, and a minute is quiet where some window
+ * holds it: from its first minute on, up to but not with its last, over the week's end where first is
+ * above last. They may overlap. A window is bad where a minute is above 10,079, where first is last,
+ * or where its last is missing. Refuses as the check without 5, then 15, 16, 11, 10, 9 (place 0),
+ * then 5 as tff_step; a refused step leaves the position as it was and gives output 0.
+ * Accepted: place 0. */
+void tff_quiet_step(const uint8_t *table, size_t table_len,
+                    const uint16_t *windows, size_t windows_len,
+                    uint16_t minute,
+                    tff_position *position,
+                    uint16_t word,
+                    uint64_t *answer, size_t answer_len);
 
 /* The price of a table in cents. Answers three values: number, place and cents. Charged are the
  * states of layers 0 to T-1: 1,800 each for the first 32, 950 for the next 224, 320 beyond; every

@@ -1,12 +1,14 @@
 //! Times of the proved library beside those of the plain implementation, one line a case; then of
-//! asking and committing beside folding, and of pricing beside checking, all proved.
+//! asking and committing beside folding, of pricing beside checking, and of steps with quiet hours
+//! beside steps without, all proved.
 //!
 //! The two take turns in one run; a line gives their median times and the ratio of these.
 
 use std::hint::black_box;
 use std::time::Instant;
 
-use reference::gen::{any_sequence, any_sequences, circuits, look_ahead, tables, Rng};
+use reference::gen::{any_sequence, any_sequences, any_windows, circuits, look_ahead, tables, Rng};
+use reference::quiet::MOST_WINDOWS;
 use reference::{examples, Circuit, Sizes, Table};
 
 /// For calls of which one is too short to be measured alone.
@@ -27,6 +29,8 @@ fn main() {
     each_planned(commit_beside_fold);
     heading("price", "check");
     price_beside_check();
+    heading("quiet step", "step");
+    quiet_step_beside_step();
 }
 
 fn heading(first: &str, second: &str) {
@@ -131,6 +135,37 @@ fn price_beside_check() {
         |_| tff::price(black_box(&table)),
         |_| tff::check_table(black_box(&table)),
     );
+}
+
+/// What quiet hours cost beyond the plain steps, from the start to the last layer.
+fn quiet_step_beside_step() {
+    let mut rng = Rng::new(1);
+    let sizes = Sizes::new(1, 1, 16);
+    let counts = tables::any_counts(&mut rng, &sizes, 4);
+    let table = tables::legal(&mut rng, sizes, counts).to_bytes();
+    let words = any_sequence(&mut rng, &sizes);
+    for count in [0, MOST_WINDOWS] {
+        let windows = any_windows(&mut rng, count);
+        MANY_CALLS.measure(
+            &format!("16 frames, {count} windows"),
+            &mut (),
+            |_| {
+                let mut board = tff::Board::new(black_box(&table), &windows);
+                for &word in &words {
+                    board.strike(black_box(600), word).expect("a legal table");
+                }
+                board.position()
+            },
+            |_| {
+                let (mut layer, mut state) = (0, 0);
+                for &word in &words {
+                    let stepped = tff::step(black_box(&table), layer, state, word);
+                    (layer, state) = (stepped.layer, stepped.state);
+                }
+                (layer, state)
+            },
+        );
+    }
 }
 
 fn million_entries() -> Vec<u8> {

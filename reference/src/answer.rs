@@ -32,6 +32,10 @@ pub const WORD_COUNT: u64 = 12;
 pub const SEQUENCES: u64 = 13;
 /// A plan that is not what asking returns for the circuit; place: 0.
 pub const PLAN: u64 = 14;
+/// A bad window; place: its index from 0. Else too many windows; place: the most.
+pub const WINDOW: u64 = 15;
+/// A minute that the week does not have; place: 0.
+pub const MINUTE: u64 = 16;
 
 pub fn accepted(place: usize) -> Answer {
     (0, place as u64)

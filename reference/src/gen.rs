@@ -4,6 +4,7 @@ pub mod circuits;
 pub mod look_ahead;
 pub mod tables;
 
+use crate::quiet::WEEK;
 use crate::sizes::Sizes;
 use crate::words::{set_word, word_at};
 
@@ -81,6 +82,18 @@ pub fn any_sequence(rng: &mut Rng, sizes: &Sizes) -> Vec<u16> {
 /// Legal input words of `count` sequences, one behind the other.
 pub fn any_sequences(rng: &mut Rng, sizes: &Sizes, count: usize) -> Vec<u16> {
     (0..count).flat_map(|_| any_sequence(rng, sizes)).collect()
+}
+
+/// `count` good windows, most of them short; some run over the week's end.
+pub fn any_windows(rng: &mut Rng, count: usize) -> Vec<u16> {
+    let mut windows = Vec::new();
+    for _ in 0..count {
+        let first = rng.below(WEEK);
+        let longest = rng.pick(&[2, 60, 480, WEEK - 1]);
+        let last = (first + rng.between(1, longest)) % WEEK;
+        windows.extend([first as u16, last as u16]);
+    }
+    windows
 }
 
 /// `bytes` with one fault: a bit or a word changed, bytes cut off or added. It may still be legal.

@@ -22,6 +22,13 @@ pub struct Head {
     pub counts: Vec<u16>,
 }
 
+/// A layer, and a state of it; the default is the start.
+#[derive(Clone, Copy, Debug, Default, PartialEq, Eq)]
+pub struct Position {
+    pub layer: usize,
+    pub state: usize,
+}
+
 /// What a step answers. A refused one gives the position back and output 0.
 #[derive(Clone, Copy, Debug, PartialEq, Eq)]
 pub struct Stepped {
@@ -72,7 +79,11 @@ fn outputs_of_run(table: &[u8], words: &[u16]) -> Result<Vec<u16>, Answer> {
 
 /// One step from the position `layer`, `state` on `word`.
 pub fn step(table: &[u8], layer: u16, state: u16, word: u16) -> Stepped {
-    match entry_of_step(table, layer, state, word) {
+    let position = Position {
+        layer: usize::from(layer),
+        state: usize::from(state),
+    };
+    match Head::read(table).and_then(|head| head.judge_step(table, position, word)) {
         Ok((output, next)) => Stepped {
             number: 0,
             place: 0,
@@ -88,25 +99,6 @@ pub fn step(table: &[u8], layer: u16, state: u16, word: u16) -> Stepped {
             state,
         },
     }
-}
-
-/// The output word and next state that a step reads.
-fn entry_of_step(table: &[u8], layer: u16, state: u16, word: u16) -> Result<(u16, u16), Answer> {
-    let head = Head::read(table)?;
-    let layer = usize::from(layer);
-    if layer > head.sizes.frames || state >= head.counts[layer] {
-        return Err(refused(POSITION, layer));
-    }
-    if layer == head.sizes.frames {
-        return Err(refused(LAST_LAYER, layer));
-    }
-    if !head.sizes.has_word(word) {
-        return Err(refused(WORD, 0));
-    }
-    let entry = head.entry(layer, state, word);
-    let output = head.judge_output(table, head.output_at(entry))?;
-    let next = head.judge_next(table, head.next_at(entry), layer)?;
-    Ok((output, next))
 }
 
 impl Head {
@@ -151,6 +143,28 @@ impl Head {
             }
         }
         Ok(())
+    }
+
+    /// The output word and next state that a step from any position reads, if it has them.
+    pub fn judge_step(
+        &self,
+        bytes: &[u8],
+        Position { layer, state }: Position,
+        word: u16,
+    ) -> Result<(u16, u16), Answer> {
+        if layer > self.sizes.frames || state >= usize::from(self.counts[layer]) {
+            return Err(refused(POSITION, layer));
+        }
+        if layer == self.sizes.frames {
+            return Err(refused(LAST_LAYER, layer));
+        }
+        if !self.sizes.has_word(word) {
+            return Err(refused(WORD, 0));
+        }
+        let entry = self.entry(layer, state as u16, word);
+        let output = self.judge_output(bytes, self.output_at(entry))?;
+        let next = self.judge_next(bytes, self.next_at(entry), layer)?;
+        Ok((output, next))
     }
 
     /// The output word at byte offset `at`, if it is in range.

@@ -57,13 +57,43 @@ pub fn counts() -> Vec<(Circuit, Vec<u16>)> {
     ]
 }
 
+/// Windows, a minute, and what parity's first step on the word 1 then answers. Where the
+/// minute is not quiet its output is 1; accepted, it leads to state 1 of layer 1.
+pub fn quiet_steps() -> Vec<(Vec<u16>, u16, [u64; 3])> {
+    // Sunday 22:00 to Monday 6:00.
+    let night = vec![9_960, 360];
+    let mut steps = vec![
+        (vec![], 0, [0, 0, 1]),
+        (vec![0, 1], 0, [0, 0, 0]),
+        (vec![0, 1], 1, [0, 0, 1]),
+        (vec![0, 10_079], 10_078, [0, 0, 0]),
+        (vec![0, 10_079], 10_079, [0, 0, 1]),
+        (vec![7], 0, [15, 0, 0]),
+        (vec![7, 7], 0, [15, 0, 0]),
+        (vec![0, 1, 7], 0, [15, 1, 0]),
+        (vec![0, 1, 10_080, 2], 0, [15, 1, 0]),
+        (vec![0, 1, 2, 10_080], 0, [15, 1, 0]),
+        ([0, 1].repeat(32), 0, [0, 0, 0]),
+        ([0, 1].repeat(33), 0, [15, 32, 0]),
+        (vec![7], 10_080, [15, 0, 0]),
+        (vec![], 10_080, [16, 0, 0]),
+    ];
+    let quiet = [9_960, 10_079, 0, 359].map(|minute| (minute, 0));
+    let not_quiet = [9_959, 360, 5_000].map(|minute| (minute, 1));
+    for (minute, output) in quiet.into_iter().chain(not_quiet) {
+        steps.push((night.clone(), minute, [0, 0, output]));
+    }
+    steps
+}
+
 #[cfg(test)]
 mod tests {
     use super::*;
     use crate::gen::{circuits, Rng};
     use crate::program::printed;
     use crate::{
-        ask, check_circuit, commit, fold, plain_fold, run, simulate, step, unfold, Sizes, Table,
+        ask, check_circuit, commit, fold, plain_fold, quiet_step, run, simulate, step, unfold,
+        Position, Sizes, Table,
     };
 
     /// The table that a circuit folds to; both ways to fold must find the same.
@@ -198,6 +228,18 @@ mod tests {
         let stepped = step(&to_bytes(&PARITY_TABLE), 2, 0, 0);
         assert_eq!((stepped.number, stepped.place), (10, 2));
         assert_eq!((stepped.output, stepped.layer, stepped.state), (0, 2, 0));
+    }
+
+    #[test]
+    fn parity_is_quiet_as_given() {
+        let table = to_bytes(&PARITY_TABLE);
+        for (windows, minute, expected) in quiet_steps() {
+            let mut position = Position::default();
+            let stepped = quiet_step(&table, &windows, minute, &mut position, 1);
+            assert_eq!(<[u64; 3]>::from(stepped), expected);
+            let moved = if expected[0] == 0 { 1 } else { 0 };
+            assert_eq!((position.layer, position.state), (moved, moved));
+        }
     }
 
     #[test]

@@ -1,4 +1,5 @@
-//! The C header: programs in C, compiled with it, print what the plain implementation computes.
+//! The C header: programs in C, compiled with it, print what the plain implementation computes, or what
+//! is worked out by hand.
 
 #[path = "common/child.rs"]
 mod child;
@@ -14,8 +15,8 @@ use child::written;
 use reference::vectors::{PARITY_PLAN, PARITY_TABLE};
 use reference::words::{to_bytes, words_at};
 use reference::{
-    ask, check_circuit, check_table, commit, examples, fold, price, reach, run, simulate, step,
-    unfold,
+    ask, check_circuit, check_table, commit, examples, fold, price, quiet_step, reach, run,
+    simulate, step, unfold, Position,
 };
 use root::root;
 
@@ -154,6 +155,20 @@ fn calls_lines() -> String {
         (36, 2, 0, 1),
         (36, 1, 0, 2),
     ];
+    let windows = [600, 660, 10_000, 50];
+    // Accepted, and refused with 1, 15, 16, 11, 11, 10, 9.
+    let quiet_steps = [
+        (0, 0, 36, 0, 600, 1),
+        (0, 0, 36, 4, 600, 1),
+        (1, 1, 36, 4, 50, 0),
+        (1, 1, 35, 4, 50, 0),
+        (1, 1, 36, 3, 50, 0),
+        (1, 1, 36, 4, 10_080, 0),
+        (usize::MAX, 1, 36, 4, 50, 0),
+        (1, usize::MAX, 36, 4, 50, 0),
+        (2, 0, 36, 4, 50, 0),
+        (1, 1, 36, 4, 50, 2),
+    ];
     let mut text = String::new();
     for length in [28, 27] {
         text += &line("check_circuit", |_, _| {
@@ -206,6 +221,17 @@ fn calls_lines() -> String {
             step(&table[..length], layer, state, word).into()
         });
     }
+    for (layer, state, length, numbers, minute, word) in quiet_steps {
+        let (table, windows) = (&table[..length], &windows[..numbers]);
+        let mut position = Position { layer, state };
+        text += &line("quiet_step", |_, _| {
+            quiet_step(table, windows, minute, &mut position, word).into()
+        });
+        writeln!(text, "position {} {}", position.layer, position.state).unwrap();
+    }
+    // Its answer is too short.
+    text += &line("quiet_step", |_, _| []);
+    text += "position 1 1\n";
     for length in [36, 35] {
         text += &line("price", |_, _| price(&table[..length]).into());
     }
@@ -241,6 +267,27 @@ fn listed(values: &[impl Display]) -> String {
 #[test]
 fn the_c_example_prints_what_the_plain_implementation_computes() {
     assert_eq!(printed("examples/parity.c"), example_lines());
+}
+
+/// What `examples/quiet.c` is to print: quiet from 22:00 up to 5:00, when the count is as without.
+const NIGHT: &str = "\
+Sunday 20:00: output 1, plain 1, layer 1, state 1
+Sunday 21:00: output 2, plain 2, layer 2, state 2
+Sunday 22:00: output 0, plain 3, layer 3, state 3
+Sunday 23:00: output 0, plain 0, layer 4, state 0
+Monday 00:00: output 0, plain 1, layer 5, state 1
+Monday 01:00: output 0, plain 2, layer 6, state 2
+Monday 02:00: output 0, plain 3, layer 7, state 3
+Monday 03:00: output 0, plain 0, layer 8, state 0
+Monday 04:00: output 0, plain 1, layer 9, state 1
+Monday 05:00: output 2, plain 2, layer 10, state 2
+Monday 06:00: output 3, plain 3, layer 11, state 3
+Monday 07:00: output 0, plain 0, layer 12, state 0
+";
+
+#[test]
+fn the_c_board_counts_on_through_a_quiet_night() {
+    assert_eq!(printed("examples/quiet.c"), NIGHT);
 }
 
 #[test]

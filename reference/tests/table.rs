@@ -5,10 +5,13 @@ mod common;
 mod evaluator;
 #[path = "common/faults.rs"]
 mod faults;
+#[path = "common/places.rs"]
+mod places;
 
 use common::{compare, seeds, short_answers_change_nothing, Case, Room, Seen};
 use evaluator::Evaluator;
 use faults::sizes_around_the_limits;
+use places::{places, places_around, Place};
 use reference::gen::{all_sizes, damaged, sizes_with, tables, Rng};
 use reference::table::Head;
 use reference::vectors::PARITY_TABLE;
@@ -37,9 +40,6 @@ fn call_run(file: &[u8], words: &[u16], result: &mut [u16], answer: &mut [u64]) 
         )
     }
 }
-
-/// Layer, state and word of a step.
-type Place = [u16; 3];
 
 fn call_step(file: &[u8], [layer, state, word]: Place, answer: &mut [u64]) {
     // SAFETY: each pointer and length is that of one slice.
@@ -75,35 +75,6 @@ fn step(seed: u64, file: &[u8], place: Place) -> [u64; 5] {
         |_, _| reference::step(file, layer, state, word).into(),
         |_, _, answer| call_step(file, place, answer),
     )
-}
-
-/// Every place that a table has an entry for.
-fn places(table: &Table) -> Vec<Place> {
-    let mut places = Vec::new();
-    for layer in 0..table.head.sizes.frames as u16 {
-        for state in 0..table.head.counts[usize::from(layer)] {
-            for word in 0..table.head.sizes.input_words() as u16 {
-                places.push([layer, state, word]);
-            }
-        }
-    }
-    places
-}
-
-/// Places within and just beyond what a table has, in every part.
-fn places_around(table: &Table) -> Vec<Place> {
-    let frames = table.head.sizes.frames as u16;
-    let words = table.head.sizes.input_words() as u16;
-    let mut places = Vec::new();
-    for layer in (0..frames + 3).chain([255, 256, u16::MAX]) {
-        let count = *table.head.counts.get(usize::from(layer)).unwrap_or(&1);
-        for state in [0, count - 1, count, count + 1, u16::MAX] {
-            for word in [0, words - 1, words, u16::MAX] {
-                places.push([layer, state, word]);
-            }
-        }
-    }
-    places
 }
 
 /// A small table, its sizes free.

@@ -2,13 +2,14 @@
 //!
 //! Safe calls of the proved library. Every call takes its memory from the caller, but for the list
 //! that `simulate` joins its sequences into, and answers with a number, 0 where it accepts and
-//! otherwise the reason of its refusal, and a place; `ask` gives a plan where it accepts. The meaning
-//! of all of them, and of every byte written, is that of `include/tff.h`.
+//! otherwise the reason of its refusal, and a place; `ask` gives a plan where it accepts, and a `Board`
+//! an output. The meaning of all of them, and of every byte written, is that of `include/tff.h`.
 
 mod circuit;
 mod fold;
 mod plan;
 mod price;
+mod quiet;
 mod reach;
 mod table;
 mod unfold;
@@ -19,6 +20,8 @@ pub use circuit::{check_circuit, simulate, simulate_one};
 pub use fold::fold;
 pub use plan::{ask, commit, Plan};
 pub use price::{price, Priced};
+pub use quiet::Board;
+pub use raw::Position;
 pub use reach::reach;
 pub use table::{check_table, run, step, Stepped};
 pub use unfold::unfold;

@@ -3,7 +3,16 @@
 //! # Safety
 //!
 //! A pointer is that of a slice of the length that follows it, and a slice that is written to
-//! shares no element with another.
+//! shares no element with another. A position is aligned and not null, and shares no memory with a
+//! slice.
+
+/// A layer, and a state of it; the default is the start.
+#[repr(C)]
+#[derive(Clone, Copy, Debug, Default, PartialEq, Eq)]
+pub struct Position {
+    pub layer: usize,
+    pub state: usize,
+}
 
 extern "C" {
     pub fn tff_check_circuit(
@@ -76,6 +85,18 @@ extern "C" {
         table_len: usize,
         layer: u16,
         state: u16,
+        word: u16,
+        answer: *mut u64,
+        answer_len: usize,
+    );
+
+    pub fn tff_quiet_step(
+        table: *const u8,
+        table_len: usize,
+        windows: *const u16,
+        windows_len: usize,
+        minute: u16,
+        position: *mut Position,
         word: u16,
         answer: *mut u64,
         answer_len: usize,

@@ -1,4 +1,4 @@
--- Laws of `answerAfter` and `bufferAfter`: what is stored stands in front, and too short an `answer` leaves all as it was. Assumes nothing.
+-- Laws of `answerAfter` and `lentAfter`: what is stored stands in front, and too short an `answer` leaves all as it was. Assumes nothing.
 use mathlib.Core.Path.{_≡_, sym, ap, ap₂, _∙_}
 use mathlib.Core.List.{List, [], _∷_, _++_}
 use Prim.Native.Nat.{ℕ, _+_, _≤_, _<_}
@@ -7,7 +7,7 @@ use native.Mathlib.Omega.{arith}
 use lib.ListN.{length, take, drop}
 use lib.Seq.{take-all, drop-drop, sets, sets-eq, paste}
 use borrow.Author.Tests.{lt-ltb, le-ltb}
-use Rattle.answers.specs.Answer.{filled, answerAfter, bufferAfter}
+use Rattle.answers.specs.Answer.{filled, answerAfter, lentAfter}
 
 -- numbers stored one behind the other
 pub fills : (numbers answer : List ℕ) → length numbers ≤ length answer → sets answer 0 numbers ≡ filled numbers answer
@@ -33,10 +33,11 @@ pub answer-put : (defined numbers answer now : List ℕ) → length defined ≤ 
 unfolding answerAfter
 answer-put defined numbers answer now h e q = rw (le-ltb _ _ h) (q ∙ ap (λ (l : List ℕ). filled l answer) e)
 
-pub buffer-kept : (count : ℕ) (answer after before : List ℕ) → length answer < count → before ≡ bufferAfter count answer after before
-unfolding bufferAfter
-buffer-kept count answer after before h = rw (lt-ltb _ _ h)
+module _ {A : Type 0} (count : ℕ) (answer : List ℕ) where
+  pub lent-kept : (after before : A) → length answer < count → before ≡ lentAfter count answer after before
+  unfolding lentAfter
+  lent-kept after before h = rw (lt-ltb _ _ h)
 
-pub buffer-left : (count : ℕ) (answer now after before : List ℕ) → count ≤ length answer → now ≡ after → now ≡ bufferAfter count answer after before
-unfolding bufferAfter
-buffer-left count answer now after before h e = rw (le-ltb _ _ h) e
+  pub lent-left : (now after before : A) → count ≤ length answer → now ≡ after → now ≡ lentAfter count answer after before
+  unfolding lentAfter
+  lent-left now after before h e = rw (le-ltb _ _ h) e

@@ -1,4 +1,4 @@
--- What the C interface leaves in `answer` and in the buffers beside it.
+-- What the C interface leaves in `answer` and in whatever else it is lent.
 use Prim.Native.Nat.{ℕ, _+_}
 use mathlib.Core.Bool.{cond}
 use mathlib.Core.List.{List, [], _∷_, _++_}
@@ -17,6 +17,10 @@ verdictNumbers f = f .number ∷ f .place ∷ []
 abbrev pub stepNumbers : StepFigures → List ℕ
 stepNumbers f = f .number ∷ f .place ∷ f .output ∷ f .layer ∷ f .state ∷ []
 
+-- a step of the board the output alone: the position is lent beside it
+abbrev pub quietNumbers : StepFigures → List ℕ
+quietNumbers f = f .number ∷ f .place ∷ f .output ∷ []
+
 -- and pricing the cents
 abbrev pub priceNumbers : PriceFigures → List ℕ
 priceNumbers f = f .number ∷ f .place ∷ f .cents ∷ []
@@ -29,13 +33,17 @@ filled numbers answer = numbers ++ drop (length numbers) answer
 unfoldable pub answerAfter : (numbers answer : List ℕ) → List ℕ
 answerAfter numbers answer = cond (ltb (length answer) (length numbers)) answer (filled numbers answer)
 
--- how many numbers a call answers: number and place; asking the plan too. In src/ these are associated constants of `Limits`.
+-- how many numbers a call answers: number and place; a step of the board the output too, and asking the plan. In src/ these are associated
+-- constants of `Limits`.
 abbrev pub verdictLength : ℕ
 verdictLength = 2
+
+abbrev pub quietLength : ℕ
+quietLength = 3
 
 abbrev pub askLength : ℕ
 askLength = verdictLength + planLength
 
--- what a call that answers so many leaves in another buffer: as the library's call does, but as before where `answer` is too short
-unfoldable pub bufferAfter : (count : ℕ) (answer after before : List ℕ) → List ℕ
-bufferAfter count answer after before = cond (ltb (length answer) count) before after
+-- what a call that answers so many leaves in whatever else it is lent: as the library's call does, but as before where `answer` is too short
+unfoldable pub lentAfter : {A : Type 0} (count : ℕ) (answer : List ℕ) (after before : A) → A
+lentAfter count answer after before = cond (ltb (length answer) count) before after

@@ -1,22 +1,28 @@
-// What a call of the C interface leaves in `answer`: number and place, and the further values of a step, of a price and of asking.
+// What a call of the C interface leaves in `answer`: number and place, and the further values of a step, of a step of the board, of a price
+// and of asking.
 use ask::plan::Asked;
 use price::PriceFigures;
 use steps::StepFigures;
+use steps::Stepped;
 use verdict::Verdict;
 ghost use mathlib.Core.Path.{_≡_};
 ghost use Prim.Native.Nat.{_≤_};
 ghost use lib.ListN.{length};
 ghost use Rattle.verdict.specs.Judgements.{figures};
+ghost use Rattle.steps.specs.Steps.{stepFigures};
 ghost use Rattle.ask.specs.Plan.{askNumbers};
-ghost use Rattle.answers.specs.Answer.{verdictNumbers, stepNumbers, priceNumbers, filled};
+ghost use Rattle.answers.specs.Answer.{verdictNumbers, stepNumbers, quietNumbers, priceNumbers, filled};
 
-// How many numbers a call answers: number and place; a step also output, layer and state; pricing also the cents; asking also the plan.
+// How many numbers a call answers: number and place; a step also output, layer and state; a step of the board also the output; pricing also
+// the cents; asking also the plan.
 pub struct Limits;
 
 impl Limits {
     pub const VERDICT: usize = 2;
 
     pub const STEP: usize = 5;
+
+    pub const QUIET: usize = 3;
 
     pub const PRICE: usize = 3;
 
@@ -43,6 +49,17 @@ pub fn put_step(step: StepFigures, answer: &mut [u64])
     answer[2] = step.output as u64;
     answer[3] = step.layer as u64;
     answer[4] = step.state as u64;
+}
+
+// Puts number, place and output of a step of the board into `answer`, which has room for them.
+pub fn put_quiet(step: Stepped, answer: &mut [u64])
+    requires { ⌜ length (quietNumbers (stepFigures step)) ≤ length (now answer) ⌝ }
+    ensures { λ _. ⌜ now (answer .exit) ≡ filled (quietNumbers (stepFigures step)) (now (answer .entry)) ⌝ }
+{
+    let heard = step.figures();
+    answer[0] = heard.number as u64;
+    answer[1] = heard.place as u64;
+    answer[2] = heard.output as u64;
 }
 
 // Puts all figures of a price into `answer`, which has room for them.

@@ -8,7 +8,8 @@ ghost use Rattle.verdict.specs.Judgements.{figures};
 ghost use Rattle.table.specs.Sound.{TableHeaded, layoutOf};
 ghost use Rattle.positions.specs.Positions.{placeChecked, positionChecked};
 
-// A position: a layer, and a state of it.
+// A position: a layer, and a state of it; in C `tff_position`.
+#[repr(C)]
 pub struct Position {
     pub layer: usize,
     pub state: usize,

@@ -4,6 +4,7 @@ use answers::Limits;
 use answers::put;
 use answers::put_ask;
 use answers::put_price;
+use answers::put_quiet;
 use answers::put_step;
 use positions::Position;
 use verdict::Verdict;
@@ -12,14 +13,15 @@ ghost use lib.ListN.{length};
 ghost use Rattle.circuit.specs.Circuit.{checked};
 ghost use Rattle.simulate.specs.Simulate.{simulated, simulationResult};
 ghost use Rattle.table.specs.Table.{checked as tableChecked};
-ghost use Rattle.steps.specs.Steps.{stepped};
+ghost use Rattle.steps.specs.Steps.{stepped, positionOf};
+ghost use Rattle.quiet.specs.Quiet.{quietStepped};
 ghost use Rattle.run.specs.Run.{ran, runResult};
 ghost use Rattle.folded.specs.Folded.{foldChecked, foldResult, scratchAfter};
 ghost use Rattle.folded.specs.Planned.{asked, commitChecked, commitResult};
 ghost use Rattle.price.specs.Price.{priced};
 ghost use Rattle.reach.specs.Reach.{reachChecked, reachResult};
 ghost use Rattle.unfolded.specs.Unfolded.{unfoldChecked, unfoldResult};
-ghost use Rattle.answers.specs.Answer.{verdictNumbers, stepNumbers, priceNumbers, answerAfter, verdictLength, askLength, bufferAfter};
+ghost use Rattle.answers.specs.Answer.{verdictNumbers, stepNumbers, quietNumbers, priceNumbers, answerAfter, verdictLength, quietLength, askLength, lentAfter};
 
 #[no_mangle]
 pub extern "C" fn tff_check_circuit(circuit: &[u8], answer: &mut [u64])
@@ -41,7 +43,7 @@ pub extern "C" fn tff_simulate(
     answer: &mut [u64],
 )
     ensures answer { λ _. ⌜ now (answer .exit) ≡ answerAfter (verdictNumbers (simulated (now (circuit .entry)) count (now (words .entry)) (length (now (result .entry))))) (now (answer .entry)) ⌝ }
-    ensures result { λ _. ⌜ now (result .exit) ≡ bufferAfter verdictLength (now (answer .entry)) (simulationResult (now (circuit .entry)) count (now (words .entry)) (now (result .entry))) (now (result .entry)) ⌝ }
+    ensures result { λ _. ⌜ now (result .exit) ≡ lentAfter verdictLength (now (answer .entry)) (simulationResult (now (circuit .entry)) count (now (words .entry)) (now (result .entry))) (now (result .entry)) ⌝ }
 {
     if answer.len() < Limits::VERDICT {
         return;
@@ -64,7 +66,7 @@ pub extern "C" fn tff_check_table(table: &[u8], answer: &mut [u64])
 #[no_mangle]
 pub extern "C" fn tff_run(table: &[u8], words: &[u16], result: &mut [u16], answer: &mut [u64])
     ensures answer { λ _. ⌜ now (answer .exit) ≡ answerAfter (verdictNumbers (ran (now (table .entry)) (now (words .entry)) (length (now (result .entry))))) (now (answer .entry)) ⌝ }
-    ensures result { λ _. ⌜ now (result .exit) ≡ bufferAfter verdictLength (now (answer .entry)) (runResult (now (table .entry)) (now (words .entry)) (now (result .entry))) (now (result .entry)) ⌝ }
+    ensures result { λ _. ⌜ now (result .exit) ≡ lentAfter verdictLength (now (answer .entry)) (runResult (now (table .entry)) (now (words .entry)) (now (result .entry))) (now (result .entry)) ⌝ }
 {
     if answer.len() < Limits::VERDICT {
         return;
@@ -89,6 +91,25 @@ pub extern "C" fn tff_step(table: &[u8], layer: u16, state: u16, word: u16, answ
 }
 
 #[no_mangle]
+pub extern "C" fn tff_quiet_step(
+    table: &[u8],
+    windows: &[u16],
+    minute: u16,
+    position: &mut Position,
+    word: u16,
+    answer: &mut [u64],
+)
+    ensures answer { λ _. ⌜ now (answer .exit) ≡ answerAfter (quietNumbers (quietStepped (now (table .entry)) (now (windows .entry)) minute (now (position .entry) .layer) (now (position .entry) .state) word)) (now (answer .entry)) ⌝ }
+    ensures position { λ _. ⌜ now (position .exit) ≡ lentAfter quietLength (now (answer .entry)) (positionOf (quietStepped (now (table .entry)) (now (windows .entry)) minute (now (position .entry) .layer) (now (position .entry) .state) word)) (now (position .entry)) ⌝ }
+{
+    if answer.len() < Limits::QUIET {
+        return;
+    }
+    let step = quiet::advance(table, windows, minute, position, word);
+    put_quiet(step, answer);
+}
+
+#[no_mangle]
 pub extern "C" fn tff_fold(
     circuit: &[u8],
     scratch: &mut [u16],
@@ -96,8 +117,8 @@ pub extern "C" fn tff_fold(
     answer: &mut [u64],
 )
     ensures answer { λ _. ⌜ now (answer .exit) ≡ answerAfter (verdictNumbers (foldChecked (now (circuit .entry)) (length (now (scratch .entry))) (length (now (result .entry))))) (now (answer .entry)) ⌝ }
-    ensures result { λ _. ⌜ now (result .exit) ≡ bufferAfter verdictLength (now (answer .entry)) (foldResult (now (circuit .entry)) (length (now (scratch .entry))) (now (result .entry))) (now (result .entry)) ⌝ }
-    ensures scratch { λ _. ⌜ now (scratch .exit) ≡ bufferAfter verdictLength (now (answer .entry)) (scratchAfter (now (circuit .entry)) (now (scratch .entry))) (now (scratch .entry)) ⌝ }
+    ensures result { λ _. ⌜ now (result .exit) ≡ lentAfter verdictLength (now (answer .entry)) (foldResult (now (circuit .entry)) (length (now (scratch .entry))) (now (result .entry))) (now (result .entry)) ⌝ }
+    ensures scratch { λ _. ⌜ now (scratch .exit) ≡ lentAfter verdictLength (now (answer .entry)) (scratchAfter (now (circuit .entry)) (now (scratch .entry))) (now (scratch .entry)) ⌝ }
 {
     if answer.len() < Limits::VERDICT {
         return;
@@ -109,7 +130,7 @@ pub extern "C" fn tff_fold(
 #[no_mangle]
 pub extern "C" fn tff_ask(circuit: &[u8], scratch: &mut [u16], answer: &mut [u64])
     ensures answer { λ _. ⌜ now (answer .exit) ≡ answerAfter (asked (now (circuit .entry)) (length (now (scratch .entry)))) (now (answer .entry)) ⌝ }
-    ensures scratch { λ _. ⌜ now (scratch .exit) ≡ bufferAfter askLength (now (answer .entry)) (scratchAfter (now (circuit .entry)) (now (scratch .entry))) (now (scratch .entry)) ⌝ }
+    ensures scratch { λ _. ⌜ now (scratch .exit) ≡ lentAfter askLength (now (answer .entry)) (scratchAfter (now (circuit .entry)) (now (scratch .entry))) (now (scratch .entry)) ⌝ }
 {
     if answer.len() < Limits::ASK {
         return;
@@ -127,8 +148,8 @@ pub extern "C" fn tff_commit(
     answer: &mut [u64],
 )
     ensures answer { λ _. ⌜ now (answer .exit) ≡ answerAfter (verdictNumbers (commitChecked (now (circuit .entry)) (now (plan .entry)) (length (now (scratch .entry))) (length (now (result .entry))))) (now (answer .entry)) ⌝ }
-    ensures result { λ _. ⌜ now (result .exit) ≡ bufferAfter verdictLength (now (answer .entry)) (commitResult (now (circuit .entry)) (now (plan .entry)) (length (now (scratch .entry))) (now (result .entry))) (now (result .entry)) ⌝ }
-    ensures scratch { λ _. ⌜ now (scratch .exit) ≡ bufferAfter verdictLength (now (answer .entry)) (scratchAfter (now (circuit .entry)) (now (scratch .entry))) (now (scratch .entry)) ⌝ }
+    ensures result { λ _. ⌜ now (result .exit) ≡ lentAfter verdictLength (now (answer .entry)) (commitResult (now (circuit .entry)) (now (plan .entry)) (length (now (scratch .entry))) (now (result .entry))) (now (result .entry)) ⌝ }
+    ensures scratch { λ _. ⌜ now (scratch .exit) ≡ lentAfter verdictLength (now (answer .entry)) (scratchAfter (now (circuit .entry)) (now (scratch .entry))) (now (scratch .entry)) ⌝ }
 {
     if answer.len() < Limits::VERDICT {
         return;
@@ -151,7 +172,7 @@ pub extern "C" fn tff_price(table: &[u8], answer: &mut [u64])
 #[no_mangle]
 pub extern "C" fn tff_reach(table: &[u8], result: &mut [u8], answer: &mut [u64])
     ensures answer { λ _. ⌜ now (answer .exit) ≡ answerAfter (verdictNumbers (reachChecked (now (table .entry)) (length (now (result .entry))))) (now (answer .entry)) ⌝ }
-    ensures result { λ _. ⌜ now (result .exit) ≡ bufferAfter verdictLength (now (answer .entry)) (reachResult (now (table .entry)) (now (result .entry))) (now (result .entry)) ⌝ }
+    ensures result { λ _. ⌜ now (result .exit) ≡ lentAfter verdictLength (now (answer .entry)) (reachResult (now (table .entry)) (now (result .entry))) (now (result .entry)) ⌝ }
 {
     if answer.len() < Limits::VERDICT {
         return;
@@ -163,7 +184,7 @@ pub extern "C" fn tff_reach(table: &[u8], result: &mut [u8], answer: &mut [u64])
 #[no_mangle]
 pub extern "C" fn tff_unfold(table: &[u8], result: &mut [u8], answer: &mut [u64])
     ensures answer { λ _. ⌜ now (answer .exit) ≡ answerAfter (verdictNumbers (unfoldChecked (now (table .entry)) (length (now (result .entry))))) (now (answer .entry)) ⌝ }
-    ensures result { λ _. ⌜ now (result .exit) ≡ bufferAfter verdictLength (now (answer .entry)) (unfoldResult (now (table .entry)) (now (result .entry))) (now (result .entry)) ⌝ }
+    ensures result { λ _. ⌜ now (result .exit) ≡ lentAfter verdictLength (now (answer .entry)) (unfoldResult (now (table .entry)) (now (result .entry))) (now (result .entry)) ⌝ }
 {
     if answer.len() < Limits::VERDICT {
         return;

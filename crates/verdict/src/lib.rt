@@ -24,6 +24,8 @@ pub enum Refusal {
     Count(usize),
     Sequences(usize),
     Plan(usize),
+    Window(usize),
+    Minute(usize),
 }
 
 // Document 01's number and place.
@@ -51,6 +53,8 @@ impl Refusal {
             Refusal::Count(place) => Figures { number: 12, place },
             Refusal::Sequences(place) => Figures { number: 13, place },
             Refusal::Plan(place) => Figures { number: 14, place },
+            Refusal::Window(place) => Figures { number: 15, place },
+            Refusal::Minute(place) => Figures { number: 16, place },
         }
     }
 }

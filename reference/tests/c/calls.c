@@ -8,6 +8,7 @@
 static uint64_t answer[24];
 static uint16_t numbers[9];
 static uint8_t bytes[77];
+static tff_position position;
 
 #define LENGTH(of) (sizeof of / sizeof of[0])
 #define FILL(of) for (size_t i = 0; i < LENGTH(of); i++) of[i] = 99
@@ -33,6 +34,11 @@ static void show(const char *call) {
 #define CALL_FOR(values, call, ...) (fill(), tff_##call(__VA_ARGS__, answer, values), show(#call))
 #define CALL(...) CALL_FOR(23, __VA_ARGS__)
 
+/* A step from a position, with an answer of so many values; shows the position left as well. */
+#define QUIET_STEP(values, at_layer, at_state, ...) \
+    (position.layer = at_layer, position.state = at_state, CALL_FOR(values, quiet_step, __VA_ARGS__), \
+     printf("position %zu %zu\n", position.layer, position.state))
+
 int main(void) {
     const uint8_t circuit[] = {1, 0, 1, 0, 2, 0, 5, 0,          /* n, m, T, gates */
                                2, 0, 3, 0, 7, 0, 2, 0, 11, 0,   /* left literals */
@@ -40,6 +46,7 @@ int main(void) {
     const uint16_t words[] = {1, 1, 1, 0, 2};
     uint8_t table[36];
     uint64_t plan[22] = {0};   /* 21 numbers, and a 0 behind them */
+    const uint16_t windows[] = {600, 660, 10000, 50};
 
     CALL(check_circuit, circuit, 28);
     CALL(check_circuit, circuit, 27);
@@ -88,6 +95,18 @@ int main(void) {
     CALL(step, table, 36, 1, 2, 1);
     CALL(step, table, 36, 2, 0, 1);
     CALL(step, table, 36, 1, 0, 2);
+
+    QUIET_STEP(23, 0, 0, table, 36, windows, 0, 600, &position, 1);
+    QUIET_STEP(23, 0, 0, table, 36, windows, 4, 600, &position, 1);
+    QUIET_STEP(23, 1, 1, table, 36, windows, 4, 50, &position, 0);
+    QUIET_STEP(23, 1, 1, table, 35, windows, 4, 50, &position, 0);
+    QUIET_STEP(23, 1, 1, table, 36, windows, 3, 50, &position, 0);
+    QUIET_STEP(23, 1, 1, table, 36, windows, 4, 10080, &position, 0);
+    QUIET_STEP(23, SIZE_MAX, 1, table, 36, windows, 4, 50, &position, 0);
+    QUIET_STEP(23, 1, SIZE_MAX, table, 36, windows, 4, 50, &position, 0);
+    QUIET_STEP(23, 2, 0, table, 36, windows, 4, 50, &position, 0);
+    QUIET_STEP(23, 1, 1, table, 36, windows, 4, 50, &position, 2);
+    QUIET_STEP(2, 1, 1, table, 36, windows, 4, 50, &position, 0);
 
     CALL(price, table, 36);
     CALL(price, table, 35);

@@ -6,7 +6,7 @@ use lib.ListN.{length}
 use Rattle.folded.proofs.Asked.{asked-length}
 use Rattle.ask.proofs.Answered.{plan-length}
 use Rattle.answers.specs.Answer.{askLength}
-use Rattle.answers.proofs.Laws.{answer-kept, answer-put, buffer-kept, buffer-left}
+use Rattle.answers.proofs.Laws.{answer-kept, answer-put, lent-kept, lent-left}
 use borrow.Author.Needs.{needs}
 use Rattle.tff.proofs.tff_ask.Statement.{statement}
 use Rattle.tff.proofs.tff_ask.Tie as tie
@@ -14,7 +14,7 @@ use Rattle.tff.proofs.tff_ask.Tie as tie
 returns : tie.Need-returns
 returns c =
     let a = c .before .before .before .before in
-    (answer-kept _ _ (omega (arith, c .if1 .taken, asked-length (now (a .args .circuit)) (length (now (a .args .scratch))))), buffer-kept askLength _ _ _ (omega (arith, c .if1 .taken)))
+    (answer-kept _ _ (omega (arith, c .if1 .taken, asked-length (now (a .args .circuit)) (length (now (a .args .scratch))))), lent-kept askLength _ _ _ (omega (arith, c .if1 .taken)))
 
 ask-requires : tie.Need-ask-requires
 ask-requires c κs = search needs
@@ -35,7 +35,7 @@ returns-2 c =
     let e = k .before .before in
     let a = e .before .before .before .before in (
       answer-put _ _ _ _ (omega (arith, e .if1 .left, asked-length (now (a .args .circuit)) (length (now (a .args .scratch))))) (k .ask .ensures .0) (p .put-ask .ensures),
-      buffer-left askLength _ _ _ _ (omega (arith, e .if1 .left)) (k .ask .ensures .1 .0),
+      lent-left askLength _ _ _ _ (omega (arith, e .if1 .left)) (k .ask .ensures .1 .0),
     )
 
 pub tff-ask-spec : {M : Type 1} → statement M

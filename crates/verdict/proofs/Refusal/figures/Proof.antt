@@ -48,6 +48,12 @@ enum-known-self-13 c = search needs
 enum-known-self-14 : tie.Need-enum-known-self-14
 enum-known-self-14 c = search needs
 
+enum-known-self-15 : tie.Need-enum-known-self-15
+enum-known-self-15 c = search needs
+
+enum-known-self-16 : tie.Need-enum-known-self-16
+enum-known-self-16 c = search needs
+
 returns : tie.Need-returns
 returns c = sym (ap refusalFigures (c .before .self .given .1))
 
@@ -90,6 +96,12 @@ returns-13 c = sym (ap refusalFigures (c .before .self13 .given .1))
 returns-14 : tie.Need-returns-14
 returns-14 c = sym (ap refusalFigures (c .before .self14 .given .1))
 
+returns-15 : tie.Need-returns-15
+returns-15 c = sym (ap refusalFigures (c .before .self15 .given .1))
+
+returns-16 : tie.Need-returns-16
+returns-16 c = sym (ap refusalFigures (c .before .self16 .given .1))
+
 pub figures-spec : {M : Type 1} → statement M
 figures-spec =
     tie.close
@@ -108,6 +120,8 @@ figures-spec =
     enum-known-self-12
     enum-known-self-13
     enum-known-self-14
+    enum-known-self-15
+    enum-known-self-16
     returns
     returns-2
     returns-3
@@ -121,4 +135,6 @@ figures-spec =
     returns-11
     returns-12
     returns-13
-    returns-14)
+    returns-14
+    returns-15
+    returns-16)
