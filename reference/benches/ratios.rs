@@ -152,7 +152,7 @@ fn quiet_step_beside_step() {
             |_| {
                 let mut board = tff::Board::new(black_box(&table), &windows);
                 for &word in &words {
-                    board.strike(black_box(600), word).expect("a legal table");
+                    board.step(black_box(600), word).expect("a legal table");
                 }
                 board.position()
             },

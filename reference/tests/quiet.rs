@@ -159,7 +159,7 @@ fn the_given_vectors_hold() {
             0 => (Ok(output as u16), position(1, 1)),
             _ => (refusal(number, place), position(0, 0)),
         };
-        assert_eq!(board.strike(minute, 1), answer);
+        assert_eq!(board.step(minute, 1), answer);
         assert_eq!(board.position(), after);
     }
 }
@@ -168,9 +168,9 @@ fn the_given_vectors_hold() {
 fn the_step_after_a_quiet_one_is_the_plain_one() {
     let table = to_bytes(&PARITY_TABLE);
     let mut board = Board::new(&table, &[600, 660]);
-    assert_eq!(board.strike(659, 1), Ok(0));
+    assert_eq!(board.step(659, 1), Ok(0));
     assert_eq!(board.position(), position(1, 1));
-    assert_eq!(board.strike(660, 0), Ok(1));
+    assert_eq!(board.step(660, 0), Ok(1));
     assert_eq!(board.position(), position(2, 0));
 }
 
@@ -394,7 +394,7 @@ fn all_but_the_output_of_a_quiet_minute_is_the_plain_step() {
 }
 
 #[test]
-fn whole_weeks_of_impulses_move_a_board_as_the_plain_table() {
+fn whole_weeks_of_steps_move_a_board_as_the_plain_table() {
     let mut seen = Seen::default();
     for seed in seeds(20) {
         let mut rng = Rng::new(seed);
@@ -414,7 +414,7 @@ fn whole_weeks_of_impulses_move_a_board_as_the_plain_table() {
             let plain = tff::step(&file, layer, state, word);
             let output = if quiet[minute] { 0 } else { plain.output };
             assert_eq!(
-                board.strike(minute as u16, word),
+                board.step(minute as u16, word),
                 Ok(output),
                 "minute {minute}"
             );
@@ -501,14 +501,14 @@ fn empty_slices_are_ordinary() {
 
 #[test]
 fn a_board_counts_on_through_a_quiet_night() {
-    // Counts the impulses modulo 4.
+    // Counts its inputs modulo 4.
     let table = folded(&circuits::few_states(1, 12, 200).to_bytes());
     // Monday 22:00 to Tuesday 5:00, Sunday 22:00 to Monday 5:00.
     let mut board = Board::new(&table, &[1_320, 1_740, 9_960, 300]);
     for evening in [20 * 60, 20 * 60 + 6 * 1_440] {
         let minutes = (0..12).map(|hour| (evening + 60 * hour) % 10_080);
         let outputs: Vec<u16> = minutes
-            .map(|minute| board.strike(minute, 1).expect("a legal table"))
+            .map(|minute| board.step(minute, 1).expect("a legal table"))
             .collect();
         assert_eq!(outputs, [1, 2, 0, 0, 0, 0, 0, 0, 0, 2, 3, 0]);
         assert_eq!(board.position(), position(12, 0));
@@ -518,19 +518,19 @@ fn a_board_counts_on_through_a_quiet_night() {
 }
 
 #[test]
-fn a_refused_impulse_leaves_the_board_as_it_was() {
+fn a_refused_step_leaves_the_board_as_it_was() {
     let table = to_bytes(&PARITY_TABLE);
     let mut board = Board::new(&table, &[]);
-    assert_eq!(board.strike(0, 1), Ok(1));
+    assert_eq!(board.step(0, 1), Ok(1));
     for (minute, word, answer) in [(10_080, 2, refusal(16, 0)), (0, 2, refusal(9, 0))] {
-        assert_eq!(board.strike(minute, word), answer);
+        assert_eq!(board.step(minute, word), answer);
         assert_eq!(board.position(), position(1, 1));
     }
-    assert_eq!(board.strike(0, 0), Ok(1));
-    assert_eq!(board.strike(0, 0), refusal(10, 2));
+    assert_eq!(board.step(0, 0), Ok(1));
+    assert_eq!(board.step(0, 0), refusal(10, 2));
     assert_eq!(board.position(), position(2, 0));
     board.reset();
-    assert_eq!(board.strike(0, 0), Ok(0));
-    assert_eq!(Board::new(&table, &[7]).strike(0, 1), refusal(15, 0));
-    assert_eq!(Board::new(&table[..35], &[7]).strike(0, 1), refusal(1, 35));
+    assert_eq!(board.step(0, 0), Ok(0));
+    assert_eq!(Board::new(&table, &[7]).step(0, 1), refusal(15, 0));
+    assert_eq!(Board::new(&table[..35], &[7]).step(0, 1), refusal(1, 35));
 }

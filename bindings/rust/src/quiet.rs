@@ -2,7 +2,7 @@
 
 use crate::{raw, Answer, Position};
 
-/// A table at one position, which each impulse moves on, and its quiet hours.
+/// A table at one position, which each step moves on, and its quiet hours.
 #[derive(Clone, Debug)]
 pub struct Board<'a> {
     table: &'a [u8],
@@ -12,7 +12,7 @@ pub struct Board<'a> {
 
 impl<'a> Board<'a> {
     /// A board at the start, layer 0 and state 0. `windows` has first and last minutes of the week in
-    /// turn. Nothing is judged before the first impulse.
+    /// turn. Nothing is judged before the first step.
     pub fn new(table: &'a [u8], windows: &'a [u16]) -> Board<'a> {
         Board {
             table,
@@ -32,7 +32,7 @@ impl<'a> Board<'a> {
 
     /// The output on the input word `word`, 0 where `minute` is quiet, or the refusal, which leaves
     /// the board where it was.
-    pub fn strike(&mut self, minute: u16, word: u16) -> Result<u16, Answer> {
+    pub fn step(&mut self, minute: u16, word: u16) -> Result<u16, Answer> {
         let mut answer = [0; 3];
         // SAFETY: each pointer and length is that of one slice; the position and `answer` are exclusive.
         unsafe {

@@ -1,6 +1,6 @@
 -- The proofs of `quiet`: laws by subject, lowest first.
 pub mod Minutes
 pub mod Stages
-pub mod Impulses
+pub mod Timed
 pub mod Walks
 pub mod Cited

@@ -23,7 +23,7 @@ use Rattle.steps.specs.declared.Stepped.{Stepped}
 use Rattle.steps.specs.declared.Stepped.the-variants.{Moved, Refused as Stopped}
 use Rattle.steps.specs.declared.StepFigures.{StepFigures}
 use Rattle.layered.specs.Machines.{reached}
-use Rattle.steps.specs.Theorems.{walked, StepReaches, StepsFeed}
+use Rattle.steps.specs.Theorems.{stepsBy, outputsOf, StepReaches, StepsFeed}
 use Rattle.layered.proofs.Feeding.{words-length, reached-append, reached-below}
 use Rattle.table.proofs.Accepted.{head-accepts, sound}
 
@@ -57,8 +57,8 @@ module _ (b : List ℕ) (p : ℕ) (e : checked b ≡ answer 0 p) where
     moves = rw (head-accepts b p e .1, move-passes)
 
   -- steps from a state give what the machine gives
-  walks : {k : ℕ} {c : List ℕ} (t s : ℕ) → s < states b t → t + k ≤ frames b → Words (2 ^ inputs b) k c → walked b t s c ≡ feed (machine b) t s c
-  unfolding walked feed
+  walks : {k : ℕ} {c : List ℕ} (t s : ℕ) → s < states b t → t + k ≤ frames b → Words (2 ^ inputs b) k c → outputsOf (stepsBy b (record { layer = t; state = s }) c) ≡ feed (machine b) t s c
+  unfolding stepsBy outputsOf feed
   walks t s h l none = refl
   walks t s h l (more {k = k} {w = w} {c = c} hw r) =
       rw (moves t s w (omega arith) h hw)

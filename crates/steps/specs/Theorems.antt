@@ -7,14 +7,21 @@ use Rattle.sizes.specs.Sizes.{inputs, frames}
 use Rattle.layered.specs.States.{Words}
 use Rattle.layered.specs.Machines.{feed, reached}
 use Rattle.table.specs.Table.{machine, checked}
-use Rattle.steps.specs.Steps.{stepped}
+use Rattle.positions.specs.declared.Position.{Position}
+use Rattle.steps.specs.Steps.{stepped, positionOf}
+use Rattle.steps.specs.declared.StepFigures.{StepFigures}
 
--- the outputs of steps by the words c, each from the layer and the state that the one before it handed back
-unfoldable pub walked : List ℕ → (layer state : ℕ) → List ℕ → List ℕ
-walked b layer state [] = []
-walked b layer state (w ∷ c) =
-    let f = stepped b layer state w in
-    f .output ∷ walked b (f .layer) (f .state) c
+-- what steps by the words c answer, each from the position that the one before it handed back
+unfoldable pub stepsBy : List ℕ → Position → List ℕ → List StepFigures
+stepsBy b p [] = []
+stepsBy b p (w ∷ c) =
+    let f = stepped b (p .layer) (p .state) w in
+    f ∷ stepsBy b (positionOf f) c
+
+-- the outputs in answers
+unfoldable pub outputsOf : List StepFigures → List ℕ
+outputsOf [] = []
+outputsOf (f ∷ fs) = f .output ∷ outputsOf fs
 
 -- from what t words have reached, a step by w is accepted, gives the machine's output, and hands back what the t + 1 words reach
 unfoldable pub StepReaches : List ℕ → Type 0
@@ -25,4 +32,4 @@ StepReaches b =
 
 -- so steps through a sequence, from the start, give what a run gives
 unfoldable pub StepsFeed : List ℕ → Type 0
-StepsFeed b = (p : ℕ) → checked b ≡ answer 0 p → (words : List ℕ) → Words (2 ^ inputs b) (frames b) words → walked b 0 0 words ≡ feed (machine b) 0 0 words
+StepsFeed b = (p : ℕ) → checked b ≡ answer 0 p → (words : List ℕ) → Words (2 ^ inputs b) (frames b) words → outputsOf (stepsBy b (record { layer = 0; state = 0 }) words) ≡ feed (machine b) 0 0 words

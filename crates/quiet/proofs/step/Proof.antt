@@ -13,7 +13,7 @@ use Rattle.steps.specs.declared.StepFigures.{StepFigures}
 use Rattle.quiet.specs.Windows.{isQuiet}
 use Rattle.quiet.specs.Quiet.{heard, quietStepped}
 use Rattle.quiet.proofs.Stages.{refused-head, refused-time, heard-as, refused-move}
-use Rattle.quiet.proofs.Impulses.{theorems}
+use Rattle.quiet.proofs.Timed.{theorems}
 use borrow.Author.Needs.{needs}
 use Rattle.quiet.proofs.step.Statement.{statement}
 use Rattle.quiet.proofs.step.Tie as tie

@@ -1,4 +1,4 @@
--- Impulses one after the other: what their acceptance tells, and when they are accepted. Assumes nothing.
+-- TimedWords one after the other: what their acceptance tells, and when they are accepted. Assumes nothing.
 use mathlib.Core.Path.{_≡_, refl, sym, ap, _∙_, subst}
 use mathlib.Core.Bool.{Bool, true, false, cond}
 use mathlib.Core.List.{List, [], _∷_, _++_}
@@ -19,17 +19,18 @@ use Rattle.table.specs.Table.{states, machine, headChecked, checked}
 use Rattle.table.proofs.Accepted.{head-accepts, sound}
 use Rattle.positions.specs.declared.Position.{Position}
 use Rattle.steps.specs.Steps.{moveChecked, stepChecked, stepAfter, stepped, moved, handedBack, positionOf}
+use Rattle.steps.specs.Theorems.{stepsBy, outputsOf}
 use Rattle.steps.specs.declared.StepFigures.{StepFigures}
 use Rattle.steps.proofs.Steps.{move-passes}
 use Rattle.quiet.specs.Limits.{weekMinutes}
 use Rattle.quiet.specs.Windows.{windowsChecked, timeChecked, isQuiet}
 use Rattle.quiet.specs.Quiet.{quietChecked, heard, quietStepped}
-use Rattle.quiet.specs.Theorems.{Impulse, wordsOf, struck, allAccepted, outputsOf, leftAt, silenced, plain, allTimed, QuietSteps, AfterSilence, QuietAccepts}
+use Rattle.quiet.specs.Theorems.{TimedWord, wordsOf, quietStepsBy, allAccepted, leftAt, silenced, allTimed, QuietSteps, AfterSilence, QuietAccepts}
 
 abbrev at : (t s : ℕ) → Position
 at t s = record { layer = t; state = s }
 
--- ---- one impulse
+-- ---- one word
 
 module _ (b ws : List ℕ) (m t s w : ℕ) where
   -- one that is accepted moves the board as the plain step does, which is accepted too
@@ -57,12 +58,12 @@ module _ (b ws : List ℕ) (m t s w : ℕ) where
 -- ---- many
 
 module _ (b ws : List ℕ) where
-  -- what is left of impulses behind the first, which was accepted and led to the state s of layer t
-  behind : (f : StepFigures) (t s : ℕ) (is : List Impulse) → positionOf f ≡ at t s → T (allAccepted (struck b ws (positionOf f) is)) → T (allAccepted (struck b ws (at t s) is))
-  behind f t s is e h = subst (λ (p : Position). T (allAccepted (struck b ws p is))) e h
+  -- what is left of timed words behind the first, which was accepted and led to the state s of layer t
+  behind : (f : StepFigures) (t s : ℕ) (is : List TimedWord) → positionOf f ≡ at t s → T (allAccepted (quietStepsBy b ws (positionOf f) is)) → T (allAccepted (quietStepsBy b ws (at t s) is))
+  behind f t s is e h = subst (λ (p : Position). T (allAccepted (quietStepsBy b ws p is))) e h
 
   pub quiet-steps : QuietSteps b ws
-  unfolding QuietSteps struck plain allAccepted leftAt outputsOf silenced wordsOf feed reached
+  unfolding QuietSteps quietStepsBy stepsBy allAccepted leftAt outputsOf silenced wordsOf feed reached
   quiet-steps p [] h = record { accepted = tt; position-same = refl; position-is = ap (λ (k : ℕ). at k (p .state)) (sym (add-zero (p .layer))); outputs-silenced = refl; outputs-are = refl }
   quiet-steps p (i ∷ is) h =
       let t = p .layer in
@@ -82,7 +83,7 @@ module _ (b ws : List ℕ) where
       }
 
   pub after-silence : AfterSilence b ws
-  unfolding AfterSilence struck allAccepted outputsOf wordsOf reached
+  unfolding AfterSilence quietStepsBy allAccepted outputsOf wordsOf reached
   after-silence p [] i h q =
       let x = both (eqb (quietStepped b ws (i .minute) (p .layer) (p .state) (i .word) .number) 0) _ .0 h in
       rw (accepted b ws (i .minute) (p .layer) (p .state) (i .word) (x .0) .0, q, add-zero (p .layer))
@@ -96,11 +97,11 @@ module _ (b ws : List ℕ) where
       let k : suc t + length is ≡ t + suc (length is) = omega arith in
       rw (a .0, ← k) (ap (λ (l : List ℕ). cond (isQuiet ws (j .minute)) 0 (machine b .out t s (j .word)) ∷ l) r)
 
-  -- impulses of up to T frames, from a state
+  -- words of up to T frames, from a state
   module _ (p q : ℕ) (e : checked b ≡ answer 0 p) (d : windowsChecked ws ≡ answer 0 q) where
-    accepts : {k : ℕ} (t s : ℕ) (is : List Impulse) → s < states b t → t + k ≤ frames b → Words (2 ^ inputs b) k (wordsOf is) → T (allTimed is)
-        → T (allAccepted (struck b ws (at t s) is))
-    unfolding struck allAccepted allTimed wordsOf
+    accepts : {k : ℕ} (t s : ℕ) (is : List TimedWord) → s < states b t → t + k ≤ frames b → Words (2 ^ inputs b) k (wordsOf is) → T (allTimed is)
+        → T (allAccepted (quietStepsBy b ws (at t s) is))
+    unfolding quietStepsBy allAccepted allTimed wordsOf
     accepts t s [] hs hk r m = tt
     accepts t s (i ∷ is) hs hk (more hw r) m =
         let x = both (ltb (i .minute) weekMinutes) _ .0 m in
