@@ -21,7 +21,7 @@ int main(void) {
                                2, 0, 3, 0, 7, 0, 2, 0, 11, 0,   /* left literals */
                                5, 0, 4, 0, 9, 0, 1, 0, 1, 0};   /* right literals */
     uint16_t scratch[8];
-    uint8_t table[36], reached[40], drawn[76];
+    uint8_t table[40], reached[40], drawn[76];
     uint64_t asked[23], answer[5];
     const uint64_t *plan = asked + 2;                           /* n, m, T, states of layers 0 to 16, bytes */
 
@@ -34,7 +34,8 @@ int main(void) {
     tff_commit(circuit, sizeof circuit, plan, 21, scratch, 8, table, sizeof table, answer, 2);
     printf("commit: %d, %d\n", (int)answer[0], (int)answer[1]);
 
-    unsigned frames = word(table, 2), entry = 4 + frames, entries = 0;
+    unsigned frames = word(table, 2), connected = 4 + frames, entry = connected + frames, entries = 0;
+    for (unsigned t = 0; t < frames; t++) printf("frame %u: connected %u\n", t + 1, word(table, connected + t));
     for (unsigned t = 0; t < frames; t++) entries += 2 * word(table, 3 + t);
     for (unsigned t = 0; t < frames; t++)
         for (unsigned s = 0; s < word(table, 3 + t); s++)

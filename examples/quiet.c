@@ -15,7 +15,7 @@ enum {
     WEEK = 7 * DAY
 };
 
-static uint8_t table[8 + 2 * FRAMES + 4 * ENTRIES];
+static uint8_t table[8 + 4 * FRAMES + 4 * ENTRIES];
 
 static uint8_t *put(uint8_t *at, unsigned word) {
     at[0] = word & 255;
@@ -29,8 +29,9 @@ static unsigned states(unsigned layer) {
 
 /* One input, two outputs: a state is the count so far, and each output the count with the word. */
 static void write_table(void) {
-    uint8_t *at = put(put(put(table, 1), 2), FRAMES), *next = table + 8 + 2 * FRAMES + 2 * ENTRIES;
+    uint8_t *at = put(put(put(table, 1), 2), FRAMES), *next = table + 8 + 4 * FRAMES + 2 * ENTRIES;
     for (unsigned t = 0; t <= FRAMES; t++) at = put(at, states(t));
+    for (unsigned t = 0; t < FRAMES; t++) at = put(at, 3);      /* both outputs are connected */
     for (unsigned t = 0; t < FRAMES; t++)
         for (unsigned s = 0; s < states(t); s++)
             for (unsigned w = 0; w < 2; w++) {

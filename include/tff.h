@@ -7,9 +7,12 @@
  *            Signal 0 is false, input i of frame t is signal (t-1)*n + i, gate g is signal n*T + g,
  *            with i, t and g from 1. A literal is twice a signal, plus 1 if inverted. Gate g is the
  *            AND of its two literals, each below 2*(n*T + g). The last m*T gates are the outputs,
- *            frame by frame; none depends on an input of a later frame.
- *   table:   n, m, T; T+1 state counts, first and last 1, others 1 to 32,768; all output words
- *            (below 2^m); all next states (below the next layer's count), by layer, state, word.
+ *            frame by frame; none depends on an input of a later frame. An output with 65,535 for
+ *            both literals is unconnected: it is 0, and no literal names its gate.
+ *   table:   n, m, T; T+1 state counts, first and last 1, others 1 to 32,768; T words of connected
+ *            outputs, bit j-1 of word t set where output j of frame t is connected (below 2^m); all
+ *            output words (connected outputs of their frame alone); all next states (below the next
+ *            layer's count); both by layer, state, word.
  *
  * Input i is bit i-1 of a frame's input word, output j bit j-1 of its output word.
  *
@@ -25,11 +28,15 @@
  *   0       bytes or words written,     accepted; what follows the result stays as it was
  *           or 0 without a result
  *   1       length given                not the length that the format asks for
- *   2       byte offset                 first size or count out of limits; n*T above 16 counts at T
- *   3       byte offset                 first literal that is too high, in the order of the file
+ *   2       byte offset                 first size, else first count, else first word of connected
+ *                                       outputs out of limits; n*T above 16 counts at T
+ *   3       byte offset                 first literal, in the order of the file, that is too high
+ *                                       or names an unconnected output; 65,535 is too high wherever
+ *                                       it does not mark an output
  *   4       output index from 0         first output that looks ahead: two sequences agree up to
  *                                       its frame and differ in it
- *   5       byte offset                 first output word, else first next state, out of range
+ *   5       byte offset                 first output word that sets what is not connected in its
+ *                                       frame, else first next state out of range
  *   6       numbers needed              scratch too short
  *   7       bytes or words needed       result too short
  *   8       gates needed                unfolding takes above 4,096 gates
@@ -70,8 +77,8 @@ void tff_simulate(const uint8_t *circuit, size_t circuit_len,
                   uint16_t *result, size_t result_len,
                   uint64_t *answer, size_t answer_len);
 
-/* Puts into result the table of the circuit, with the fewest states at every layer.
- * Refuses as the check, then 6, 7. Accepted: place is the bytes written. */
+/* Puts into result the table of the circuit, with the fewest states at every layer and the same
+ * outputs connected. Refuses as the check, then 6, 7. Accepted: place is the bytes written. */
 void tff_fold(const uint8_t *circuit, size_t circuit_len,
               uint16_t *scratch, size_t scratch_len,
               uint8_t *result, size_t result_len,
@@ -79,8 +86,8 @@ void tff_fold(const uint8_t *circuit, size_t circuit_len,
 
 /* The plan of a circuit: what its table takes, without writing it. Answers 23 values: number, place
  * and the 21 numbers of the plan, which are n, m, T, the state counts of layers 0 to 16, 0 beyond T,
- * and the bytes of the table. Refuses as the check, then 6, with a plan of zeros.
- * Accepted: place 0. */
+ * and the bytes of the table; which outputs are connected is no part of it. Refuses as the check,
+ * then 6, with a plan of zeros. Accepted: place 0. */
 void tff_ask(const uint8_t *circuit, size_t circuit_len,
              uint16_t *scratch, size_t scratch_len,
              uint64_t *answer, size_t answer_len);
@@ -94,7 +101,8 @@ void tff_commit(const uint8_t *circuit, size_t circuit_len,
                 uint8_t *result, size_t result_len,
                 uint64_t *answer, size_t answer_len);
 
-/* Judges a table: 1, 2, 1, 2, 1, 5. Accepted: place 0. */
+/* Judges a table: 1, 2, 1 (under 8 + 4*T bytes), 2 (all counts, then all words of connected
+ * outputs), 1, 5. Accepted: place 0. */
 void tff_check_table(const uint8_t *table, size_t table_len,
                      uint64_t *answer, size_t answer_len);
 
@@ -107,8 +115,9 @@ void tff_run(const uint8_t *table, size_t table_len,
 
 /* One step from a position, a layer and a state, on an input word; the start is layer 0, state 0.
  * Answers five values: number, place, output word, and the layer and state reached. Refuses as the
- * check without 5, then 11, 10, 9 (place 0), then 5 for the one entry read, output before next; a
- * refused step gives the position back and output 0. Accepted: place 0. */
+ * check without 5, then 11, 10, 9 (place 0), then 5 for the one entry read, output (by what frame
+ * layer+1 connects) before next; a refused step gives the position back and output 0.
+ * Accepted: place 0. */
 void tff_step(const uint8_t *table, size_t table_len,
               uint16_t layer, uint16_t state, uint16_t word,
               uint64_t *answer, size_t answer_len);
@@ -153,7 +162,7 @@ void tff_reach(const uint8_t *table, size_t table_len,
                uint8_t *result, size_t result_len,
                uint64_t *answer, size_t answer_len);
 
-/* Puts into result a circuit whose outputs are the table's.
+/* Puts into result a circuit whose outputs are the table's, the same of them connected.
  * Refuses as the check, then 8, 7. Accepted: place is the bytes written. */
 void tff_unfold(const uint8_t *table, size_t table_len,
                 uint8_t *result, size_t result_len,

@@ -41,7 +41,7 @@ fn heading(first: &str, second: &str) {
 fn circuit_level() {
     let sizes = Sizes::new(2, 4, 8);
     let mut rng = Rng::new(1);
-    let circuit = circuits::legal(&mut rng, sizes, Circuit::MOST_GATES).to_bytes();
+    let circuit = circuits::connected(&mut rng, sizes, Circuit::MOST_GATES).to_bytes();
     let words = any_sequence(&mut rng, &sizes);
     check_line("check 4096 gates", &MANY_CALLS, &circuit);
     let mut result = vec![0; sizes.frames];
@@ -53,12 +53,12 @@ fn circuit_level() {
     );
     simulate_together_line(&circuit, &sizes);
     // Outputs lead to later inputs without effect, which all 65536 sequences have to show.
-    let clean = circuits::legal(&mut rng, sizes, 200);
+    let clean = circuits::connected(&mut rng, sizes, 200);
     let crossed = look_ahead::crossed_out(&mut rng, &clean, Circuit::MOST_GATES).to_bytes();
     let few = Runs { runs: 3, calls: 1 };
     check_line("check 4096 gates, crossed out", &few, &crossed);
     // The most outputs and nothing else: finding their frames takes more of the time than elsewhere.
-    let outputs = circuits::legal(&mut rng, Sizes::new(1, 16, 16), 256).to_bytes();
+    let outputs = circuits::connected(&mut rng, Sizes::new(1, 16, 16), 256).to_bytes();
     check_line("check 256 outputs over 16 frames", &MANY_CALLS, &outputs);
 }
 
@@ -142,7 +142,7 @@ fn quiet_step_beside_step() {
     let mut rng = Rng::new(1);
     let sizes = Sizes::new(1, 1, 16);
     let counts = tables::any_counts(&mut rng, &sizes, 4);
-    let table = tables::legal(&mut rng, sizes, counts).to_bytes();
+    let table = tables::connected(&mut rng, sizes, counts).to_bytes();
     let words = any_sequence(&mut rng, &sizes);
     for count in [0, MOST_WINDOWS] {
         let windows = any_windows(&mut rng, count);
@@ -170,7 +170,7 @@ fn quiet_step_beside_step() {
 
 fn million_entries() -> Vec<u8> {
     let sizes = Sizes::new(6, 9, 2);
-    let table = tables::legal(&mut Rng::new(1), sizes, vec![1, 15_624, 1]);
+    let table = tables::connected(&mut Rng::new(1), sizes, vec![1, 15_624, 1]);
     assert_eq!(table.head.entries(), 1_000_000);
     table.to_bytes()
 }
@@ -180,7 +180,7 @@ fn most_states() -> Vec<u8> {
     let sizes = Sizes::new(1, 1, 16);
     let mut counts = vec![Table::MOST_STATES; sizes.frames + 1];
     (counts[0], counts[sizes.frames]) = (1, 1);
-    tables::legal(&mut Rng::new(1), sizes, counts).to_bytes()
+    tables::connected(&mut Rng::new(1), sizes, counts).to_bytes()
 }
 
 /// Folding with the most sequences, to few and to many states.
@@ -194,7 +194,7 @@ fn fold_level() {
     let mut rng = Rng::new(1);
     let sizes = Sizes::new(2, 2, 8);
     fold_line("frame by frame", &circuits::unrolled(&mut rng, sizes, 150));
-    let any_order = circuits::legal(&mut rng, sizes, Circuit::MOST_GATES);
+    let any_order = circuits::connected(&mut rng, sizes, Circuit::MOST_GATES);
     fold_line("any order", &any_order);
 }
 

@@ -5,14 +5,15 @@ pub type Answer = (u64, u64);
 
 /// A length under the head's, or not the exact one; place: the length given.
 pub const LENGTH: u64 = 1;
-/// A size or count out of limits; place: its byte offset.
+/// A size, a count or a word of connected outputs out of limits; place: its byte offset.
 pub const SIZE: u64 = 2;
-/// A literal that is too high; place: its byte offset.
+/// A literal that is too high or names an unconnected output; place: its byte offset.
 pub const LITERAL: u64 = 3;
 /// An output that looks ahead: it can differ where all words up to its frame agree; place: its index
 /// from 0.
 pub const LOOKS_AHEAD: u64 = 4;
-/// An output word or next state out of range; place: its byte offset.
+/// An output word that sets what is not connected, or a next state out of range; place: its byte
+/// offset.
 pub const ENTRY: u64 = 5;
 /// Scratch too short; place: the numbers needed.
 pub const SCRATCH: u64 = 6;

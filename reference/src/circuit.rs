@@ -3,12 +3,14 @@
 use crate::answer::{
     accepted, deliver, refused, Answer, LENGTH, LITERAL, LOOKS_AHEAD, SEQUENCES, SIZE,
 };
+use crate::gates::UNCONNECTED;
 use crate::sizes::Sizes;
 use crate::words::{to_bytes, word_at, words_at};
 
 const HEAD: usize = 8;
 
-/// A circuit (the papers' chart). Gate `g`, from 0, is the AND of `left[g]` and `right[g]`.
+/// A circuit (the papers' chart). Gate `g`, from 0, is the AND of `left[g]` and `right[g]`; an output
+/// that has `UNCONNECTED` for both is false.
 #[derive(Clone, Debug, PartialEq, Eq)]
 pub struct Circuit {
     pub sizes: Sizes,
@@ -95,21 +97,66 @@ impl Circuit {
         2 * (self.sizes.input_signals() + gate + 1)
     }
 
+    /// The literal that names gate `gate`, from 0: the first that the gate itself may not have.
+    pub fn literal(&self, gate: usize) -> u16 {
+        self.literal_limit(gate) as u16
+    }
+
     /// The first gate of the outputs, from 0.
     pub fn first_output(&self) -> usize {
         self.gates() - self.sizes.output_gates()
     }
 
+    /// Whether gate `gate`, from 0, is an output that has the mark of nothing connected.
+    pub fn is_unconnected(&self, gate: usize) -> bool {
+        gate >= self.first_output()
+            && self.left[gate] == UNCONNECTED
+            && self.right[gate] == UNCONNECTED
+    }
+
+    /// Gives gate `gate`, from 0, that mark.
+    pub fn mark_unconnected(&mut self, gate: usize) {
+        (self.left[gate], self.right[gate]) = (UNCONNECTED, UNCONNECTED);
+    }
+
+    /// By frame, a word with the bits of the connected outputs.
+    pub fn connected(&self) -> Vec<u16> {
+        let Sizes {
+            outputs, frames, ..
+        } = self.sizes;
+        let gate = |frame, output| self.first_output() + frame * outputs + output;
+        (0..frames)
+            .map(|frame| {
+                (0..outputs)
+                    .map(|output| u16::from(!self.is_unconnected(gate(frame, output))) << output)
+                    .sum()
+            })
+            .collect()
+    }
+
     /// File order: all left literals, then all right ones.
     fn judge_literals(&self) -> Result<(), Answer> {
-        let limits = (0..self.gates()).map(|gate| self.literal_limit(gate));
+        let gates = 0..self.gates();
         let literals = self.left.iter().chain(&self.right);
         match literals
-            .zip(limits.clone().chain(limits))
-            .position(|(&literal, limit)| usize::from(literal) >= limit)
+            .zip(gates.clone().chain(gates))
+            .position(|(&literal, gate)| !self.is_valid(literal, gate))
         {
             Some(index) => Err(refused(LITERAL, HEAD + 2 * index)),
             None => Ok(()),
+        }
+    }
+
+    /// Whether a literal of `gate` is part of its mark, or names an earlier signal that is no
+    /// unconnected output.
+    fn is_valid(&self, literal: u16, gate: usize) -> bool {
+        if self.is_unconnected(gate) {
+            return true;
+        }
+        let first_gate = 1 + self.sizes.input_signals();
+        match usize::from(literal / 2).checked_sub(first_gate) {
+            Some(named) => named < gate && !self.is_unconnected(named),
+            None => true,
         }
     }
 
@@ -142,12 +189,15 @@ impl Circuit {
     }
 
     /// The set of inputs that each signal's gates lead to: bit k for input k, counted from 0 over all
-    /// frames.
+    /// frames. An unconnected output leads to none.
     fn inputs_reached(&self) -> Vec<u32> {
         let mut reached = vec![0];
         reached.extend((0..self.sizes.input_signals()).map(|input| 1 << input));
-        for (&left, &right) in self.left.iter().zip(&self.right) {
-            reached.push(reached[usize::from(left / 2)] | reached[usize::from(right / 2)]);
+        for (gate, (&left, &right)) in self.left.iter().zip(&self.right).enumerate() {
+            reached.push(match self.is_unconnected(gate) {
+                true => 0,
+                false => reached[usize::from(left / 2)] | reached[usize::from(right / 2)],
+            });
         }
         reached
     }
@@ -168,7 +218,7 @@ impl Circuit {
             .collect()
     }
 
-    /// The value of each signal on `words`.
+    /// The value of each signal on `words`; an unconnected output stays false.
     pub fn values(&self, words: &[u16]) -> Vec<bool> {
         let first_gate = 1 + self.sizes.input_signals();
         let mut values = vec![false; first_gate + self.gates()];
@@ -178,8 +228,10 @@ impl Circuit {
             }
         }
         for (gate, (&left, &right)) in self.left.iter().zip(&self.right).enumerate() {
-            let both = literal_value(&values, left) & literal_value(&values, right);
-            values[first_gate + gate] = both;
+            if !self.is_unconnected(gate) {
+                let both = literal_value(&values, left) & literal_value(&values, right);
+                values[first_gate + gate] = both;
+            }
         }
         values
     }
@@ -278,7 +330,7 @@ mod tests {
         for (inputs, frames) in [(1, 10), (2, 5), (5, 2), (3, 3)] {
             let sizes = Sizes::new(inputs, 2, frames);
             let early = look_ahead::outputs_before_last_frame(&sizes);
-            let circuit = circuits::legal(&mut rng, sizes, 60);
+            let circuit = circuits::connected(&mut rng, sizes, 60);
             let looking = look_ahead::inverted_on(
                 &circuit,
                 rng.below(early),

@@ -1,7 +1,7 @@
 //! Small circuits that the papers name.
 
 use crate::circuit::Circuit;
-use crate::gates::{not, Gates, FALSE};
+use crate::gates::{not, Gates, FALSE, UNCONNECTED};
 use crate::sizes::Sizes;
 
 /// Each output word is the parity of the inputs so far, over two frames.
@@ -20,6 +20,15 @@ pub fn crossed() -> Circuit {
         sizes: Sizes::new(1, 1, 2),
         left: vec![4, 2, 3, 9, 2, 13],
         right: vec![5, 5, 4, 11, 7, 1],
+    }
+}
+
+/// Parity with nothing connected to its first output.
+pub fn unconnected() -> Circuit {
+    Circuit {
+        sizes: Sizes::new(1, 1, 2),
+        left: vec![2, 3, 7, UNCONNECTED, 11],
+        right: vec![5, 4, 9, UNCONNECTED, 1],
     }
 }
 
@@ -42,8 +51,18 @@ pub fn delayed() -> Circuit {
     gates.finish(&[FALSE, FALSE, input])
 }
 
-/// Three-bit adder, one bit of both numbers a frame: sum bits, and in the last frame the carry.
+/// Three-bit adder, one bit of both numbers a frame: sum bits, and in the last frame the carry. The
+/// empty outputs before it are false.
 pub fn adder() -> Circuit {
+    adder_with_empty(FALSE)
+}
+
+/// The adder with nothing connected to its empty outputs.
+pub fn unconnected_adder() -> Circuit {
+    adder_with_empty(UNCONNECTED)
+}
+
+fn adder_with_empty(empty: u16) -> Circuit {
     let mut gates = Gates::new(Sizes::new(2, 2, 3));
     let mut carry = FALSE;
     let mut outputs = Vec::new();
@@ -54,7 +73,7 @@ pub fn adder() -> Circuit {
         let both = gates.and(a, b);
         let passed = gates.and(half, carry);
         carry = gates.or(both, passed);
-        outputs.extend([sum, if frame == 2 { carry } else { FALSE }]);
+        outputs.extend([sum, if frame == 2 { carry } else { empty }]);
     }
     gates.finish(&outputs)
 }

@@ -59,6 +59,7 @@ pub fn table_by_definition(circuit: &Circuit) -> Table {
         head: Head {
             sizes,
             counts: smallest.iter().map(|of| of.len() as u16).collect(),
+            connected: circuit.connected(),
         },
         output_words: Vec::new(),
         next_states: Vec::new(),

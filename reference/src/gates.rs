@@ -6,6 +6,8 @@ use crate::sizes::Sizes;
 /// The literals of the constants.
 pub const FALSE: u16 = 0;
 pub const TRUE: u16 = 1;
+/// What an output gate has for both literals where nothing is connected to it. It names no signal.
+pub const UNCONNECTED: u16 = u16::MAX;
 
 /// The literal of the opposite value.
 pub fn not(literal: u16) -> u16 {
@@ -28,13 +30,19 @@ impl Gates {
         }
     }
 
-    /// The gates of `circuit`, to go on from, and the literals of its outputs.
+    /// The gates of `circuit`, to go on from, and the literals of its outputs. Unconnected ones leave
+    /// gates that are false.
     pub fn reopened(circuit: &Circuit) -> (Gates, Vec<u16>) {
-        // The first literal that is too high for a gate is the gate's own.
-        let outputs = (circuit.first_output()..circuit.gates())
-            .map(|gate| circuit.literal_limit(gate) as u16)
-            .collect();
-        let circuit = circuit.clone();
+        let mut circuit = circuit.clone();
+        let mut outputs = Vec::new();
+        for gate in circuit.first_output()..circuit.gates() {
+            if circuit.is_unconnected(gate) {
+                outputs.push(UNCONNECTED);
+                (circuit.left[gate], circuit.right[gate]) = (FALSE, FALSE);
+            } else {
+                outputs.push(circuit.literal(gate));
+            }
+        }
         (Gates { circuit }, outputs)
     }
 
@@ -50,7 +58,7 @@ impl Gates {
     pub fn and(&mut self, left: u16, right: u16) -> u16 {
         self.circuit.left.push(left);
         self.circuit.right.push(right);
-        (2 * (self.circuit.sizes.input_signals() + self.count())) as u16
+        self.circuit.literal(self.count() - 1)
     }
 
     pub fn or(&mut self, left: u16, right: u16) -> u16 {
@@ -76,7 +84,8 @@ impl Gates {
     /// Ends the circuit with an output gate for each of `outputs`, frame by frame.
     pub fn finish(mut self, outputs: &[u16]) -> Circuit {
         for &output in outputs {
-            self.and(output, TRUE);
+            let unconnected = output == UNCONNECTED;
+            self.and(output, if unconnected { UNCONNECTED } else { TRUE });
         }
         self.into_circuit()
     }

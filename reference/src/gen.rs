@@ -72,6 +72,17 @@ pub fn any_sizes(rng: &mut Rng, most_signals: usize) -> Sizes {
     rng.pick(&sizes)
 }
 
+/// By frame, a word with the bits of the outputs that are to be connected: all, none or any.
+pub fn any_connected(rng: &mut Rng, sizes: &Sizes) -> Vec<u16> {
+    let every = sizes.every_output();
+    (0..sizes.frames)
+        .map(|_| {
+            let any = rng.word() & every;
+            rng.pick(&[every, 0, any, any])
+        })
+        .collect()
+}
+
 /// One legal input word a frame.
 pub fn any_sequence(rng: &mut Rng, sizes: &Sizes) -> Vec<u16> {
     (0..sizes.frames)

@@ -48,8 +48,13 @@ fn table_by_search(circuit: &Circuit) -> Table {
     }
     counts.reverse();
     let (output_words, next_states) = entries.into_iter().rev().unzip();
+    let connected = circuit.connected();
     Table {
-        head: Head { sizes, counts },
+        head: Head {
+            sizes,
+            counts,
+            connected,
+        },
         output_words,
         next_states,
     }

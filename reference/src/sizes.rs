@@ -69,6 +69,11 @@ impl Sizes {
         self.outputs * self.frames
     }
 
+    /// The word with the bits of all outputs of a frame, 2^m - 1.
+    pub fn every_output(&self) -> u16 {
+        u16::MAX >> (Self::MOST_OUTPUTS - self.outputs)
+    }
+
     /// The words of the history of `length` words with this number, the first word highest.
     pub fn history_words(&self, length: usize, history: usize) -> Vec<u16> {
         (0..length)

@@ -20,6 +20,8 @@ pub struct Head {
     pub sizes: Sizes,
     /// States of each layer, 0 to T.
     pub counts: Vec<u16>,
+    /// By frame, a word with the bits of the connected outputs.
+    pub connected: Vec<u16>,
 }
 
 /// A layer, and a state of it; the default is the start.
@@ -108,12 +110,16 @@ impl Head {
             return Err(refused(LENGTH, bytes.len()));
         }
         let sizes = Sizes::read(bytes)?;
-        if bytes.len() < 8 + 2 * sizes.frames {
+        if bytes.len() < Head::length(&sizes) {
             return Err(refused(LENGTH, bytes.len()));
         }
-        let counts = words_at(bytes, 6, sizes.frames + 1);
-        let head = Head { sizes, counts };
+        let head = Head {
+            sizes,
+            counts: words_at(bytes, 6, sizes.frames + 1),
+            connected: words_at(bytes, Head::connected_at(&sizes, 0), sizes.frames),
+        };
         head.judge_counts()?;
+        head.judge_connected()?;
         if bytes.len() != head.next_at(head.entries()) {
             return Err(refused(LENGTH, bytes.len()));
         }
@@ -131,10 +137,21 @@ impl Head {
         Ok(())
     }
 
+    fn judge_connected(&self) -> Result<(), Answer> {
+        for (frame, &connected) in self.connected.iter().enumerate() {
+            if connected > self.sizes.every_output() {
+                return Err(refused(SIZE, Head::connected_at(&self.sizes, frame)));
+            }
+        }
+        Ok(())
+    }
+
     /// All output words are judged before all next states.
     pub fn judge_entries(&self, bytes: &[u8]) -> Result<(), Answer> {
-        for entry in 0..self.entries() {
-            self.judge_output(bytes, self.output_at(entry))?;
+        for layer in 0..self.sizes.frames {
+            for entry in self.entries_of(layer) {
+                self.judge_output(bytes, self.output_at(entry), layer)?;
+            }
         }
         let first_next = self.next_at(0);
         for layer in 0..self.sizes.frames {
@@ -162,15 +179,16 @@ impl Head {
             return Err(refused(WORD, 0));
         }
         let entry = self.entry(layer, state as u16, word);
-        let output = self.judge_output(bytes, self.output_at(entry))?;
+        let output = self.judge_output(bytes, self.output_at(entry), layer)?;
         let next = self.judge_next(bytes, self.next_at(entry), layer)?;
         Ok((output, next))
     }
 
-    /// The output word at byte offset `at`, if it is in range.
-    fn judge_output(&self, bytes: &[u8], at: usize) -> Result<u16, Answer> {
+    /// The output word of an entry of `layer` at byte offset `at`, if it sets connected outputs alone.
+    /// The entries of a layer give the outputs of the frame behind it, both counted from 0.
+    fn judge_output(&self, bytes: &[u8], at: usize, layer: usize) -> Result<u16, Answer> {
         let output = word_at(bytes, at);
-        if usize::from(output) >= 1 << self.sizes.outputs {
+        if output & !self.connected[layer] != 0 {
             return Err(refused(ENTRY, at));
         }
         Ok(output)
@@ -204,9 +222,19 @@ impl Head {
         self.entries_of(layer).start + of_state + usize::from(word)
     }
 
+    /// Byte offset of the word of a frame's connected outputs, frames from 0.
+    pub fn connected_at(sizes: &Sizes, frame: usize) -> usize {
+        8 + 2 * sizes.frames + 2 * frame
+    }
+
+    /// Bytes of a head of these sizes.
+    pub fn length(sizes: &Sizes) -> usize {
+        8 + 4 * sizes.frames
+    }
+
     /// Byte offset of an entry's output word.
     pub fn output_at(&self, entry: usize) -> usize {
-        8 + 2 * self.sizes.frames + 2 * entry
+        Head::length(&self.sizes) + 2 * entry
     }
 
     /// Byte offset of an entry's next state.
@@ -233,6 +261,7 @@ impl Table {
     pub fn to_bytes(&self) -> Vec<u8> {
         let mut words = self.head.sizes.words().to_vec();
         words.extend_from_slice(&self.head.counts);
+        words.extend_from_slice(&self.head.connected);
         words.extend_from_slice(&self.output_words);
         words.extend_from_slice(&self.next_states);
         to_bytes(&words)

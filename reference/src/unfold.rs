@@ -2,7 +2,7 @@
 
 use crate::answer::{deliver, refused, Answer, GATES};
 use crate::circuit::Circuit;
-use crate::gates::{not, Gates, FALSE, TRUE};
+use crate::gates::{not, Gates, FALSE, TRUE, UNCONNECTED};
 use crate::table::Table;
 
 /// Puts a circuit with the table's outputs at the front of `result`.
@@ -47,9 +47,11 @@ fn unfolded(table: &Table) -> Circuit {
                 .collect();
         }
         for bit in 0..sizes.outputs {
-            outputs.push(gather(&mut gates, &edges, |edge| {
-                edge.output >> bit & 1 == 1
-            }));
+            let set = |word: u16| word >> bit & 1 == 1;
+            // No edge sets an unconnected output, so that no gate is added for it.
+            let gathered = gather(&mut gates, &edges, |edge| set(edge.output));
+            let connected = set(table.head.connected[frame]);
+            outputs.push(if connected { gathered } else { UNCONNECTED });
         }
     }
     gates.finish(&outputs)

@@ -3,15 +3,20 @@
 use crate::answer::Answer;
 use crate::circuit::Circuit;
 use crate::examples;
+use crate::gates::UNCONNECTED;
 use crate::plan::Plan;
 use crate::words::{set_word, to_bytes};
 
-/// Words of the table that parity folds to.
-pub const PARITY_TABLE: [u16; 18] = [1, 1, 2, 1, 2, 1, 0, 1, 0, 1, 1, 0, 0, 1, 0, 0, 0, 0];
+/// Words of the table that parity folds to: sizes, counts, connected outputs, outputs, next states.
+pub const PARITY_TABLE: [u16; 20] = [1, 1, 2, 1, 2, 1, 1, 1, 0, 1, 0, 1, 1, 0, 0, 1, 0, 0, 0, 0];
 
-/// Numbers of the plan that asking returns for parity.
+/// Words of the table of parity without its first output.
+pub const UNCONNECTED_TABLE: [u16; 20] =
+    [1, 1, 2, 1, 2, 1, 0, 1, 0, 0, 0, 1, 1, 0, 0, 1, 0, 0, 0, 0];
+
+/// Numbers of the plan that asking returns for parity, with its first output or without.
 pub const PARITY_PLAN: Plan = [
-    1, 1, 2, 1, 2, 1, 0, 0, 0, 0, 0, 0, 0, 0, 0, 0, 0, 0, 0, 0, 36,
+    1, 1, 2, 1, 2, 1, 0, 0, 0, 0, 0, 0, 0, 0, 0, 0, 0, 0, 0, 0, 40,
 ];
 
 /// Left and right literals of the circuit that parity's table unfolds to.
@@ -20,18 +25,21 @@ pub const PARITY_UNFOLDED: [[u16; 17]; 2] = [
     [3, 2, 6, 8, 11, 13, 13, 5, 4, 20, 22, 20, 22, 27, 29, 1, 1],
 ];
 
+/// Left and right literals of the circuit that the table without the first output unfolds to.
+pub const UNCONNECTED_UNFOLDED: [[u16; 16]; 2] = [
+    [1, 1, 1, 1, 1, 1, 1, 1, 15, 15, 17, 17, 1, 30, 65_535, 33],
+    [3, 2, 6, 8, 11, 13, 5, 4, 18, 20, 18, 20, 25, 27, 65_535, 1],
+];
+
 /// Folding parity: numbers of scratch, bytes of result, answer.
 pub const PARITY_FOLDED: [(usize, usize, Answer); 3] =
-    [(7, 36, (6, 8)), (8, 35, (7, 36)), (8, 36, (0, 36))];
+    [(7, 40, (6, 8)), (8, 39, (7, 40)), (8, 40, (0, 40))];
 
 /// Circuits and what checking them answers.
 pub fn checked() -> Vec<(Vec<u8>, Answer)> {
-    let parity = examples::parity().to_bytes();
-    let parity_with = |at, word| {
-        let mut changed = parity.clone();
-        set_word(&mut changed, at, word);
-        changed
-    };
+    let [parity, unconnected] =
+        [examples::parity(), examples::unconnected()].map(|circuit| circuit.to_bytes());
+    let parity_with = |at, word| with(&parity, at, word);
     vec![
         (parity.clone(), (0, 0)),
         (parity[..27].to_vec(), (1, 27)),
@@ -42,7 +50,43 @@ pub fn checked() -> Vec<(Vec<u8>, Answer)> {
         (parity_with(8, 6), (3, 8)),
         (parity_with(8, 5), (0, 0)),
         (parity_with(14, 4), (4, 0)),
+        // Nothing is connected to the first output; the second may not name it, with either literal.
+        (unconnected.clone(), (0, 0)),
+        (with(&unconnected, 16, 12), (3, 16)),
+        (with(&unconnected, 26, 13), (3, 26)),
+        // Half a mark is a literal that is too high, and the third gate is no output.
+        (parity_with(14, UNCONNECTED), (3, 14)),
+        (parity_with(24, UNCONNECTED), (3, 24)),
+        (
+            with(&parity_with(12, UNCONNECTED), 22, UNCONNECTED),
+            (3, 12),
+        ),
     ]
+}
+
+/// Tables and what checking them answers.
+pub fn tables_checked() -> Vec<(Vec<u8>, Answer)> {
+    let parity = to_bytes(&PARITY_TABLE);
+    let former = [&parity[..12], &parity[16..]].concat();
+    vec![
+        (parity.clone(), (0, 0)),
+        (to_bytes(&UNCONNECTED_TABLE), (0, 0)),
+        (parity[..15].to_vec(), (1, 15)),
+        (parity[..16].to_vec(), (1, 16)),
+        (former, (1, 36)),
+        (with(&parity, 12, 2), (2, 12)),
+        (with(&parity, 14, 2), (2, 14)),
+        // The outputs of the first frame are those of entries 0 and 1, of the second those of 2 to 5.
+        (with(&parity, 12, 0), (5, 18)),
+        (with(&parity, 14, 0), (5, 22)),
+    ]
+}
+
+/// `file` with another word at byte offset `at`.
+fn with(file: &[u8], at: usize, word: u16) -> Vec<u8> {
+    let mut changed = file.to_vec();
+    set_word(&mut changed, at, word);
+    changed
 }
 
 /// Circuits and the counts of states that they fold to.
@@ -54,6 +98,8 @@ pub fn counts() -> Vec<(Circuit, Vec<u16>)> {
         (examples::delayed(), vec![1, 2, 2, 1]),
         (examples::adder(), vec![1, 2, 2, 1]),
         (examples::s27(), vec![1, 4, 4, 1]),
+        (examples::unconnected(), vec![1, 2, 1]),
+        (examples::unconnected_adder(), vec![1, 2, 2, 1]),
     ]
 }
 
@@ -92,8 +138,8 @@ mod tests {
     use crate::gen::{circuits, Rng};
     use crate::program::printed;
     use crate::{
-        ask, check_circuit, commit, fold, plain_fold, quiet_step, run, simulate, step, unfold,
-        Position, Sizes, Table,
+        ask, check_circuit, check_table, commit, fold, plain_fold, quiet_step, run, simulate, step,
+        unfold, Position, Sizes, Table,
     };
 
     /// The table that a circuit folds to; both ways to fold must find the same.
@@ -132,10 +178,19 @@ mod tests {
     }
 
     #[test]
-    fn parity_folds_to_the_given_36_bytes() {
+    fn tables_are_checked_as_given() {
+        for (table, answer) in tables_checked() {
+            assert_eq!(check_table(&table), answer);
+        }
+    }
+
+    #[test]
+    fn parity_folds_to_the_given_40_bytes() {
         let table = folded(&examples::parity());
         assert_eq!(table, to_bytes(&PARITY_TABLE));
-        assert_eq!(table.len(), 36);
+        assert_eq!(table.len(), 40);
+        let table = folded(&examples::unconnected());
+        assert_eq!(table, to_bytes(&UNCONNECTED_TABLE));
     }
 
     #[test]
@@ -143,6 +198,12 @@ mod tests {
         let circuit = unfolded(&to_bytes(&PARITY_TABLE));
         assert_eq!(circuit.sizes, examples::parity().sizes);
         assert_eq!([&circuit.left[..], &circuit.right], PARITY_UNFOLDED);
+    }
+
+    #[test]
+    fn parity_without_its_first_output_unfolds_to_the_given_16_gates() {
+        let circuit = unfolded(&to_bytes(&UNCONNECTED_TABLE));
+        assert_eq!([&circuit.left[..], &circuit.right], UNCONNECTED_UNFOLDED);
     }
 
     #[test]
@@ -164,12 +225,17 @@ mod tests {
     }
 
     #[test]
-    fn adder_adds() {
-        let circuit = examples::adder().to_bytes();
+    fn adders_add() {
+        for circuit in [examples::adder(), examples::unconnected_adder()] {
+            adds(&circuit.to_bytes());
+        }
+    }
+
+    fn adds(circuit: &[u8]) {
         for (a, b) in (0..64).map(|both| (both / 8, both % 8)) {
             let words = [0, 1, 2].map(|bit| (a >> bit & 1) + 2 * (b >> bit & 1));
             let mut outputs = [9; 3];
-            assert_eq!(simulate(&circuit, 1, &words, &mut outputs), (0, 3));
+            assert_eq!(simulate(circuit, 1, &words, &mut outputs), (0, 3));
             let sum = a + b;
             let expected = [sum & 1, sum >> 1 & 1, (sum >> 2 & 1) + 2 * (sum >> 3)];
             assert_eq!(outputs, expected);
@@ -216,11 +282,13 @@ mod tests {
 
     #[test]
     fn parity_has_the_given_plan() {
-        let mut scratch = [7; 9];
-        let asked = ask(&examples::parity().to_bytes(), &mut scratch);
-        assert_eq!((asked.number, asked.place), (0, 0));
-        assert_eq!(asked.plan, PARITY_PLAN);
-        assert_eq!(scratch, [0, 0, 0, 0, 0, 0, 0, 0, 7]);
+        for circuit in [examples::parity(), examples::unconnected()] {
+            let mut scratch = [7; 9];
+            let asked = ask(&circuit.to_bytes(), &mut scratch);
+            assert_eq!((asked.number, asked.place), (0, 0));
+            assert_eq!(asked.plan, PARITY_PLAN);
+            assert_eq!(scratch, [0, 0, 0, 0, 0, 0, 0, 0, 7]);
+        }
     }
 
     #[test]

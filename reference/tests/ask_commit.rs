@@ -14,6 +14,7 @@ use std::collections::BTreeSet;
 use common::{compare, seeds, short_answers_change_nothing, Case, Room, Seen};
 use folded::folded;
 use folding::{ample, call_fold, fold, longest_table, scratch_needed};
+use reference::gates::{FALSE, UNCONNECTED};
 use reference::gen::{all_sizes, any_sizes, circuits, look_ahead, sizes_with, Rng};
 use reference::vectors::{self, PARITY_FOLDED, PARITY_PLAN, PARITY_TABLE};
 use reference::words::{set_word, to_bytes, word_at, words_at};
@@ -230,7 +231,7 @@ fn parity_has_the_given_plan() {
         outputs: 1,
         frames: 2,
         counts: [1, 2, 1, 0, 0, 0, 0, 0, 0, 0, 0, 0, 0, 0, 0, 0, 0],
-        bytes: 36,
+        bytes: 40,
     };
     assert_eq!(tff::ask(&file, &mut scratch), Ok(plan));
     assert_eq!(scratch, [0, 0, 0, 0, 0, 0, 0, 0, 7, 7, 7]);
@@ -286,7 +287,7 @@ fn parity_is_folded_only_with_its_plan_and_the_given_room() {
 #[test]
 fn circuits_of_the_sources_have_the_given_plans() {
     // Bytes of the tables: the head, and 4 for each word and state before the last layer.
-    let bytes = [36, 18, 28, 54, 94, 590];
+    let bytes = [40, 20, 32, 60, 100, 596, 40, 100];
     for ((circuit, counts), bytes) in vectors::counts().into_iter().zip(bytes) {
         let sizes = circuit.sizes;
         let mut expected = vec![sizes.inputs, sizes.outputs, sizes.frames];
@@ -498,19 +499,32 @@ fn lists_that_are_not_21_numbers_long_are_refused() {
 /// A circuit with each kind of fault and without: what its check answers, and its bytes.
 fn with_each_fault(circuit: &Circuit, sequence: usize) -> Vec<([u64; 2], Vec<u8>)> {
     let file = circuit.to_bytes();
-    let with_word = |at, word| {
+    let with_words = |words: &[(usize, u16)]| {
         let mut changed = file.clone();
-        set_word(&mut changed, at, word);
+        for &(at, word) in words {
+            set_word(&mut changed, at, word);
+        }
         changed
     };
     let cut = file[..file.len() - 1].to_vec();
+    // Literals of the first gate, which is no output, and of the last, which is one.
+    let (first_right, last_left) = (8 + 2 * circuit.gates(), 6 + 2 * circuit.gates());
+    let last_right = file.len() - 2;
     let looking = look_ahead::inverted_on(circuit, 0, sequence);
     vec![
         ([1, 7], file[..7].to_vec()),
-        ([2, 0], with_word(0, 0)),
-        ([2, 6], with_word(6, u16::MAX)),
+        ([2, 0], with_words(&[(0, 0)])),
+        ([2, 6], with_words(&[(6, u16::MAX)])),
         ([1, cut.len() as u64], cut),
-        ([3, 8], with_word(8, u16::MAX)),
+        ([3, 8], with_words(&[(8, u16::MAX)])),
+        (
+            [3, 8],
+            with_words(&[(8, UNCONNECTED), (first_right, UNCONNECTED)]),
+        ),
+        (
+            [3, last_right as u64],
+            with_words(&[(last_left, FALSE), (last_right, UNCONNECTED)]),
+        ),
         ([4, 0], looking.to_bytes()),
         ([0, 0], file),
     ]
@@ -625,7 +639,7 @@ fn empty_slices_are_ordinary() {
     assert_eq!(ask(0, &file, 0), without_plan(6, 8));
     assert_eq!(commit(0, &file, &[], Room::default()), [6, 8]);
     assert_eq!(commit(0, &file, &[], scratch_of(8)), [14, 0]);
-    assert_eq!(commit(0, &file, &PARITY_PLAN, scratch_of(8)), [7, 36]);
+    assert_eq!(commit(0, &file, &PARITY_PLAN, scratch_of(8)), [7, 40]);
 }
 
 #[test]

@@ -2,6 +2,8 @@
 
 #[path = "common/circuit_calls.rs"]
 mod circuit_calls;
+#[path = "common/combinations.rs"]
+mod combinations;
 mod common;
 #[path = "common/evaluator.rs"]
 mod evaluator;
@@ -11,9 +13,10 @@ mod faults;
 mod simulating;
 
 use circuit_calls::CIRCUIT;
+use combinations::{length, with_faults, Fault};
 use common::{seeds, Seen};
 use faults::sizes_around_the_limits;
-use reference::gates::{not, FALSE};
+use reference::gates::{not, FALSE, UNCONNECTED};
 use reference::gen::{all_sizes, any_sizes, circuits, damaged, sizes_with, Rng};
 use reference::words::{set_word, to_bytes, word_at};
 use reference::{examples, vectors, Circuit, Gates, Sizes};
@@ -127,9 +130,13 @@ fn each_literal_is_judged_at_its_limit() {
         let circuit = circuits::any_legal(&mut Rng::new(seed), 16, 12);
         let mut file = circuit.to_bytes();
         for index in 0..2 * circuit.gates() {
-            let at = 8 + 2 * index;
+            let (at, gate) = (8 + 2 * index, index % circuit.gates());
+            // The literals of a mark are judged together.
+            if circuit.is_unconnected(gate) {
+                continue;
+            }
             let legal = word_at(&file, at);
-            let limit = circuit.literal_limit(index % circuit.gates()) as u16;
+            let limit = circuit.literal_limit(gate) as u16;
             for high in [limit, limit + 1, u16::MAX] {
                 set_word(&mut file, at, high);
                 CIRCUIT.finds(seed, &file, Some([3, at as u64]));
@@ -141,21 +148,70 @@ fn each_literal_is_judged_at_its_limit() {
             set_word(&mut file, at, legal);
         }
     }
-    seen.expect(&[0, 4]);
+    seen.expect(&[0, 3, 4]);
 }
 
 #[test]
 fn the_first_high_literal_in_file_order_is_named() {
     for seed in seeds(1_000) {
         let mut rng = Rng::new(seed);
-        let circuit = circuits::any_legal(&mut rng, 16, 12);
-        let mut file = circuit.to_bytes();
-        let places = [0; 3].map(|_| 8 + 2 * rng.below(2 * circuit.gates()));
+        let sizes = any_sizes(&mut rng, 16);
+        let gates = sizes.output_gates() + rng.below(12);
+        let mut file = circuits::connected(&mut rng, sizes, gates).to_bytes();
+        let places = [0; 3].map(|_| 8 + 2 * rng.below(2 * gates));
+        // Not 65,535, which two of them could make a mark of.
         for place in places {
-            set_word(&mut file, place, u16::MAX);
+            set_word(&mut file, place, u16::MAX - 1);
         }
         let first = places.into_iter().min().map_or(0, |place| place as u64);
         CIRCUIT.finds(seed, &file, Some([3, first]));
+    }
+}
+
+/// Nothing is connected to the first of two outputs of two frames; three gates come before them.
+fn partly_connected() -> Vec<u8> {
+    let circuit = Circuit {
+        sizes: Sizes::new(1, 2, 2),
+        left: vec![2, 3, 4, UNCONNECTED, 2, 6, 8],
+        right: vec![1, 1, 1, UNCONNECTED, 1, 4, 4],
+    };
+    circuit.to_bytes()
+}
+
+/// Faults of that circuit, in the order in which they are judged. Its left literals are at 8 to 20, its
+/// right ones at 22 to 34; literals 12 and 13 name the unconnected output, the gate in the middle.
+const FAULTS: [Fault<Vec<u8>>; 16] = [
+    (|file| file.truncate(7), length),
+    (|file| set_word(file, 0, 9), |_| [2, 0]),
+    (|file| set_word(file, 6, 3), |_| [2, 6]),
+    (|file| file.push(0), length),
+    (|file| set_word(file, 8, 6), |_| [3, 8]),
+    // A mark on a gate that is no output.
+    (|file| set_words(file, [10, 24], UNCONNECTED), |_| [3, 10]),
+    // Half a mark, then the name of the unconnected output.
+    (|file| set_word(file, 16, UNCONNECTED), |_| [3, 16]),
+    (|file| set_word(file, 18, 12), |_| [3, 18]),
+    (|file| set_word(file, 20, 13), |_| [3, 20]),
+    (|file| set_word(file, 22, 7), |_| [3, 22]),
+    (|file| set_word(file, 26, UNCONNECTED), |_| [3, 26]),
+    (|file| set_word(file, 30, 13), |_| [3, 30]),
+    (|file| set_word(file, 32, UNCONNECTED), |_| [3, 32]),
+    (|file| set_word(file, 34, 12), |_| [3, 34]),
+    // The second output of frame 1 shows the input of frame 2; and it does so by a gate.
+    (|file| set_word(file, 16, 4), |_| [4, 1]),
+    (|file| set_word(file, 16, 10), |_| [4, 1]),
+];
+
+fn set_words(file: &mut [u8], places: [usize; 2], word: u16) {
+    for at in places {
+        set_word(file, at, word);
+    }
+}
+
+#[test]
+fn every_combination_of_faults_is_refused_for_the_first() {
+    for (file, first) in with_faults(&partly_connected(), &FAULTS) {
+        CIRCUIT.finds(0, &file, first);
     }
 }
 

@@ -128,7 +128,7 @@ fn most_states_are_numbered() {
 fn few_states_are_found_among_most_sequences() {
     for (circuit, counts) in to_fold::few_states() {
         let entries = counts.iter().sum::<usize>() * circuit.sizes.input_words();
-        let bytes = 8 + 2 * circuit.sizes.frames + 4 * entries;
+        let bytes = 8 + 4 * circuit.sizes.frames + 4 * entries;
         assert_eq!(accepts(0, &circuit), bytes);
     }
 }
@@ -208,7 +208,7 @@ fn empty_slices_are_ordinary() {
         numbers: 8,
         bytes: 0,
     };
-    assert_eq!(fold(0, &file, scratch_alone), [7, 36]);
+    assert_eq!(fold(0, &file, scratch_alone), [7, 40]);
 }
 
 #[test]

@@ -45,7 +45,7 @@ fn printed(source: &str) -> String {
 /// What `examples/parity.c` is to print.
 fn example_lines() -> String {
     let circuit = examples::parity().to_bytes();
-    let (mut table, mut reached, mut drawn) = ([0; 36], [0; 40], [0; 76]);
+    let (mut table, mut reached, mut drawn) = ([0; 40], [0; 40], [0; 76]);
     let mut text = String::new();
     let asked = ask(&circuit, &mut [0; 8]);
     let [inputs, outputs, frames, counts @ .., bytes] = asked.plan;
@@ -60,11 +60,15 @@ fn example_lines() -> String {
     let (number, place) = commit(&circuit, &asked.plan, &mut [0; 8], &mut table);
     writeln!(text, "commit: {number}, {place}").unwrap();
 
-    // Parity has states 1 2 1, so six entries behind the six words of the head.
-    let words = words_at(&table, 0, 18);
+    // Parity has states 1 2 1, so six entries behind the eight words of the head; the last two of these
+    // tell what is connected.
+    let words = words_at(&table, 0, 20);
+    for frame in [1, 2] {
+        writeln!(text, "frame {frame}: connected {}", words[5 + frame]).unwrap();
+    }
     for (entry, (layer, state)) in [(0, 0), (1, 0), (1, 1)].into_iter().enumerate() {
         for word in 0..2 {
-            let at = 6 + 2 * entry + word;
+            let at = 8 + 2 * entry + word;
             writeln!(
                 text,
                 "layer {layer} state {state} word {word}: output {}, next state {}",
@@ -131,43 +135,43 @@ fn calls_lines() -> String {
     ];
     // Accepted, and refused with 1, 12, 9, 7.
     let runs = [
-        (36, &words[..2], 2),
-        (35, &words[..2], 2),
-        (36, &words[..3], 2),
-        (36, &words[3..], 2),
-        (36, &words[..2], 1),
+        (40, &words[..2], 2),
+        (39, &words[..2], 2),
+        (40, &words[..3], 2),
+        (40, &words[3..], 2),
+        (40, &words[..2], 1),
     ];
     let plan = [&PARITY_PLAN[..], &[0]].concat();
     // Refused with 1, 6, 14, 14, 7, and accepted.
     let commits = [
-        (27, 21, 8, 36),
-        (28, 21, 7, 36),
-        (28, 20, 8, 36),
-        (28, 22, 8, 36),
-        (28, 21, 8, 35),
-        (28, 21, 8, 36),
+        (27, 21, 8, 40),
+        (28, 21, 7, 40),
+        (28, 20, 8, 40),
+        (28, 22, 8, 40),
+        (28, 21, 8, 39),
+        (28, 21, 8, 40),
     ];
     let steps = [
-        (36, 0, 0, 1),
-        (36, 1, 0, 1),
-        (35, 1, 0, 1),
-        (36, 1, 2, 1),
-        (36, 2, 0, 1),
-        (36, 1, 0, 2),
+        (40, 0, 0, 1),
+        (40, 1, 0, 1),
+        (39, 1, 0, 1),
+        (40, 1, 2, 1),
+        (40, 2, 0, 1),
+        (40, 1, 0, 2),
     ];
     let windows = [600, 660, 10_000, 50];
     // Accepted, and refused with 1, 15, 16, 11, 11, 10, 9.
     let quiet_steps = [
-        (0, 0, 36, 0, 600, 1),
-        (0, 0, 36, 4, 600, 1),
-        (1, 1, 36, 4, 50, 0),
-        (1, 1, 35, 4, 50, 0),
-        (1, 1, 36, 3, 50, 0),
-        (1, 1, 36, 4, 10_080, 0),
-        (usize::MAX, 1, 36, 4, 50, 0),
-        (1, usize::MAX, 36, 4, 50, 0),
-        (2, 0, 36, 4, 50, 0),
-        (1, 1, 36, 4, 50, 2),
+        (0, 0, 40, 0, 600, 1),
+        (0, 0, 40, 4, 600, 1),
+        (1, 1, 40, 4, 50, 0),
+        (1, 1, 39, 4, 50, 0),
+        (1, 1, 40, 3, 50, 0),
+        (1, 1, 40, 4, 10_080, 0),
+        (usize::MAX, 1, 40, 4, 50, 0),
+        (1, usize::MAX, 40, 4, 50, 0),
+        (2, 0, 40, 4, 50, 0),
+        (1, 1, 40, 4, 50, 2),
     ];
     let mut text = String::new();
     for length in [28, 27] {
@@ -180,7 +184,7 @@ fn calls_lines() -> String {
             simulate(&circuit[..length], count, words, &mut numbers[..result]).into()
         });
     }
-    for (length, scratch, result) in [(27, 8, 36), (28, 7, 36), (28, 8, 35), (28, 8, 36)] {
+    for (length, scratch, result) in [(27, 8, 40), (28, 7, 40), (28, 8, 39), (28, 8, 40)] {
         text += &line("fold", |numbers, bytes| {
             fold(
                 &circuit[..length],
@@ -208,7 +212,7 @@ fn calls_lines() -> String {
             .into()
         });
     }
-    for length in [36, 35] {
+    for length in [40, 39] {
         text += &line("check_table", |_, _| check_table(&table[..length]).into());
     }
     for (length, words, result) in runs {
@@ -232,15 +236,15 @@ fn calls_lines() -> String {
     // Its answer is too short.
     text += &line("quiet_step", |_, _| []);
     text += "position 1 1\n";
-    for length in [36, 35] {
+    for length in [40, 39] {
         text += &line("price", |_, _| price(&table[..length]).into());
     }
-    for (length, result) in [(36, 40), (35, 40), (36, 39)] {
+    for (length, result) in [(40, 40), (39, 40), (40, 39)] {
         text += &line("reach", |_, bytes| {
             reach(&table[..length], &mut bytes[..result]).into()
         });
     }
-    for (length, result) in [(36, 76), (35, 76), (36, 75)] {
+    for (length, result) in [(40, 76), (39, 76), (40, 75)] {
         text += &line("unfold", |_, bytes| {
             unfold(&table[..length], &mut bytes[..result]).into()
         });

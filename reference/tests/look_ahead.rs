@@ -86,10 +86,11 @@ fn found(seed: u64, circuit: &Circuit) -> Found {
     }
 }
 
-/// Two circuits with equal outputs and different gates: no call tells them apart. Gives what checking
-/// answers.
+/// Two circuits with equal outputs, equally connected, and different gates: no call tells them apart.
+/// Gives what checking answers.
 fn judged_alike(seed: u64, first: &Circuit, second: &Circuit) -> [u64; 2] {
     assert_ne!(first, second);
+    assert_eq!(first.connected(), second.connected());
     assert_eq!(
         first.outputs_on_all_sequences(),
         second.outputs_on_all_sequences()
@@ -106,6 +107,8 @@ fn has_no_effect(cross_out: CrossingOut) {
         let mut rng = Rng::new(seed);
         let circuit = any_circuit(&mut rng);
         let output = rng.below(early(&circuit.sizes));
+        // Connected, if it was not.
+        let circuit = with_changed_output(&circuit, output, |_, value| value);
         let later = look_ahead::later_input(&mut rng, &circuit.sizes, output);
         let same = with_changed_output(&circuit, output, |gates, value| {
             cross_out(gates, value, later)
@@ -261,7 +264,7 @@ fn one_sequence_of_65536_shows_a_look_ahead() {
 fn with_most_sequences() -> [Circuit; 4] {
     MOST_SEQUENCES.map(|(inputs, frames)| {
         let sizes = Sizes::new(inputs, 16, frames);
-        circuits::legal(&mut Rng::new(1), sizes, sizes.output_gates() + 100)
+        circuits::connected(&mut Rng::new(1), sizes, sizes.output_gates() + 100)
     })
 }
 
@@ -341,7 +344,9 @@ fn circuits_with_equal_outputs_are_judged_alike() {
 
 fn redrawn(circuit: &Circuit) -> Circuit {
     let outputs = circuit.outputs_on_all_sequences();
-    circuits::with_outputs_by_sequence(circuit.sizes, |frame, sequence| outputs[sequence][frame])
+    let output = |frame, sequence: usize| outputs[sequence][frame];
+    let redrawn = circuits::with_outputs_by_sequence(circuit.sizes, output);
+    circuits::with_connected(&redrawn, &circuit.connected())
 }
 
 #[test]

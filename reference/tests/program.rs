@@ -24,10 +24,11 @@ fn compare(input: &[u8]) {
     assert_eq!(run_program(input), printed(input), "{} bytes", input.len());
 }
 
-fn example_files() -> [(&'static str, Circuit); 4] {
+fn example_files() -> [(&'static str, Circuit); 5] {
     [
         ("parity", examples::parity()),
         ("crossed", examples::crossed()),
+        ("unconnected", examples::unconnected()),
         ("adder", examples::adder()),
         ("s27", examples::s27()),
     ]
@@ -44,7 +45,13 @@ fn example_files_are_the_circuits_they_are_named_after() {
 
 #[test]
 fn examples_print_the_counts_of_the_papers() {
-    let counts = [[1, 2, 1, 0], [1, 2, 1, 0], [1, 2, 2, 1], [1, 4, 4, 1]];
+    let counts = [
+        [1, 2, 1, 0],
+        [1, 2, 1, 0],
+        [1, 2, 1, 0],
+        [1, 2, 2, 1],
+        [1, 4, 4, 1],
+    ];
     for ((name, circuit), counts) in example_files().into_iter().zip(counts) {
         let mut expected = String::from("layer states\n");
         for (layer, count) in counts.iter().filter(|&&count| count > 0).enumerate() {
@@ -90,7 +97,7 @@ fn a_table_longer_than_the_result_is_refused() {
     shown.resize(sizes.outputs, FALSE);
     let outputs = [vec![FALSE; 11 * sizes.outputs], shown].concat();
     let input = gates.finish(&outputs).to_bytes();
-    assert_eq!(printed(&input), "refused 7 32792\n");
+    assert_eq!(printed(&input), "refused 7 32816\n");
     compare(&input);
 }
 

@@ -1,11 +1,14 @@
 //! The proved step with quiet hours against the plain one, and both against the step without.
 
+#[path = "common/combinations.rs"]
+mod combinations;
 mod common;
 #[path = "common/folded.rs"]
 mod folded;
 #[path = "common/places.rs"]
 mod places;
 
+use combinations::{length, with_faults, Fault};
 use common::{compare, seeds, short_answers_change_nothing, Case, Room, Seen};
 use folded::folded;
 use places::{places, places_around, Place};
@@ -13,6 +16,7 @@ use reference::gen::{any_windows, circuits, damaged, tables, Rng};
 use reference::quiet::{quiet_minutes, WEEK};
 use reference::vectors::{quiet_steps, PARITY_TABLE};
 use reference::words::{set_word, to_bytes, words_at};
+use reference::Sizes;
 use tff::{Answer, Board, Position};
 
 /// A minute that no window of these tests holds unless it is said.
@@ -300,35 +304,26 @@ fn a_lone_number_is_a_bad_window() {
 
 #[test]
 fn every_combination_of_faults_is_refused_for_the_first() {
-    for faults in 1..1 << FAULTS.len() {
-        let minute = if faults % 3 == 0 { 600 } else { LOUD };
+    for minute in [600, LOUD] {
         let mut call = Call::parity(&[600, 720, 1320, 360], minute);
         call.position = position(1, 1);
-        let made = |index: &usize| faults >> index & 1 == 1;
-        // Backwards, so that a file is cut last.
-        for index in (0..FAULTS.len()).rev().filter(made) {
-            FAULTS[index].0(&mut call);
+        for (call, first) in with_faults(&call, &FAULTS) {
+            let [number, place] = first.unwrap_or([0, 0]);
+            assert_eq!(call.answer(0), [number, place, 0], "{call:?}");
         }
-        let first = (0..FAULTS.len()).find(made).expect("a fault");
-        let [number, place] = FAULTS[first].1(&call);
-        assert_eq!(call.answer(0), [number, place, 0], "{call:?}");
     }
 }
 
-/// Makes a fault in a call.
-type Make = fn(&mut Call);
-/// The number and place that name it.
-type Named = fn(&Call) -> [u64; 2];
-
 /// Faults of parity's second step, in the order in which they are judged.
-const FAULTS: [(Make, Named); 16] = [
-    (|call| call.file.truncate(5), length),
+const FAULTS: [Fault<Call>; 18] = [
+    (|call| call.file.truncate(5), |call| length(&call.file)),
     (|call| set_word(&mut call.file, 0, 9), |_| [2, 0]),
     (|call| set_word(&mut call.file, 2, 17), |_| [2, 2]),
     (|call| set_word(&mut call.file, 4, 0), |_| [2, 4]),
-    (|call| call.file.truncate(11), length),
+    (|call| call.file.truncate(15), |call| length(&call.file)),
     (|call| set_word(&mut call.file, 8, 0), |_| [2, 8]),
-    (|call| call.file.push(0), length),
+    (|call| set_word(&mut call.file, 14, 2), |_| [2, 14]),
+    (|call| call.file.push(0), |call| length(&call.file)),
     (|call| call.windows[3] = call.windows[2], |_| [15, 1]),
     (|call| call.windows.extend([0, 1].repeat(31)), |_| [15, 32]),
     (|call| call.minute = 10_080, |_| [16, 0]),
@@ -336,12 +331,15 @@ const FAULTS: [(Make, Named); 16] = [
     (|call| call.position.state = 2, layer),
     (|call| call.position = position(2, 0), |_| [10, 2]),
     (|call| call.word = 2, |_| [9, 0]),
-    (|call| set_word(&mut call.file, 22, 2), |_| [5, 22]),
-    (|call| set_word(&mut call.file, 34, 1), |_| [5, 34]),
+    (|call| set_word(&mut call.file, 26, 2), |_| [5, 26]),
+    (set_unconnected, |_| [5, 26]),
+    (|call| set_word(&mut call.file, 38, 1), |_| [5, 38]),
 ];
 
-fn length(call: &Call) -> [u64; 2] {
-    [1, call.file.len() as u64]
+/// Nothing is connected to the output of frame 2, and the entry sets it.
+fn set_unconnected(call: &mut Call) {
+    set_word(&mut call.file, 14, 0);
+    set_word(&mut call.file, 26, 1);
 }
 
 fn layer(call: &Call) -> [u64; 2] {
@@ -391,6 +389,31 @@ fn all_but_the_output_of_a_quiet_minute_is_the_plain_step() {
         }
     }
     seen.expect(&[0, 5, 9, 10, 11]);
+}
+
+#[test]
+fn an_output_word_is_judged_by_the_outputs_that_its_own_frame_connects() {
+    let sizes = Sizes::new(1, 3, 3);
+    for connected in tables::each_frame_its_own(&sizes) {
+        let table = tables::connected(&mut Rng::new(1), sizes, vec![1, 2, 2, 1]);
+        let table = tables::with_connected(&table, &connected);
+        for (entry, place) in places(&table).into_iter().enumerate() {
+            let at = table.head.output_at(entry);
+            for output in 0..=sizes.every_output() {
+                let mut file = table.to_bytes();
+                set_word(&mut file, at, output);
+                let legal = output & !table.head.connected[usize::from(place[0])] == 0;
+                for (minute, heard) in [(LOUD, output), (600, 0)] {
+                    let expected = match legal {
+                        true => [0, 0, u64::from(heard)],
+                        false => [5, at as u64, 0],
+                    };
+                    let call = Call::at(place, &file, &[600, 660], minute);
+                    assert_eq!(call.answer(1), expected, "{call:?}");
+                }
+            }
+        }
+    }
 }
 
 #[test]
@@ -532,5 +555,5 @@ fn a_refused_step_leaves_the_board_as_it_was() {
     board.reset();
     assert_eq!(board.step(0, 0), Ok(0));
     assert_eq!(Board::new(&table, &[7]).step(0, 1), refusal(15, 0));
-    assert_eq!(Board::new(&table[..35], &[7]).step(0, 1), refusal(1, 35));
+    assert_eq!(Board::new(&table[..39], &[7]).step(0, 1), refusal(1, 39));
 }

@@ -143,12 +143,13 @@ fn parity_is_counted_as_by_hand() {
 
 #[test]
 fn a_table_with_unreached_states_is_counted_as_by_hand() {
-    let mut table = vec![2, 1, 3, 1, 3, 3, 1];
-    table.resize(7 + 28, 0);
+    // Nothing is connected: the reach counts do not depend on it.
+    let mut table = vec![2, 1, 3, 1, 3, 3, 1, 0, 0, 0];
+    table.resize(10 + 28, 0);
     // Nothing leads to state 1 of layer 1, and it alone leads to state 1 of layer 2.
     let next_states = [[2, 0, 0, 2], [0, 2, 2, 2], [2, 1, 0, 1], [2, 2, 2, 0]];
     table.extend(next_states.concat());
-    table.resize(7 + 56, 0);
+    table.resize(10 + 56, 0);
     let head = [3, 0, 1, 0, 3, 0, 3, 0, 1, 0];
     // State 0 of layer 1 is reached by words 1 and 2, so state 0 of layer 2 by 1 0 and 2 0, numbers 4
     // and 8. By way of state 2, words 0 3 and 3 3 lead there too, numbers 3 and 15.
@@ -177,12 +178,12 @@ fn a_table_with_unreached_states_is_counted_as_by_hand() {
 fn parity_is_refused_as_by_hand() {
     let file = to_bytes(&PARITY_TABLE);
     let without_inputs = [&[0, 0], &file[2..]].concat();
-    let beyond_the_last_layer = [&file[..34], &[1, 0]].concat();
+    let beyond_the_last_layer = [&file[..38], &[1, 0]].concat();
     let refusals = [
         (&file[..], 39, (7, 40)),
-        (&file[..35], 40, (1, 35)),
+        (&file[..39], 40, (1, 39)),
         (&without_inputs, 40, (2, 0)),
-        (&beyond_the_last_layer, 40, (5, 34)),
+        (&beyond_the_last_layer, 40, (5, 38)),
     ];
     for (file, length, expected) in refusals {
         let mut result = vec![0xee; length];
@@ -325,7 +326,7 @@ fn the_longest_table_is_counted() {
     let sizes = Sizes::new(8, 7, 2);
     let table = tables::legal(&mut Rng::new(0), sizes, vec![1, Table::MOST_STATES, 1]);
     let (file, needed) = (table.to_bytes(), 262_168);
-    assert_eq!(file.len(), 33_555_468);
+    assert_eq!(file.len(), 33_555_472);
     assert_eq!(reach(0, &file, needed - 1), [7, needed as u64]);
     assert_eq!(reach(0, &file, needed), [0, needed as u64]);
 }

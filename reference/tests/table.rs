@@ -1,5 +1,7 @@
 //! The proved check, run and step of tables against the plain ones.
 
+#[path = "common/combinations.rs"]
+mod combinations;
 mod common;
 #[path = "common/evaluator.rs"]
 mod evaluator;
@@ -8,13 +10,14 @@ mod faults;
 #[path = "common/places.rs"]
 mod places;
 
+use combinations::{length, with_faults, Fault};
 use common::{compare, seeds, short_answers_change_nothing, Case, Room, Seen};
 use evaluator::Evaluator;
 use faults::sizes_around_the_limits;
 use places::{places, places_around, Place};
-use reference::gen::{all_sizes, damaged, sizes_with, tables, Rng};
+use reference::gen::{all_sizes, any_sizes, damaged, sizes_with, tables, Rng};
 use reference::table::Head;
-use reference::vectors::PARITY_TABLE;
+use reference::vectors::{tables_checked, PARITY_TABLE};
 use reference::words::{set_word, to_bytes};
 use reference::{Sizes, Table};
 
@@ -82,11 +85,23 @@ fn small(seed: u64) -> Table {
     tables::any_legal(&mut Rng::new(seed), 16, 4)
 }
 
-/// A table with one count changed and entries of zeros to fit.
+/// A table of fewer outputs than an output word has bits.
+fn narrow(rng: &mut Rng, most_signals: usize) -> Table {
+    let mut sizes = any_sizes(rng, most_signals);
+    sizes.outputs = rng.between(1, 15);
+    let counts = tables::any_counts(rng, &sizes, 4);
+    tables::legal(rng, sizes, counts)
+}
+
+/// A table with one count changed, nothing connected, and entries of zeros to fit.
 fn zeros(sizes: Sizes, layer: usize, count: u16) -> Vec<u8> {
     let mut counts = vec![1; sizes.frames + 1];
     counts[layer] = count;
-    let head = Head { sizes, counts };
+    let head = Head {
+        sizes,
+        counts,
+        connected: vec![0; sizes.frames],
+    };
     let mut words = sizes.words().to_vec();
     words.extend_from_slice(&head.counts);
     words.resize(head.next_at(head.entries()) / 2, 0);
@@ -101,9 +116,12 @@ fn largest(seed: u64) -> Table {
 
 #[test]
 fn the_given_vectors_hold() {
+    for (table, expected) in tables_checked() {
+        let answer = tff::check_table(&table);
+        assert_eq!((answer.number, answer.place), expected);
+        assert_eq!(TABLE.check(0, &table), [expected.0, expected.1]);
+    }
     let file = to_bytes(&PARITY_TABLE);
-    let answer = tff::check_table(&file);
-    assert_eq!((answer.number, answer.place), (0, 0));
     let stepped = tff::step(&file, 2, 0, 0);
     assert_eq!((stepped.number, stepped.place), (10, 2));
     assert_eq!((stepped.output, stepped.layer, stepped.state), (0, 2, 0));
@@ -148,7 +166,7 @@ fn tables_with_many_states_are_run() {
 fn the_largest_table_is_checked_run_and_stepped() {
     let table = largest(0);
     let mut file = table.to_bytes();
-    assert_eq!(file.len(), 33_555_468);
+    assert_eq!(file.len(), 33_555_472);
     TABLE.accepts(0, &file, &table.head.sizes, 1);
     let last = [1, Table::MOST_STATES - 1, 255];
     let output = u64::from(*table.output_words.last().unwrap());
@@ -158,7 +176,7 @@ fn the_largest_table_is_checked_run_and_stepped() {
     TABLE.finds(0, &file, Some([5, at as u64]));
     assert_eq!(step(0, &file, last), [5, at as u64, 0, 1, 32_767]);
     file.pop();
-    TABLE.finds(0, &file, Some([1, 33_555_467]));
+    TABLE.finds(0, &file, Some([1, 33_555_471]));
 }
 
 #[test]
@@ -174,9 +192,10 @@ fn every_head_near_the_limits_is_judged() {
     let mut seen = Seen::default();
     for sizes in sizes_around_the_limits() {
         let mut file = to_bytes(&sizes);
-        file.resize(8 + 2 * Sizes::MOST_FRAMES, 1);
-        let head = 8 + 2 * usize::from(sizes[2]);
-        for length in [5, 6, 7, head - 1, head, file.len()] {
+        file.resize(8 + 4 * Sizes::MOST_FRAMES, 1);
+        let counts = 8 + 2 * usize::from(sizes[2]);
+        let head = 8 + 4 * usize::from(sizes[2]);
+        for length in [5, 6, 7, counts, head - 1, head, file.len()] {
             seen.note(TABLE.check(0, &file[..length.min(file.len())]));
         }
     }
@@ -209,36 +228,63 @@ fn inner_counts_go_up_to_32768() {
 }
 
 #[test]
-fn counts_are_judged_before_the_length() {
+fn each_word_of_connected_outputs_is_judged_at_its_limit() {
+    for outputs in 1..=16 {
+        for (inputs, frames) in [(1, 1), (8, 2), (2, 5), (1, 16)] {
+            let sizes = Sizes::new(inputs, outputs, frames);
+            let every = sizes.every_output();
+            for frame in 0..frames {
+                let at = 8 + 2 * frames + 2 * frame;
+                let beyond = every.wrapping_add(1);
+                for word in [0, every - 1, every, beyond, 1 << 15, u16::MAX] {
+                    let mut file = zeros(sizes, 0, 1);
+                    set_word(&mut file, at, word);
+                    // With 16 outputs every word is legal.
+                    let fault = (word > every).then_some([2, at as u64]);
+                    TABLE.finds(0, &file, fault);
+                }
+            }
+        }
+    }
+}
+
+#[test]
+fn counts_and_connected_words_are_judged_before_the_length() {
     let seen = TABLE.judges(4_000, |rng| {
         let table = tables::any_legal(rng, 16, 3);
         let sizes = table.head.sizes;
         let mut file = table.to_bytes();
-        file.truncate(8 + 2 * sizes.frames);
         let layer = rng.between(0, sizes.frames);
-        let count = rng.pick(&[0, 1, 2, 32_768, 32_769, u16::MAX]);
+        let count = rng.pick(&[0, 1, 1, 2, 32_768, 32_769, u16::MAX]);
         set_word(&mut file, 6 + 2 * layer, count);
+        if rng.one_in(2) {
+            let frame = rng.below(sizes.frames);
+            let connected = rng.word();
+            set_word(&mut file, 8 + 2 * (sizes.frames + frame), connected);
+        }
+        let head = 8 + 4 * sizes.frames;
+        file.truncate(rng.pick(&[head - 1, head, head + 1]));
         (file, sizes)
     });
     seen.expect(&[1, 2]);
 }
 
 #[test]
-fn each_output_word_is_judged_at_its_limit() {
+fn each_output_word_is_judged_by_the_outputs_that_its_frame_connects() {
     for seed in seeds(60) {
         let table = tables::any_legal(&mut Rng::new(seed), 5, 3);
-        let limit = 1u32 << table.head.sizes.outputs;
-        for entry in 0..table.head.entries() {
-            let at = table.head.output_at(entry);
-            for output in [limit - 1, limit, limit + 1] {
-                // With 16 outputs no word is too high.
-                let Ok(word) = u16::try_from(output) else {
-                    continue;
-                };
-                let mut file = table.to_bytes();
-                set_word(&mut file, at, word);
-                let fault = (output >= limit).then_some([5, at as u64]);
-                TABLE.finds(seed, &file, fault);
+        for (layer, &connected) in table.head.connected.iter().enumerate() {
+            let every = table.head.sizes.every_output();
+            let mut words = vec![0, connected, every, every.wrapping_add(1), u16::MAX];
+            words.extend((0..16).map(|bit| 1 << bit));
+            for entry in table.head.entries_of(layer) {
+                let at = table.head.output_at(entry);
+                for &word in &words {
+                    let mut file = table.to_bytes();
+                    set_word(&mut file, at, word);
+                    let fault = (word & !connected != 0).then_some([5, at as u64]);
+                    TABLE.finds(seed, &file, fault);
+                }
             }
         }
     }
@@ -267,9 +313,7 @@ fn each_next_state_is_judged_at_its_limit() {
 fn all_output_words_are_judged_before_all_next_states() {
     for seed in seeds(1_000) {
         let mut rng = Rng::new(seed);
-        let mut table = tables::any_legal(&mut rng, 16, 4);
-        table.head.sizes.outputs = rng.between(1, 15);
-        table.output_words.fill(0);
+        let table = narrow(&mut rng, 16);
         let [early, late] = [0; 2].map(|_| rng.below(table.head.entries()));
         let (next, output) = (table.head.next_at(early), table.head.output_at(late));
         let mut file = table.to_bytes();
@@ -277,6 +321,48 @@ fn all_output_words_are_judged_before_all_next_states() {
         TABLE.finds(seed, &file, Some([5, next as u64]));
         set_word(&mut file, output, u16::MAX);
         TABLE.finds(seed, &file, Some([5, output as u64]));
+    }
+}
+
+/// A table of three frames, which have one, both and the other of two outputs connected: 20 bytes of
+/// head, then ten output words and ten next states.
+fn three_frames() -> Vec<u8> {
+    let head = [1, 2, 3, 1, 2, 2, 1, 1, 3, 2];
+    let output_words = [1, 0, 1, 2, 3, 0, 2, 2, 0, 2];
+    let next_states = [0, 1, 1, 0, 0, 1, 0, 0, 0, 0];
+    to_bytes(&[head, output_words, next_states].concat())
+}
+
+/// Faults of that table before its entries, in the order in which they are judged.
+const HEAD_FAULTS: [Fault<Vec<u8>>; 11] = [
+    (|file| file.truncate(5), length),
+    (|file| set_word(file, 0, 0), |_| [2, 0]),
+    (|file| set_word(file, 2, 17), |_| [2, 2]),
+    (|file| set_word(file, 4, 17), |_| [2, 4]),
+    (|file| file.truncate(19), length),
+    (|file| set_word(file, 6, 2), |_| [2, 6]),
+    (|file| set_word(file, 8, 0), |_| [2, 8]),
+    (|file| set_word(file, 12, 0), |_| [2, 12]),
+    (|file| set_word(file, 14, 4), |_| [2, 14]),
+    (|file| set_word(file, 18, u16::MAX), |_| [2, 18]),
+    (|file| file.push(0), length),
+];
+
+/// Faults of its entries likewise: unconnected outputs that are set, in the first entry and in the last,
+/// a word of 2^m between them, and next states.
+const ENTRY_FAULTS: [Fault<Vec<u8>>; 5] = [
+    (|file| set_word(file, 20, 2), |_| [5, 20]),
+    (|file| set_word(file, 24, 4), |_| [5, 24]),
+    (|file| set_word(file, 38, 3), |_| [5, 38]),
+    (|file| set_word(file, 40, 2), |_| [5, 40]),
+    (|file| set_word(file, 58, 1), |_| [5, 58]),
+];
+
+#[test]
+fn every_combination_of_faults_is_refused_for_the_first() {
+    let faults = [&HEAD_FAULTS[..], &ENTRY_FAULTS].concat();
+    for (file, first) in with_faults(&three_frames(), &faults) {
+        TABLE.finds(0, &file, first);
     }
 }
 
@@ -368,9 +454,7 @@ fn position_and_word_are_judged_before_the_entry() {
 fn a_step_judges_the_entry_it_reads_and_no_other() {
     for seed in seeds(300) {
         let mut rng = Rng::new(seed);
-        let mut table = tables::any_legal(&mut rng, 6, 4);
-        table.head.sizes.outputs = rng.between(1, 15);
-        table.output_words.fill(1);
+        let table = narrow(&mut rng, 6);
         let bad = rng.below(table.head.entries());
         let at = rng.pick(&[table.head.output_at(bad), table.head.next_at(bad)]);
         let mut file = table.to_bytes();
@@ -386,9 +470,7 @@ fn a_step_judges_the_entry_it_reads_and_no_other() {
 #[test]
 fn a_step_judges_the_output_word_before_the_next_state() {
     for seed in seeds(300) {
-        let mut rng = Rng::new(seed);
-        let mut table = tables::any_legal(&mut rng, 6, 4);
-        table.head.sizes.outputs = rng.between(1, 15);
+        let mut table = narrow(&mut Rng::new(seed), 6);
         table.output_words.fill(u16::MAX);
         table.next_states.fill(u16::MAX);
         let file = table.to_bytes();
@@ -397,6 +479,43 @@ fn a_step_judges_the_output_word_before_the_next_state() {
             let at = table.head.output_at(entry) as u64;
             assert_eq!(step(seed, &file, place), [5, at, 0, layer, state]);
         }
+    }
+}
+
+#[test]
+fn a_step_judges_its_output_word_by_the_outputs_that_its_own_frame_connects() {
+    for frames in 1..=4 {
+        let sizes = Sizes::new(1, frames, frames);
+        let mut counts = vec![2; frames + 1];
+        (counts[0], counts[frames]) = (1, 1);
+        for connected in tables::each_frame_its_own(&sizes) {
+            let table = tables::connected(&mut Rng::new(1), sizes, counts.clone());
+            let table = tables::with_connected(&table, &connected);
+            for (entry, place) in places(&table).into_iter().enumerate() {
+                let [layer, state, _] = place.map(u64::from);
+                let at = table.head.output_at(entry);
+                let next = u64::from(table.next_states[entry]);
+                for output in 0..=sizes.every_output() {
+                    let mut file = table.to_bytes();
+                    set_word(&mut file, at, output);
+                    let unconnected = output & !table.head.connected[layer as usize];
+                    let expected = match unconnected {
+                        0 => [0, 0, u64::from(output), layer + 1, next],
+                        _ => [5, at as u64, 0, layer, state],
+                    };
+                    assert_eq!(step(1, &file, place), expected);
+                }
+            }
+        }
+    }
+}
+
+#[test]
+fn every_combination_of_faults_before_an_entry_is_refused_by_a_step_for_the_first() {
+    // From a place that the table does not have, on a word that it has not.
+    for (file, first) in with_faults(&three_frames(), &HEAD_FAULTS) {
+        let [number, place] = first.unwrap_or([11, 4]);
+        assert_eq!(step(0, &file, [4, 9, 9]), [number, place, 0, 4, 9]);
     }
 }
 

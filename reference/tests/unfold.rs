@@ -93,7 +93,7 @@ fn parity_unfolds_to_the_given_gates() {
 #[test]
 fn a_state_that_no_edge_enters_is_false() {
     // All of frame 1 leads to state 0; only state 1 of layer 1 has an output.
-    let table = [1, 1, 2, 1, 2, 1, 0, 0, 0, 0, 0, 1, 0, 0, 0, 0, 0, 0];
+    let table = [1, 1, 2, 1, 2, 1, 1, 1, 0, 0, 0, 0, 0, 1, 0, 0, 0, 0, 0, 0];
     let left = [1, 1, 1, 1, 1, 14, 1, 1, 17, 17, 0, 0, 1, 0, 31];
     let right = [3, 2, 6, 8, 11, 13, 5, 4, 18, 20, 18, 20, 29, 1, 1];
     assert_eq!(literals(&table, 15), [left, right]);
@@ -128,7 +128,8 @@ fn tables_of_all_shapes_are_unfolded() {
 fn outputs_never_set_and_always_set_are_unfolded() {
     for seed in seeds(300) {
         let mut table = tables::any_legal(&mut Rng::new(seed), 6, 4);
-        let every_output = ((1u32 << table.head.sizes.outputs) - 1) as u16;
+        let every_output = table.head.sizes.every_output();
+        table.head.connected.fill(every_output);
         for word in [0, every_output] {
             table.output_words.fill(word);
             let answer = unfold(seed, &table.to_bytes(), LONGEST);
@@ -164,7 +165,7 @@ fn gate_counts_are_judged_at_their_limit() {
 fn millions_of_gates_are_counted() {
     let sizes = Sizes::new(8, 16, 2);
     let counts = vec![1, Table::MOST_STATES, 1];
-    let mut table = tables::legal(&mut Rng::new(0), sizes, counts);
+    let mut table = tables::connected(&mut Rng::new(0), sizes, counts);
     table.output_words.fill(u16::MAX);
     // Two frames of 256 matches, edges, edges into layer 1, output bits, output gates.
     let edges = 256 * 32_769;
@@ -261,7 +262,7 @@ fn named_circuits_come_back_from_their_unfolded_tables() {
 #[test]
 fn empty_slices_are_ordinary() {
     assert_eq!(unfold(0, &[], 0), [1, 0]);
-    let table = [1, 1, 1, 1, 1, 0, 1, 0, 0];
+    let table = [1, 1, 1, 1, 1, 1, 0, 1, 0, 0];
     assert_eq!(unfold(0, &to_bytes(&table), 0), [7, 32]);
 }
 

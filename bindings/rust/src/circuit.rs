@@ -2,7 +2,8 @@
 
 use crate::{raw, Answer};
 
-/// Judges the circuit: head, length and literals, and that no output looks ahead.
+/// Judges the circuit: head, length and literals, marks of unconnected outputs among them, and that no
+/// output looks ahead.
 pub fn check_circuit(circuit: &[u8]) -> Answer {
     Answer::of(|answer| {
         // SAFETY: each pointer and length is that of one slice; only `answer` is written to.

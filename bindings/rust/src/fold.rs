@@ -2,7 +2,8 @@
 
 use crate::{raw, Answer};
 
-/// Puts the table with the fewest states that answers as `circuit` does at the front of `result`.
+/// Puts the table with the fewest states that answers as `circuit` does, with the same outputs
+/// connected, at the front of `result`.
 ///
 /// `scratch` is memory to work in. Once it is judged long enough, the part of it that is needed ends
 /// as zeros, also where `result` is too short.

@@ -2,7 +2,7 @@
 
 use crate::{raw, Answer};
 
-/// What the table of a circuit takes.
+/// What the table of a circuit takes. Which outputs are connected is no part of it.
 #[derive(Clone, Copy, Debug, PartialEq, Eq)]
 pub struct Plan {
     /// Inputs per frame, n.

@@ -12,7 +12,7 @@ pub struct Stepped {
     pub state: u16,
 }
 
-/// Judges the table's head, length and entries.
+/// Judges the table's head, length and entries, which set connected outputs alone.
 pub fn check_table(table: &[u8]) -> Answer {
     Answer::of(|answer| {
         // SAFETY: each pointer and length is that of one slice; only `answer` is written to.

@@ -1,12 +1,13 @@
 -- Bits of a word, from the lowest, and the word of its bits. Assumes nothing.
 use mathlib.Core.Path.{_≡_, refl, sym, ap, _∙_}
-use mathlib.Core.Bool.{Bool, true, false, cond}
+use mathlib.Core.Bool.{Bool, true, false, _&&_, cond}
 use mathlib.Core.List.{List, [], _∷_}
 use Prim.Native.Nat.{ℕ, zero, suc, _+_, _*_, _/_, _%_, _^_, _<_}
-use native.Mathlib.Nat.{pow-zero, pow-suc, mul-comm, div-one, div-div-eq-div-mul}
+use native.Mathlib.Nat.{pow-zero, pow-suc, mul-comm, div-one, div-div-eq-div-mul, mod-lt}
 use native.Mathlib.Decide.{ℕ-discrete}
 use native.Mathlib.Omega.{arith}
-use lib.Dec.{eqb}
+use lib.Dec.{eqb, lit<}
+use lib.Bits.{bitAnd, and-shr, and-mod}
 use lib.ListN.{length, getD}
 use borrow.Author.Tests.{eqb-true, eqb-false}
 use Rattle.circuit.specs.Lists.{bit, packed}
@@ -76,3 +77,18 @@ equal-bits n w u hw hu e = go (ℕ-discrete w u)
     go : Dec (w ≡ u) → w ≡ u
     go (yes q) = q
     go (no d) = let r = bits-apart n w u hw hu d in absurd (r .2 (e (r .0) (r .1)))
+
+-- ---- a conjunction
+
+digit-and : (p q : ℕ) → p < 2 → q < 2 → eqb (bitAnd p q) 1 ≡ (eqb p 1 && eqb q 1)
+digit-and zero q hp hq = refl
+digit-and (suc zero) zero hp hq = refl
+digit-and (suc zero) (suc zero) hp hq = refl
+digit-and (suc zero) (suc (suc q)) hp hq = absurd (omega arith)
+digit-and (suc (suc p)) q hp hq = absurd (omega arith)
+
+pub bit-and : (x y j : ℕ) → bit (bitAnd x y) j ≡ (bit x j && bit y j)
+unfolding bit
+bit-and x y j =
+    ap (λ k. eqb (k % 2) 1) (and-shr x y j) ∙ ap (λ k. eqb k 1) (and-mod (x / 2 ^ j) (y / 2 ^ j) 1)
+    ∙ digit-and (x / 2 ^ j % 2) (y / 2 ^ j % 2) (mod-lt (x / 2 ^ j) (lit< tt)) (mod-lt (y / 2 ^ j) (lit< tt))

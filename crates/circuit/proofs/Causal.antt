@@ -5,7 +5,7 @@ use Prim.Native.Nat.{ℕ, zero, suc, _+_, _*_, _-_, _/_, _^_, _<_}
 use native.Mathlib.Nat.{mul-comm, mul-suc, mul-le-mul-left}
 use native.Mathlib.Omega.{arith}
 use lib.Arith.{digits-div, digits-mod}
-use lib.ListN.{length, take, replicate, length-append, length-take}
+use lib.ListN.{length, take, replicate, length-append}
 use lib.Seq.{take-at}
 use lib.Pow.{pow-pos}
 use Rattle.sizes.specs.Sizes.{inputs, outputs, frames}
@@ -18,15 +18,11 @@ use Rattle.circuit.specs.Lists.{grown, listed, bit}
 use Rattle.circuit.specs.Circuit.{allOutputs, frameOf, outputWord, outputWords, outputBit}
 use Rattle.circuit.specs.Theorems.{response, AcceptedCausal}
 use Rattle.circuit.proofs.Bits.{equal-bits}
-use Rattle.circuit.proofs.Laws.{packed-below}
+use Rattle.circuit.proofs.Unconnected.{word-below, word-clear}
 use Rattle.circuit.proofs.Accepted.{Accepted, accepted}
 use Rattle.circuit.proofs.Ahead.{none-depends}
 
 -- ---- an output word depends on no later word
-
-word-below : (b words : List ℕ) (t : ℕ) → outputWord b words t < 2 ^ outputs b
-unfolding outputWord
-word-below b words t = packed-below _ (outputs b) (simp length-take (omega arith))
 
 module _ (b : List ℕ) (A : Accepted b) where
   word-agrees : (c d : List ℕ) (t : ℕ) → t < frames b → Words (2 ^ inputs b) (frames b) c → Words (2 ^ inputs b) (frames b) d → take (suc t) c ≡ take (suc t) d
@@ -97,4 +93,4 @@ module _ (b : List ℕ) (A : Accepted b) where
 
 pub causal : (b : List ℕ) → AcceptedCausal b
 unfolding AcceptedCausal response
-causal b p e = let A = accepted b p e in record { follows = follows b A; below = λ t h. word-below b _ _ }
+causal b p e = let A = accepted b p e in record { follows = follows b A; below = λ t h. word-below b _ _; clear = λ t h l. let i : suc t - 1 ≡ t = omega arith in rw i (word-clear b (A .form .head) _ t l) }

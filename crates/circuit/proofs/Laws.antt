@@ -1,6 +1,6 @@
--- Laws of the definitions: arrays that are filled from the front, literals, values and output words. Assumes nothing.
+-- Laws of the definitions: arrays that are filled from the front, values and output words. Assumes nothing.
 use mathlib.Core.Path.{_≡_, refl, sym, ap, ap₂, _∙_}
-use mathlib.Core.Bool.{Bool, true, false, not, _&&_, cond}
+use mathlib.Core.Bool.{Bool, true, false, _&&_, cond}
 use mathlib.Core.List.{List, [], _∷_, _++_}
 use Prim.Native.Nat.{ℕ, zero, suc, _+_, _*_, _-_, _/_, _^_, _≤_, _<_}
 use native.Mathlib.Nat.{add-zero, mul-suc, mul-le-mul-left, lt-of-lt-of-le, pow-suc}
@@ -10,45 +10,13 @@ use lib.ListN.{length, getD, take, drop, set, length-append}
 use lib.Seq.{take-suc, take-suc-set, getD-take, drop-cons, take-take, take-nil}
 use lib.Pow.{pow-mono}
 use lib.Dec.{lit<}
-use borrow.Author.Tests.{ltb-true, lt-ltb, le-ltb}
-use Rattle.words.specs.Words.{wordAt}
 use Rattle.sizes.specs.Sizes.{inputs, outputs, frames}
 use Rattle.circuit.specs.Lists.{grown, packed}
-use Rattle.circuit.specs.Circuit.{gates, leftsAt, rightsAt, literalAt, allInputs, allOutputs, gateSignal, outputSignal, admissible, inputValues, literalValue, gateValue, signalValues, outputWord}
-use Rattle.circuit.specs.Limits.{circuitHead, mostSignals}
-use Rattle.circuit.specs.WellFormed.{CircuitHeaded, HeadOf, LegalGates, GateOf}
+use Rattle.circuit.specs.Circuit.{gates, leftsAt, rightsAt, allInputs, allOutputs, gateSignal, outputSignal, inputValues, literalValue, gateValue, signalValues, outputWord}
+use Rattle.circuit.specs.Limits.{mostSignals}
+use Rattle.circuit.specs.WellFormed.{CircuitHeaded, HeadOf, LegalGates}
 use Rattle.circuit.specs.declared.Head.{Head}
-
--- ---- literals
-
-pub too-high : (b : List ℕ) (start g base literal : ℕ) → base ≡ 1 + allInputs b → literal ≡ wordAt b (start + 2 * g) → 2 * (base + g) ≤ literal
-    → not (admissible b g (literalAt b start g)) ≡ true
-unfolding admissible gateSignal literalAt
-too-high b start g base literal e q h = ap not (le-ltb (wordAt b (start + 2 * g)) (2 * (1 + allInputs b + g)) (omega arith))
-
-pub low-enough : (b : List ℕ) (start g base literal : ℕ) → base ≡ 1 + allInputs b → literal ≡ wordAt b (start + 2 * g) → literal < 2 * (base + g)
-    → not (admissible b g (literalAt b start g)) ≡ false
-unfolding admissible gateSignal literalAt
-low-enough b start g base literal e q h = ap not (lt-ltb (wordAt b (start + 2 * g)) (2 * (1 + allInputs b + g)) (omega arith))
-
--- an admissible literal is of a signal before the gate
-pub signal-before : (b : List ℕ) (g literal n : ℕ) → admissible b g literal ≡ true → n ≡ 1 + allInputs b + g → literal / 2 < n
-unfolding admissible gateSignal
-signal-before b g literal n e q = omega (arith, ltb-true literal _ e)
-
--- the two literals of a gate, as they are read
-pub gate-read : (b : List ℕ) (count g l r : ℕ) → LegalGates b → g < gates b → count ≡ gates b → l ≡ wordAt b (circuitHead + 2 * g) → r ≡ wordAt b (circuitHead + 2 * (count + g))
-    → GateOf b g (record { left = l; right = r })
-unfolding literalAt leftsAt rightsAt
-gate-read b count g l r L h e el er =
-    let p : circuitHead + 2 * (count + g) ≡ circuitHead + 2 * gates b + 2 * g = omega arith in
-    let q = er ∙ ap (wordAt b) p in
-    record {
-      left-is = el;
-      right-is = q;
-      left-before = rw el (signal-before b g _ _ (L .left g h) refl);
-      right-before = rw q (signal-before b g _ _ (L .right g h) refl);
-    }
+use Rattle.circuit.proofs.Literals.{operand-before}
 
 -- ---- `grown`: an array that is filled from the front
 
@@ -121,7 +89,7 @@ values-grow b words v L room I (suc k) h e =
     ap (λ i. take i v) next ∙ take-suc v n false (omega arith)
     ∙ ap₂ (λ (s : List Bool) (x : Bool). s ++ (x ∷ [])) before
     (e k (omega arith)
-    ∙ sym (ap₂ _&&_ (literal-take v n _ (signal-before b k _ n (L .left k h) refl)) (literal-take v n _ (signal-before b k _ n (L .right k h) refl)))
+    ∙ sym (ap₂ _&&_ (literal-take v n _ (operand-before b (leftsAt b) k n (L .left k h) refl)) (literal-take v n _ (operand-before b (rightsAt b) k n (L .right k h) refl)))
     ∙ ap (λ s. gateValue b s k) before)
 
 -- ---- output words

@@ -1,9 +1,9 @@
 -- Lists that are made one element at a time.
-use mathlib.Core.Path.{_≡_, refl, ap, ap₂, _∙_}
+use mathlib.Core.Path.{_≡_, refl, sym, ap, ap₂, _∙_}
 use mathlib.Core.Logic.{⊎-elim}
-use mathlib.Core.List.{List, [], _∷_, _++_}
+use mathlib.Core.List.{List, [], _∷_, _++_, append-nil, append-assoc}
 use Prim.Native.Nat.{ℕ, zero, suc, _+_, _<_}
-use native.Mathlib.Nat.{le-of-suc-le-suc, eq-or-lt-of-le, le-suc, le-trans, le-refl, zero-add}
+use native.Mathlib.Nat.{le-of-suc-le-suc, eq-or-lt-of-le, le-suc, le-trans, le-refl, zero-add, add-zero}
 use native.Mathlib.Numerals.{add-one}
 use native.Mathlib.Omega.{arith}
 use lib.ListN.{length, getD, List·getD-append}
@@ -22,19 +22,27 @@ module _ {A : Type 0} (start : List A) (next : List A → ℕ → A) (d : A) whe
   unfolding grown
   grown-new k = getD-at (grown start next k) _ [] d (length start + k) (length-grown start next k)
 
+  -- what is there at first stays
+  pub grown-start : (k i : ℕ) → i < length start → getD (grown start next k) i d ≡ getD start i d
+  unfolding grown
+  grown-start zero i h = refl
+  grown-start (suc k) i h = grown-old k i (omega arith) ∙ grown-start k i h
+
+  -- and so does each new element
+  pub grown-at : (k i : ℕ) → i < k → getD (grown start next k) (length start + i) d ≡ next (grown start next i) i
+  grown-at zero i h = absurd (omega arith)
+  grown-at (suc k) i h =
+      ⊎-elim
+      (λ (e : i ≡ k). rw e (grown-new k))
+      (λ (l : i < k). grown-old k (length start + i) (omega arith) ∙ grown-at k i l)
+      (eq-or-lt-of-le (le-of-suc-le-suc h))
+
 module _ {A : Type 0} (start : List A) (f : ℕ → A) (d : A) where
   pub listed-start : (k i : ℕ) → i < length start → getD (listed start f k) i d ≡ getD start i d
-  unfolding grown
-  listed-start zero i h = refl
-  listed-start (suc k) i h = grown-old start (λ _ i. f i) d k i (omega arith) ∙ listed-start k i h
+  listed-start = grown-start start (λ _ i. f i) d
 
   pub listed-after : (k i : ℕ) → i < k → getD (listed start f k) (length start + i) d ≡ f i
-  listed-after zero i h = absurd (omega arith)
-  listed-after (suc k) i h =
-      ⊎-elim
-      (λ (e : i ≡ k). rw e (grown-new start (λ _ i. f i) d k))
-      (λ (l : i < k). grown-old start (λ _ i. f i) d k (length start + i) (omega arith) ∙ listed-after k i l)
-      (eq-or-lt-of-le (le-of-suc-le-suc h))
+  listed-after = grown-at start (λ _ i. f i) d
 
 -- ---- listed
 
@@ -60,3 +68,11 @@ pub listed-cons : {A : Type 0} (x : A) (f : ℕ → A) (k : ℕ) → listed (x �
 unfolding grown
 listed-cons x f zero = refl
 listed-cons x f (suc k) = ap (λ l. l ++ (f k ∷ [])) (listed-cons x f k)
+
+-- a list in two parts
+pub listed-add : {A : Type 0} (f : ℕ → A) (a b : ℕ) → listed [] f (a + b) ≡ listed [] f a ++ listed [] (λ j. f (a + j)) b
+unfolding grown
+listed-add f a zero = ap (listed [] f) (add-zero a) ∙ sym (append-nil (listed [] f a))
+listed-add {A} f a (suc b) =
+    let p : a + suc b ≡ suc (a + b) = omega arith in
+    ap (listed [] f) p ∙ ap (λ (l : List A). l ++ (f (a + b) ∷ [])) (listed-add f a b) ∙ append-assoc (listed [] f a) (listed [] (λ j. f (a + j)) b) (f (a + b) ∷ [])

@@ -4,7 +4,7 @@ use Prim.Native.Nat.{ℕ, suc, _+_, _*_, _-_, _/_, _%_, _^_}
 use mathlib.Core.List.{List, [], _∷_}
 use mathlib.Core.Bool.{Bool, false, not, _&&_, cond, Bool·beq}
 use lib.ListN.{length, getD, take, drop}
-use lib.Dec.{ltb, eqb}
+use lib.Dec.{ltb, leb, eqb}
 use Rattle.words.specs.Words.{wordAt}
 use Rattle.verdict.specs.Judgements.{answer, refuse, andThen, refuseFirst}
 use Rattle.verdict.specs.declared.Figures.{Figures}
@@ -12,7 +12,7 @@ use Rattle.sizes.specs.Sizes.{inputs, outputs, frames, outside, sizesChecked}
 use Rattle.sizes.specs.Limits.{mostInputs}
 use Rattle.layered.specs.Search.{every}
 use Rattle.layered.specs.Histories.{historyWords}
-use Rattle.circuit.specs.Limits.{circuitHead, mostGates}
+use Rattle.circuit.specs.Limits.{circuitHead, mostGates, mark}
 use Rattle.circuit.specs.Lists.{grown, listed, bit, packed, blockStart}
 
 -- ---- where things stand
@@ -46,9 +46,24 @@ allOutputs b = outputs b * frames b
 unfoldable pub gateSignal : List ℕ → (g : ℕ) → ℕ
 gateSignal b g = 1 + allInputs b + g
 
--- the signal of output q, counted over all frames: the last gates are the outputs
+-- the gate of output q, counted over all frames: the last gates are the outputs; and its signal
+abbrev pub gateOfOutput : List ℕ → (q : ℕ) → ℕ
+gateOfOutput b q = gates b - allOutputs b + q
+
 unfoldable pub outputSignal : List ℕ → (q : ℕ) → ℕ
-outputSignal b q = gateSignal b (gates b - allOutputs b + q)
+outputSignal b q = gateSignal b (gateOfOutput b q)
+
+-- gate g is an unconnected output (document 02, Point 8: nothing is fitted): one of the last gates, with the mark as both literals
+unfoldable pub unconnected : List ℕ → (g : ℕ) → Bool
+unconnected b g = leb (gates b - allOutputs b) g && (eqb (literalAt b (leftsAt b) g) mark && eqb (literalAt b (rightsAt b) g) mark)
+
+-- output j of frame t, both from 0, is connected
+abbrev pub connects : List ℕ → (t j : ℕ) → Bool
+connects b t j = not (unconnected b (gateOfOutput b (outputs b * t + j)))
+
+-- the connected outputs of frame t as a word, bit j for output j
+unfoldable pub connectedOutputs : List ℕ → (t : ℕ) → ℕ
+connectedOutputs b t = packed (listed [] (connects b t) (outputs b))
 
 -- the frame, from 1, of item i of a row with so many items to a frame: of an input, or of an output
 unfoldable pub frameOf : (per i : ℕ) → ℕ
@@ -65,13 +80,21 @@ headChecked most b =
     (refuse (not (eqb (length b) (circuitLength b))) 1 (length b)
     (answer 0 0))))
 
--- a literal of gate g is admissible: it is of an earlier signal
-unfoldable pub admissible : List ℕ → (g literal : ℕ) → Bool
-admissible b g literal = ltb literal (2 * gateSignal b g)
+-- a literal is of an unconnected output
+unfoldable pub ofUnconnected : List ℕ → (literal : ℕ) → Bool
+ofUnconnected b literal = ltb (allInputs b) (literal / 2) && unconnected b (literal / 2 - gateSignal b 0)
 
--- 3, of the literals at `start`
+-- a literal of gate g is admissible: of the earlier signals it may be of each but an unconnected output; beyond them it may only be gate g's mark,
+-- which both literals are where gate g is such an output
+unfoldable pub admissible : List ℕ → (g literal : ℕ) → Bool
+admissible b g literal = cond (ltb literal (2 * gateSignal b g)) (not (ofUnconnected b literal)) (unconnected b g)
+
+-- 3, of the literals at `start`: those of `count` gates from gate g on, and all
+abbrev pub literalsFrom : List ℕ → (start g count : ℕ) → Figures
+literalsFrom b start g count = refuseFirst (λ g. not (admissible b g (literalAt b start g))) 3 (λ g. start + 2 * g) (answer 0 0) g count
+
 unfoldable pub literalsChecked : List ℕ → (start : ℕ) → Figures
-literalsChecked b start = refuseFirst (λ g. not (admissible b g (literalAt b start g))) 3 (λ g. start + 2 * g) (answer 0 0) 0 (gates b)
+literalsChecked b start = literalsFrom b start 0 (gates b)
 
 -- every check but 4: 1 (head), 2, 1, 3
 unfoldable pub formChecked : List ℕ → Figures
@@ -90,9 +113,13 @@ inputValues words n count = listed (false ∷ []) (λ i. bit (getD words (i / n)
 unfoldable pub literalValue : List Bool → (literal : ℕ) → Bool
 literalValue vs literal = cond (eqb (literal % 2) 1) (not (getD vs (literal / 2) false)) (getD vs (literal / 2) false)
 
--- a gate is the AND of its two literals
+-- gate g's operand of the array at `start`: its literal, or 0 where it is an unconnected output, which so gives 0
+unfoldable pub operand : List ℕ → (start g : ℕ) → ℕ
+operand b start g = cond (unconnected b g) 0 (literalAt b start g)
+
+-- a gate is the AND of its two operands
 unfoldable pub gateValue : List ℕ → List Bool → (g : ℕ) → Bool
-gateValue b vs g = literalValue vs (literalAt b (leftsAt b) g) && literalValue vs (literalAt b (rightsAt b) g)
+gateValue b vs g = literalValue vs (operand b (leftsAt b) g) && literalValue vs (operand b (rightsAt b) g)
 
 -- the values of the constant, the inputs and the first k gates
 unfoldable pub signalValues : List ℕ → (words : List ℕ) (k : ℕ) → List Bool

@@ -1,5 +1,5 @@
--- The length of a circuit's head, the limit on its gates, and the most signals that there can be: the constant, all inputs and the gates. In
--- src/ they are the associated constants of `Limits`.
+-- The length of a circuit's head, the limit on its gates, the most signals that there can be (the constant, all inputs and the gates), and the
+-- mark of an unconnected output. In src/ they are the associated constants of `Limits`.
 use Prim.Native.Nat.{ℕ, _+_}
 use Rattle.sizes.specs.Limits.{mostBits}
 
@@ -11,3 +11,6 @@ mostGates = 4096
 
 abbrev pub mostSignals : ℕ
 mostSignals = 1 + mostBits + mostGates
+
+abbrev pub mark : ℕ
+mark = 65535

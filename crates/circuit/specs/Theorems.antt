@@ -1,14 +1,15 @@
 -- What number 4 means, and what an accepted circuit is to the theory of layered states: its response, and that its outputs are the response's.
-use Prim.Native.Nat.{ℕ, _-_, _^_, _<_}
+use Prim.Native.Nat.{ℕ, suc, _-_, _^_, _<_}
 use mathlib.Core.Path.{_≡_}
 use mathlib.Core.Logic.{_↔_}
 use mathlib.Core.List.{List, _++_}
+use lib.Bits.{bitAnd}
 use lib.ListN.{take, replicate}
 use Rattle.verdict.specs.Judgements.{answer}
 use Rattle.sizes.specs.Sizes.{inputs, outputs, frames}
 use Rattle.layered.specs.States.{Words, outputs as outputsOf}
 use Rattle.layered.specs.Histories.{historyWords}
-use Rattle.circuit.specs.Circuit.{allOutputs, frameOf, outputWord, outputWords, outputBit, formChecked, checked}
+use Rattle.circuit.specs.Circuit.{allOutputs, connectedOutputs, frameOf, outputWord, outputWords, outputBit, formChecked, checked}
 
 -- ---- number 4
 
@@ -35,9 +36,11 @@ unfoldable pub response : List ℕ → (t h : ℕ) → ℕ
 response b t h = outputWord b (historyWords (2 ^ inputs b) t h ++ replicate (frames b - t) 0) (t - 1)
 
 -- the outputs on every sequence are the response's: no output depends on later words. All that is known of number 4 above the check.
+-- And no output that is unconnected is ever set.
 pub record Causal (b : List ℕ) : Type 0 where
   pub follows : (c : List ℕ) → Words (2 ^ inputs b) (frames b) c → outputWords b c ≡ outputsOf (2 ^ inputs b) (response b) 0 0 c
   pub below : (t h : ℕ) → response b t h < 2 ^ outputs b
+  pub clear : (t h : ℕ) → t < frames b → bitAnd (response b (suc t) h) (connectedOutputs b t) ≡ response b (suc t) h
 
 -- a circuit that passes every check is causal
 unfoldable pub AcceptedCausal : List ℕ → Type 0

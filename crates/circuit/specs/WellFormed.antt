@@ -8,7 +8,7 @@ use Rattle.sizes.specs.Sizes.{inputs, outputs, frames}
 use Rattle.sizes.specs.Sized.{Sized}
 use Rattle.sizes.specs.Limits.{mostBits}
 use Rattle.circuit.specs.Limits.{circuitHead, mostGates}
-use Rattle.circuit.specs.Circuit.{gates, leftsAt, rightsAt, literalAt, allInputs, allOutputs, admissible}
+use Rattle.circuit.specs.Circuit.{gates, leftsAt, rightsAt, literalAt, allInputs, allOutputs, admissible, operand}
 use Rattle.circuit.specs.declared.Head.{Head}
 use Rattle.circuit.specs.declared.Gate.{Gate}
 
@@ -40,9 +40,13 @@ pub record WellFormed (b : List ℕ) (h : Head) : Type 0 where
   pub head-is : HeadOf b h
   pub legal : LegalGates b
 
--- r holds the literals of gate g, which are of signals before it
+-- the literals of gate g, as they stand
+abbrev pub literalsOf : List ℕ → (g : ℕ) → Gate
+literalsOf b g = record { left = literalAt b (leftsAt b) g; right = literalAt b (rightsAt b) g }
+
+-- r holds the operands of gate g, which are of signals before it
 pub record GateOf (b : List ℕ) (g : ℕ) (r : Gate) : Type 0 where
-  pub left-is : r .left ≡ literalAt b (leftsAt b) g
-  pub right-is : r .right ≡ literalAt b (rightsAt b) g
+  pub left-is : r .left ≡ operand b (leftsAt b) g
+  pub right-is : r .right ≡ operand b (rightsAt b) g
   pub left-before : r .left / 2 < 1 + allInputs b + g
   pub right-before : r .right / 2 < 1 + allInputs b + g

@@ -5,15 +5,18 @@ use verdict::Refusal;
 use verdict::Verdict;
 use words::read;
 ghost use mathlib.Core.Path.{_≡_};
-ghost use Prim.Native.Nat.{_+_, _*_, _≤_, _<_};
+ghost use mathlib.Core.Bool.{false};
+ghost use Prim.Native.Nat.{ℕ, _+_, _*_, _-_, _≤_, _<_};
 ghost use lib.ListN.{length};
 ghost use Rattle.verdict.specs.Judgements.{figures};
+ghost use Rattle.sizes.specs.Sizes.{frames};
 ghost use Rattle.sizes.specs.Limits.{mostOutputs, mostBits};
+ghost use Rattle.layered.specs.Search.{least};
 ghost use Rattle.circuit.specs.Lists.{bit};
-ghost use Rattle.circuit.specs.Circuit.{gates, headChecked, literalsChecked, formChecked};
-ghost use Rattle.circuit.specs.WellFormed.{CircuitHeaded, HeadOf, WellFormed, GateOf};
+ghost use Rattle.circuit.specs.Circuit.{gates, gateOfOutput, unconnected, connectedOutputs, admissible, headChecked, literalsFrom, literalsChecked, formChecked};
+ghost use Rattle.circuit.specs.WellFormed.{CircuitHeaded, HeadOf, WellFormed, GateOf, literalsOf};
 
-// The limits on the length of a circuit's head and on its gates, and the most signals there can be.
+// The length of a circuit's head, the limit on its gates, the most signals there can be, and the mark of an unconnected output.
 pub struct Limits;
 
 impl Limits {
@@ -22,6 +25,8 @@ impl Limits {
     pub const GATES: usize = 4096;
 
     pub const SIGNALS: usize = 1 + sizes::Limits::BITS + Limits::GATES;
+
+    pub const MARK: usize = 65535;
 }
 
 // The sizes of a circuit, with the signal of its first gate and its number of outputs over all frames.
@@ -52,6 +57,12 @@ impl Head {
     }
 }
 
+// Two literals of a gate: those that stand in the circuit, or its operands.
+pub struct Gate {
+    pub left: usize,
+    pub right: usize,
+}
+
 // Numbers 1 (head), 2 and 1 of document 01. `most` is the largest n.
 pub fn check_head(circuit: &[u8], most: usize) -> Verdict
     requires { ⌜ most ≤ mostBits ⌝ }
@@ -76,14 +87,71 @@ pub fn check_head(circuit: &[u8], most: usize) -> Verdict
     Verdict::Accepted(0)
 }
 
-// Number 3, of the literals at byte offset `start`.
-fn check_literals(circuit: &[u8], head: Head, start: usize) -> Verdict
+// The two literals of gate g, as they stand.
+fn read_literals(circuit: &[u8], head: Head, g: usize) -> Gate
+    requires { ⌜ CircuitHeaded (now circuit) ⌝ }
+    requires { ⌜ HeadOf (now circuit) head ⌝ }
+    requires { ⌜ g < gates (now circuit) ⌝ }
+    ensures { λ r. ⌜ r ≡ literalsOf (now (circuit .entry)) g ⌝ }
+{
+    let left = read(circuit, Limits::HEAD + 2 * g);
+    let right = read(circuit, Limits::HEAD + 2 * (head.gates + g));
+    Gate { left, right }
+}
+
+// Whether the output with gate g is unconnected.
+fn is_unconnected(circuit: &[u8], head: Head, g: usize) -> bool
+    requires { ⌜ CircuitHeaded (now circuit) ⌝ }
+    requires { ⌜ HeadOf (now circuit) head ⌝ }
+    requires { ⌜ (gateOfOutput (now circuit) 0 ≤ g) × (g < gates (now circuit)) ⌝ }
+    ensures { λ r. ⌜ r ≡ unconnected (now (circuit .entry)) g ⌝ }
+{
+    let gate = read_literals(circuit, head, g);
+    gate.left == Limits::MARK && gate.right == Limits::MARK
+}
+
+// Whether a literal of the output with gate g is admissible.
+fn is_admissible(circuit: &[u8], head: Head, g: usize, literal: usize) -> bool
+    requires { ⌜ CircuitHeaded (now circuit) ⌝ }
+    requires { ⌜ HeadOf (now circuit) head ⌝ }
+    requires { ⌜ (gateOfOutput (now circuit) 0 ≤ g) × (g < gates (now circuit)) ⌝ }
+    ensures { λ r. ⌜ r ≡ admissible (now (circuit .entry)) g literal ⌝ }
+{
+    let signal = literal / 2;
+    if head.base + g <= signal {
+        return is_unconnected(circuit, head, g);
+    }
+    if signal < head.base + (head.gates - head.total) {
+        return true;
+    }
+    let named = signal - head.base;
+    !is_unconnected(circuit, head, named)
+}
+
+// How many gates there are before the first unconnected output: all, where there is none.
+fn first_unconnected(circuit: &[u8], head: Head) -> usize
+    requires { ⌜ CircuitHeaded (now circuit) ⌝ }
+    requires { ⌜ HeadOf (now circuit) head ⌝ }
+    ensures { λ r. ⌜ r ≡ least (gates (now (circuit .entry))) (unconnected (now (circuit .entry))) ⌝ }
+{
+    let first = head.gates - head.total;
+    let count = head.gates;
+    for g in first..count {
+        if is_unconnected(circuit, head, g) {
+            return g;
+        }
+    }
+    count
+}
+
+// Number 3, of the literals at byte offset `start` of the first `count` gates, none of which is an unconnected output.
+fn check_first(circuit: &[u8], head: Head, start: usize, count: usize) -> Verdict
     requires { ⌜ CircuitHeaded (now circuit) ⌝ }
     requires { ⌜ HeadOf (now circuit) head ⌝ }
     requires { ⌜ start + 2 * gates (now circuit) ≤ length (now circuit) ⌝ }
-    ensures { λ r. ⌜ figures r ≡ literalsChecked (now (circuit .entry)) start ⌝ }
+    requires { ⌜ (count ≤ gates (now circuit)) × ((g : ℕ) → g < count → unconnected (now circuit) g ≡ false) ⌝ }
+    ensures { λ r. ⌜ figures r ≡ literalsFrom (now (circuit .entry)) start 0 count ⌝ }
 {
-    let count = head.gates;
     let base = head.base;
     for g in 0..count {
         let at = start + 2 * g;
@@ -94,21 +162,50 @@ fn check_literals(circuit: &[u8], head: Head, start: usize) -> Verdict
     Verdict::Accepted(0)
 }
 
-// The two literals of a gate.
-pub struct Gate {
-    pub left: usize,
-    pub right: usize,
+// Number 3, of the literals there of the outputs from gate `first` on.
+fn check_rest(circuit: &[u8], head: Head, start: usize, first: usize) -> Verdict
+    requires { ⌜ CircuitHeaded (now circuit) ⌝ }
+    requires { ⌜ HeadOf (now circuit) head ⌝ }
+    requires { ⌜ start + 2 * gates (now circuit) ≤ length (now circuit) ⌝ }
+    requires { ⌜ (gateOfOutput (now circuit) 0 ≤ first) × (first ≤ gates (now circuit)) ⌝ }
+    ensures { λ r. ⌜ figures r ≡ literalsFrom (now (circuit .entry)) start first (gates (now (circuit .entry)) - first) ⌝ }
+{
+    let count = head.gates;
+    for g in first..count {
+        let at = start + 2 * g;
+        if !is_admissible(circuit, head, g, read(circuit, at)) {
+            return Verdict::Refused(Refusal::Literal(at));
+        }
+    }
+    Verdict::Accepted(0)
 }
 
-// The literals of gate g.
+// Number 3, of all literals there. Up to the first unconnected output none has to be looked at for what it names.
+fn check_literals(circuit: &[u8], head: Head, start: usize, first: usize) -> Verdict
+    requires { ⌜ CircuitHeaded (now circuit) ⌝ }
+    requires { ⌜ HeadOf (now circuit) head ⌝ }
+    requires { ⌜ start + 2 * gates (now circuit) ≤ length (now circuit) ⌝ }
+    requires { ⌜ first ≡ least (gates (now circuit)) (unconnected (now circuit)) ⌝ }
+    ensures { λ r. ⌜ figures r ≡ literalsChecked (now (circuit .entry)) start ⌝ }
+{
+    let before = check_first(circuit, head, start, first);
+    let Verdict::Accepted(_) = before else {
+        return before;
+    };
+    check_rest(circuit, head, start, first)
+}
+
+// The operands of gate g. Behind the check the mark stands in both literals or in neither, so the left one tells.
 pub fn read_gate(circuit: &[u8], head: Head, g: usize) -> Gate
     requires { ⌜ WellFormed (now circuit) head ⌝ }
     requires { ⌜ g < gates (now circuit) ⌝ }
     ensures { λ r. ⌜ GateOf (now (circuit .entry)) g r ⌝ }
 {
-    let left = read(circuit, Limits::HEAD + 2 * g);
-    let right = read(circuit, Limits::HEAD + 2 * (head.gates + g));
-    Gate { left, right }
+    let gate = read_literals(circuit, head, g);
+    if gate.left == Limits::MARK {
+        return Gate { left: 0, right: 0 };
+    }
+    gate
 }
 
 // Every check of a circuit but that of number 4.
@@ -120,11 +217,32 @@ pub fn check_form(circuit: &[u8]) -> Verdict
         return judged;
     };
     let head = Head::read(circuit);
-    let lefts = check_literals(circuit, head, Limits::HEAD);
+    let first = first_unconnected(circuit, head);
+    let lefts = check_literals(circuit, head, Limits::HEAD, first);
     let Verdict::Accepted(_) = lefts else {
         return lefts;
     };
-    check_literals(circuit, head, Limits::HEAD + 2 * head.gates)
+    let rights_at = Limits::HEAD + 2 * head.gates;
+    check_literals(circuit, head, rights_at, first)
+}
+
+// The connected outputs of frame t, from 0.
+pub fn connected_outputs(circuit: &[u8], head: Head, t: usize) -> usize
+    requires { ⌜ CircuitHeaded (now circuit) ⌝ }
+    requires { ⌜ HeadOf (now circuit) head ⌝ }
+    requires { ⌜ t < frames (now circuit) ⌝ }
+    ensures { λ r. ⌜ (r ≡ connectedOutputs (now (circuit .entry)) t) × (r < 65536) ⌝ }
+{
+    let mut word = 0;
+    let end = head.gates - head.total + head.outputs * (t + 1);
+    let count = head.outputs;
+    for j in 0..count {
+        word *= 2;
+        if !is_unconnected(circuit, head, end - 1 - j) {
+            word += 1;
+        }
+    }
+    word
 }
 
 // Bit j of a word.

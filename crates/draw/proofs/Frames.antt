@@ -19,7 +19,7 @@ use Rattle.circuit.specs.Lists.{listed}
 use Rattle.table.specs.Table.{states, entryCount, outputsAt, nextsAt, entryAt, layerPart}
 use Rattle.table.specs.Sound.{TableHeaded}
 use Rattle.table.proofs.Offsets.{arrays-stand}
-use Rattle.unfolded.specs.Unfolded.{lastOf, chainsFrom, ending, inverted, Frame, matching, matchGates, matchLiteral, edgesAt, edgeGate, edgeGates, invertedEdges, nextGatesAt, entering, nextGates, nextLiteral, outGatesAt, withBit, outGates, outLiteral, frameGates, Drawing, tableFrame, drawing, withFrame, outputGate, drawn, gatesNeeded}
+use Rattle.unfolded.specs.Unfolded.{lastOf, chainsFrom, ending, inverted, Frame, matching, matchGates, matchLiteral, edgesAt, edgeGate, edgeGates, invertedEdges, nextGatesAt, entering, nextGates, nextLiteral, outGatesAt, withBit, outGates, outLiteral, frameGates, Drawing, tableFrame, drawing, withFrame, isConnected, outputGate, drawn, gatesNeeded}
 use Rattle.circuit.proofs.Lists.{listed-length, listed-cong}
 use Rattle.unfolded.proofs.Drawings.{drawn-length, frame-nexts}
 use Rattle.unfolded.proofs.Counts.{matches-length, match-count, edge-count, frame-count}
@@ -291,15 +291,18 @@ module _ (b : List ℕ) where
       ∙ ap₂ (λ (xs ys : List ℕ). xs ++ ys) ev (ew ∙ ap (listed [] (outLiteral F)) em)
 
   -- the output gates, behind all frames
-  pub outputs-drawn : (G : ℕ) (v w w′ : List ℕ) (k q : ℕ) (ls : List ℕ) → w ≡ gatesStored G 0 v (drawing b (frames b) .gates) → k ≡ length (drawing b (frames b) .gates)
-      → take q ls ≡ drawing b (frames b) .outputs → q ≡ outputs b * frames b → w′ ≡ gatesStored G k w (listed [] (λ i. (getD ls i 0, 1)) q) → k + q ≤ G → 8 + 4 * G ≤ length v
+  pub outputs-drawn : (G : ℕ) (v w w′ : List ℕ) (k : ℕ) (ls : List ℕ) → w ≡ gatesStored G 0 v (drawing b (frames b) .gates) → k ≡ length (drawing b (frames b) .gates)
+      → take (outputs b * frames b) ls ≡ drawing b (frames b) .outputs
+      → w′ ≡ gatesStored G k w (listed [] (λ q. outputGate (isConnected b q) (getD ls q 0)) (outputs b * frames b)) → k + outputs b * frames b ≤ G → 8 + 4 * G ≤ length v
       → w′ ≡ gatesStored G 0 v (drawn b)
-  unfolding drawn outputGate
-  outputs-drawn G v w w′ k q ls ew ek el eq e h room =
+  unfolding drawn
+  outputs-drawn G v w w′ k ls ew ek el e h room =
       let d : Drawing = drawing b (frames b) in
-      let f : ℕ → ℕ × ℕ = λ i. (getD ls i 0, 1) in
+      let q : ℕ = outputs b * frames b in
+      let f : ℕ → ℕ × ℕ = λ i. outputGate (isConnected b i) (getD ls i 0) in
+      let g : ℕ → ℕ × ℕ = λ i. outputGate (isConnected b i) (getD (d .outputs) i 0) in
       let gs : List (ℕ × ℕ) = listed [] f q in
-      let same : gs ≡ listed [] (outputGate d) (outputs b * frames b) =
-      listed-cong f (outputGate d) q (λ i l. ap (λ (x : ℕ). (x, 1)) (sym (getD-take q ls i 0 l) ∙ ap (λ (l : List ℕ). getD l i 0) el)) ∙ ap (listed [] (outputGate d)) eq in
+      let same : gs ≡ listed [] g q =
+      listed-cong f g q (λ i l. ap (outputGate (isConnected b i)) (sym (getD-take q ls i 0 l) ∙ ap (λ (l : List ℕ). getD l i 0) el)) in
       e ∙ ap (λ (w : List ℕ). gatesStored G k w gs) ew ∙ gates-append G 0 v (d .gates) gs k (omega arith) (omega (arith, listed-length f q)) room
       ∙ ap (λ (hs : List (ℕ × ℕ)). gatesStored G 0 v (d .gates ++ hs)) same

@@ -1,2 +1,3 @@
 -- The proofs of the code that draws.
 pub mod Frames
+pub mod Outputs

@@ -3,10 +3,13 @@ use chains::Target;
 use chains::gates::put_gate;
 use chains::put_edges;
 use chains::put_matches;
+use circuit::Gate;
+use circuit::is_set;
 use gathers::Gathering;
 use gathers::Key;
 use gathers::put_gathers;
 use table::Layout;
+use table::head::connected_of;
 use table::head::entries_below;
 use table::head::states_of;
 ghost use mathlib.Core.Path.{_≡_};
@@ -15,11 +18,11 @@ ghost use mathlib.Core.List.{_∷_, []};
 ghost use Prim.Native.Nat.{suc, _+_, _*_, _≤_, _<_};
 ghost use lib.Dec.{ltb};
 ghost use lib.ListN.{length, getD, take, drop, replicate};
-ghost use Rattle.sizes.specs.Sizes.{frames};
-ghost use Rattle.circuit.specs.Lists.{listed};
+ghost use Rattle.sizes.specs.Sizes.{outputs, frames};
+ghost use Rattle.circuit.specs.Lists.{listed, bit};
 ghost use Rattle.table.specs.Table.{states};
 ghost use Rattle.table.specs.Sound.{TableHeaded, Sound, layoutOf};
-ghost use Rattle.unfolded.specs.Unfolded.{outLiteral, frameGates, drawn};
+ghost use Rattle.unfolded.specs.Unfolded.{outLiteral, isConnected, outputGate, frameGates, drawn};
 ghost use Rattle.chains.specs.Chains.{Fits, targetOf, gatesStored};
 ghost use Rattle.draw.specs.Limits.{mostLiterals};
 ghost use Rattle.draw.specs.Draw.{frameAt, gatesBefore, sourceOf, StatesKept};
@@ -152,15 +155,62 @@ fn no_outputs() -> [u16; Limits::OUTPUTS]
     [0; Limits::OUTPUTS]
 }
 
-// The output gates, from gate k on: left the literal of an output, right literal 1.
-fn put_outputs(target: Target, outputs: &[u16], count: usize, k: usize, result: &mut [u8])
-    requires { ⌜ Fits target (now result) ⌝ }
-    requires { ⌜ (k + count ≤ target .gates) × (count ≤ length (now outputs)) ⌝ }
-    ensures { λ _. ⌜ now (result .exit) ≡ gatesStored (target .gates) k (now (result .entry)) (listed [] (λ q. (getD (now (outputs .entry)) q 0, 1)) count) ⌝ }
+// The gate of an output whose gather chain ends with this literal; the mark where it is unconnected.
+fn output_gate(connected: bool, literal: usize) -> Gate
+    ensures { λ r. ⌜ r ≡ record { left = outputGate connected literal .0; right = outputGate connected literal .1 } ⌝ }
 {
-    for q in 0..count {
-        let output = outputs[q] as usize;
-        put_gate(target, k + q, output, 1, result);
+    if connected {
+        return Gate {
+            left: literal,
+            right: 1,
+        };
+    }
+    Gate {
+        left: circuit::Limits::MARK,
+        right: circuit::Limits::MARK,
+    }
+}
+
+// Stores the output gates of one frame from gate k on. `connected` has its connected outputs, and its literals begin with number `from`.
+fn put_frame_outputs(
+    target: Target,
+    connected: usize,
+    literals: &[u16],
+    from: usize,
+    k: usize,
+    result: &mut [u8],
+)
+    requires { ⌜ Fits target (now result) ⌝ }
+    requires { ⌜ (k + target .outputs ≤ target .gates) × (from + target .outputs ≤ length (now literals)) ⌝ }
+    ensures { λ _. ⌜ now (result .exit) ≡ gatesStored (target .gates) k (now (result .entry)) (listed [] (λ j. outputGate (bit connected j) (getD (now (literals .entry)) (from + j) 0)) (target .outputs)) ⌝ }
+{
+    let count = target.outputs;
+    for j in 0..count {
+        let gate = output_gate(is_set(connected, j), literals[from + j] as usize);
+        put_gate(target, k + j, gate.left, gate.right, result);
+    }
+}
+
+// Stores the output gates from gate k on, given the literals that the gather chains of all outputs end with.
+fn put_outputs(
+    table: &[u8],
+    layout: Layout,
+    target: Target,
+    literals: &[u16],
+    k: usize,
+    result: &mut [u8],
+)
+    requires { ⌜ Sound (now table) ⌝ }
+    requires { ⌜ layout ≡ layoutOf (now table) ⌝ }
+    requires { ⌜ (target ≡ targetOf (now table)) × Fits target (now result) ⌝ }
+    requires { ⌜ (k + outputs (now table) * frames (now table) ≤ target .gates) × (outputs (now table) * frames (now table) ≤ length (now literals)) ⌝ }
+    ensures { λ _. ⌜ now (result .exit) ≡ gatesStored (target .gates) k (now (result .entry)) (listed [] (λ q. outputGate (isConnected (now (table .entry)) q) (getD (now (literals .entry)) q 0)) (outputs (now (table .entry)) * frames (now (table .entry)))) ⌝ }
+{
+    let last = layout.frames;
+    for t in 0..last {
+        let from = target.outputs * t;
+        let connected = connected_of(table, last, t);
+        put_frame_outputs(target, connected, literals, from, k + from, result);
     }
 }
 
@@ -189,5 +239,5 @@ pub fn draw(table: &[u8], layout: Layout, target: Target, result: &mut [u8])
             result,
         );
     }
-    put_outputs(target, &outputs, count * frames, k, result);
+    put_outputs(table, layout, target, &outputs, k, result);
 }

@@ -4,8 +4,9 @@ use mathlib.Core.Logic.{_↔_}
 use mathlib.Core.List.{List}
 use Prim.Native.Nat.{ℕ, suc, _+_, _-_, _≤_, _<_}
 use native.Mathlib.Omega.{arith}
+use lib.Bits.{bitAnd}
 use Rattle.layered.specs.States.{Words, none, more}
-use Rattle.layered.specs.Machines.{Machine, Legal, feed, Gives, Renumbered}
+use Rattle.layered.specs.Machines.{Machine, Legal, feed, Gives, Renumbered, masked}
 use Rattle.layered.proofs.Machines.{renumbered-trans, renumbered-feed}
 use Rattle.layered.specs.Machines.{reached}
 
@@ -69,3 +70,15 @@ module _ {K m T : ℕ} (M N : Machine) (L : Legal K m T M) (A : Agree K T M N) w
         let l′ : s < M .states t = omega (arith, A .states-are t (omega arith)) in
         rw (← A .nexts-are t s w b l′ k, ← A .states-are (suc t) b) (L .next-is t s w b l′ k);
   }
+
+-- a machine whose outputs have no bit outside C gives the same when it is masked
+pub masked-gives : {K m T : ℕ} (C : ℕ → ℕ) (M : Machine) → Legal K m T M
+    → ((t s w : ℕ) → t < T → s < M .states t → w < K → bitAnd (M .out t s w) (C t) ≡ M .out t s w)
+    → (given : List ℕ → List ℕ) → Gives K T M given → Gives K T (masked C M) given
+masked-gives C M L E =
+    agree-gives M (masked C M) L (record {
+      states-are = λ t b. refl;
+      start-is = refl;
+      outs-are = λ t s w b l k. sym (E t s w b l k);
+      nexts-are = λ t s w b l k. refl;
+    })

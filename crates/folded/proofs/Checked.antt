@@ -1,14 +1,15 @@
 -- What passes the check of a table: exactly the bytes of the right length whose machine is legal and within the limits.
 use mathlib.Core.Path.{_≡_, refl, sym, ap, _∙_}
-use mathlib.Core.Bool.{Bool, true, false, _||_, cond}
+use mathlib.Core.Bool.{Bool, true, false, not, _||_, cond}
 use mathlib.Core.List.{List}
 use Prim.Native.Nat.{ℕ, suc, _+_, _*_, _/_, _%_, _^_, _≤_, _<_}
 use native.Mathlib.Nat.{div-lt-iff-lt-mul, div-add-mod', mod-lt}
 use native.Mathlib.Omega.{arith}
+use lib.Bits.{bitAnd}
 use lib.Dec.{eqb}
 use lib.Pow.{pow-pos}
 use lib.ListN.{length, take, drop, length-take}
-use borrow.Author.Tests.{le-ltb, lt-leb, eq-eqb, eqb-true}
+use borrow.Author.Tests.{le-ltb, lt-leb, eq-eqb, eqb-true, not-false}
 use Rattle.sizes.specs.Limits.{mostInputs}
 use Rattle.table.specs.Limits.{endStates, mostStates, sizesLength}
 use Rattle.words.specs.Words.{wordAt}
@@ -16,20 +17,22 @@ use Rattle.verdict.specs.Judgements.{answer}
 use Rattle.verdict.proofs.Laws.{finds-none, all-accept}
 use Rattle.sizes.specs.Sizes.{inputs, outputs, frames}
 use Rattle.sizes.specs.Sized.{Sized}
-use Rattle.sizes.proofs.Laws.{sized, not-outside, sizes-pass}
-use Rattle.table.specs.Table.{countAt, states, headLength, statesBelow, entriesBelow, entryCount, outputsAt, nextsAt, tableLength, layerPart, entryAt, machine, countsChecked, headChecked, partChecked, outputsChecked, nextsChecked, checked}
-use Rattle.table.proofs.Offsets.{part-word}
+use Rattle.sizes.proofs.Laws.{not-outside, sizes-pass}
+use Rattle.table.specs.Table.{countAt, states, connectedAt, connected, headLength, statesBelow, entriesBelow, outputsAt, nextsAt, tableLength, layerPart, entryAt, machine, countsChecked, connectedChecked, headChecked, strays, badOutput, badNext, partChecked, arrayChecked, entriesChecked, checked}
+use Rattle.table.proofs.Offsets.{part-word, head-length}
 use Rattle.table.proofs.Accepted.{sound}
 use Rattle.layered.specs.Machines.{Machine, Legal}
 use Rattle.layered.proofs.Lists.{total-mul}
-use Rattle.folded.proofs.Places.{before, entry-at}
+use Rattle.folded.proofs.Places.{before}
 
 -- ---- tables
 
--- a machine within the limits of document 01's sheet
-pub record Writable (n m T : ℕ) (M : Machine) : Type 0 where
+-- a machine within the limits of document 01's sheet, with the connected outputs C
+pub record Writable (n m T : ℕ) (C : ℕ → ℕ) (M : Machine) : Type 0 where
   pub sizes : Sized mostInputs n m T
   pub is-legal : Legal (2 ^ n) m T M
+  pub connected-to : (t : ℕ) → t < T → C t < 2 ^ m
+  pub outputs-connected : (t s w : ℕ) → t < T → s < M .states t → w < 2 ^ n → bitAnd (M .out t s w) (C t) ≡ M .out t s w
   pub counts-from : (t : ℕ) → t ≤ T → 1 ≤ M .states t
   pub counts-to : (t : ℕ) → t ≤ T → M .states t ≤ mostStates
   pub one-first : M .states 0 ≡ 1
@@ -41,13 +44,24 @@ limited true t x e f h = omega (arith, e refl)
 limited false true x e f h = omega (arith, f refl)
 limited false false x e f h = h
 
--- a part passes where each of its words is below the limit
-part-passes : (b : List ℕ) (limit at start c : ℕ) → ((i : ℕ) → i < c → wordAt b (start + 2 * i) < limit) → partChecked limit at (take (2 * c) (drop start b)) ≡ answer 0 0
+-- a part passes where none of its words is bad
+part-passes : (b : List ℕ) (bad : ℕ → Bool) (at start c : ℕ) → ((i : ℕ) → i < c → bad (wordAt b (start + 2 * i)) ≡ false) → partChecked bad at (take (2 * c) (drop start b)) ≡ answer 0 0
 unfolding partChecked
-part-passes b limit at start c B =
+part-passes b bad at start c B =
     finds-none _ 5 _ (answer 0 0) 0 _ (λ i lo hi.
     let h : i < c = omega (arith, length-take (2 * c) (drop start b)) in
-    lt-leb limit _ (rw (part-word b start (2 * c) (2 * i) (omega arith)) (B i h)))
+    rw (part-word b start (2 * c) (2 * i) (omega arith)) (B i h))
+
+-- an array passes where none of its entries is bad in its layer
+array-passes : (b : List ℕ) (start : ℕ) (bad : (t x : ℕ) → Bool)
+    → ((t s w : ℕ) → t < frames b → s < states b t → w < 2 ^ inputs b → bad t (wordAt b (entryAt b start t s w)) ≡ false) → arrayChecked b start bad ≡ answer 0 0
+unfolding arrayChecked layerPart entryAt
+array-passes b start bad G =
+    all-accept _ 0 (frames b) (λ t lo hi.
+    part-passes b (bad t) _ (start + 2 * entriesBelow b t) (states b t * 2 ^ inputs b) (λ i h.
+    let k : ℕ = 2 ^ inputs b in
+    let p : start + 2 * entriesBelow b t + 2 * i ≡ start + 2 * (entriesBelow b t + (i / k * k + i % k)) = omega (arith, div-add-mod' i k) in
+    rw p (G t (i / k) (i % k) (omega arith) (div-lt-iff-lt-mul (pow-pos (inputs b)) .1 h) (mod-lt i (pow-pos (inputs b))))))
 
 -- of the machine that the bytes b are
 module _ (b : List ℕ) where
@@ -57,7 +71,7 @@ module _ (b : List ℕ) where
 
   -- ---- the bytes of a legal machine within the limits pass the check
 
-  module _ (L : length b ≡ tableLength b) (W : Writable (inputs b) (outputs b) (frames b) (machine b)) where
+  module _ (L : length b ≡ tableLength b) (W : Writable (inputs b) (outputs b) (frames b) (connected b) (machine b)) where
     counts-pass : countsChecked b ≡ answer 0 0
     unfolding countsChecked
     counts-pass =
@@ -68,51 +82,52 @@ module _ (b : List ℕ) where
         (λ e. ap (states b) (eqb-true t (frames b) e) ∙ W .one-last)
         (W .counts-to t (omega arith))))
 
+    connected-passes : connectedChecked b ≡ answer 0 0
+    unfolding connectedChecked
+    connected-passes =
+        finds-none _ 2 (connectedAt (frames b)) (answer 0 0) 0 (frames b) (λ t lo hi. lt-leb (2 ^ outputs b) (connected b t) (W .connected-to t (omega arith)))
+
     -- the head is there
     head-fits : headLength (frames b) ≤ length b
     unfolding tableLength nextsAt outputsAt
     head-fits = omega arith
 
     head-passes : headChecked b ≡ answer 0 0
-    unfolding headChecked headLength countAt
+    unfolding headChecked
     head-passes =
         rw (
-          le-ltb (length b) sizesLength (omega (arith, head-fits)),
+          le-ltb (length b) sizesLength (omega (arith, head-fits, head-length (frames b))),
           sizes-pass mostInputs (inputs b) (outputs b) (frames b) (W .sizes),
           le-ltb (length b) (headLength (frames b)) head-fits,
           counts-pass,
+          connected-passes,
           eq-eqb (length b) (tableLength b) L,
         )
 
-    outs-below : (i : ℕ) → i < entryCount b → wordAt b (outputsAt b + 2 * i) < 2 ^ outputs b
-    unfolding entryCount entryAt
-    outs-below i h =
-        let e = entry-at (2 ^ inputs b) (frames b) (machine b) i (pow-pos (inputs b)) (omega (arith, below-is (frames b))) in
-        let p : outputsAt b + 2 * i ≡ entryAt b (outputsAt b) (e .layer) (e .state) (e .word) = omega (arith, below-is (e .layer), e .place-is) in
-        rw p (W .is-legal .out-is (e .layer) (e .state) (e .word) (e .layer-is) (e .state-is) (e .word-is))
-
-    nexts-below : (t i : ℕ) → t < frames b → i < states b t * 2 ^ inputs b → wordAt b (nextsAt b + 2 * entriesBelow b t + 2 * i) < states b (suc t)
-    unfolding entryAt
-    nexts-below t i l h =
-        let k : ℕ = 2 ^ inputs b in
-        let p : nextsAt b + 2 * entriesBelow b t + 2 * i ≡ entryAt b (nextsAt b) t (i / k) (i % k) = omega (arith, div-add-mod' i k) in
-        rw p (W .is-legal .next-is t (i / k) (i % k) l (div-lt-iff-lt-mul (pow-pos (inputs b)) .1 h) (mod-lt i (pow-pos (inputs b))))
-
     pub passes : checked b ≡ answer 0 0
-    unfolding checked outputsChecked nextsChecked layerPart
+    unfolding checked entriesChecked badOutput badNext strays
     passes =
         rw (
           head-passes,
-          part-passes b (2 ^ outputs b) (outputsAt b) (outputsAt b) (entryCount b) outs-below,
-        ) (all-accept _ 0 (frames b) (λ t lo hi.
-        part-passes b (states b (suc t)) _ (nextsAt b + 2 * entriesBelow b t) (states b t * 2 ^ inputs b) (λ i h. nexts-below t i (omega arith) h)))
+          array-passes b (outputsAt b) (badOutput b) (λ t s w l h k. ap not (eq-eqb _ _ (W .outputs-connected t s w l h k))),
+        ) (array-passes b (nextsAt b) (badNext b) (λ t s w l h k. lt-leb (states b (suc t)) _ (W .is-legal .next-is t s w l h k)))
 
   -- ---- and what passes the check is such a machine
 
-  pub passed-table : (p : ℕ) → checked b ≡ answer 0 p → (length b ≡ tableLength b) × Writable (inputs b) (outputs b) (frames b) (machine b)
+  pub passed-table : (p : ℕ) → checked b ≡ answer 0 p → (length b ≡ tableLength b) × Writable (inputs b) (outputs b) (frames b) (connected b) (machine b)
+  unfolding badOutput strays
   passed-table p e =
       let S = sound b p e in
       let H = S .headed in (
         H .whole,
-        record { sizes = H .sized; is-legal = S .legal; counts-from = H .states-from; counts-to = H .states-to; one-first = H .one-first; one-last = H .one-last },
+        record {
+          sizes = H .sized;
+          is-legal = S .legal;
+          connected-to = H .connected-to;
+          outputs-connected = λ t s w l h k. eqb-true _ _ (not-false _ (S .outputs-connected t s w l h k));
+          counts-from = H .states-from;
+          counts-to = H .states-to;
+          one-first = H .one-first;
+          one-last = H .one-last;
+        },
       )

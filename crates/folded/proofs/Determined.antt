@@ -5,6 +5,7 @@ use mathlib.Core.List.{List, [], _∷_, _++_, head-eq-of-cons-eq}
 use Prim.Native.Nat.{ℕ, zero, suc, _+_, _*_, _-_, _^_, _≤_, _<_}
 use native.Mathlib.Nat.{le-antisymm}
 use native.Mathlib.Omega.{arith}
+use lib.Bits.{bitAnd}
 use lib.ListN.{length, drop, replicate}
 use Rattle.sizes.specs.Sizes.{inputs, outputs, frames}
 use Rattle.sizes.specs.Sized.{Sized}
@@ -13,16 +14,16 @@ use Rattle.layered.specs.Machines.{Legal, feed, Gives, folded}
 use Rattle.layered.proofs.Lists.{Below}
 use Rattle.layered.proofs.States.{some-words, words-more, number-decides, number-below, history-is, history-least}
 use Rattle.layered.proofs.Machines.{legal, gives, fewest}
-use Rattle.circuit.specs.Circuit.{outputWords}
+use Rattle.circuit.specs.Circuit.{connectedOutputs, outputWords}
 use Rattle.layered.specs.Histories.{historyWords, historyNumber}
 use Rattle.circuit.specs.Theorems.{response, Causal}
-use Rattle.table.specs.Table.{states, machine}
+use Rattle.table.specs.Table.{states, connected, machine}
 use Rattle.folded.specs.Folded.{foldedBytes}
 use Rattle.layered.specs.Machines.{reached}
-use Rattle.folded.specs.Theorems.{stateOf, Smallest, Folding}
+use Rattle.folded.specs.Theorems.{stateOf, Smallest, Matches, Folding}
 use Rattle.layered.proofs.Feeding.{words-length, words-append, words-whole, reached-append, reached-below, feed-then}
 use Rattle.layered.proofs.Histories.{numbered-append, number-words, history-below, outputs-then}
-use Rattle.folded.proofs.Agreement.{Agree}
+use Rattle.folded.proofs.Agreement.{Agree, masked-gives}
 use Rattle.folded.proofs.Checked.{Writable, passed-table}
 use Rattle.folded.proofs.Written.{tableBytes}
 use Rattle.folded.proofs.Read.{bytes-are, agree-bytes}
@@ -33,16 +34,23 @@ use Rattle.folded.proofs.Theorems.{folding}
 -- ---- counts
 
 -- a folding's machine is within the limits
-folding-writable : (b t : List ℕ) → Folding (2 ^ inputs b) (outputs b) (frames b) b t → Writable (inputs b) (outputs b) (frames b) (machine t)
-folding-writable b t F = subst₃ (λ n m T. Writable n m T (machine t)) (F .same-inputs) (F .same-outputs) (F .same-frames) (passed-table t 0 (F .legal) .1)
+folding-writable : (b t : List ℕ) → Folding (2 ^ inputs b) (outputs b) (frames b) b t → Writable (inputs b) (outputs b) (frames b) (connected t) (machine t)
+folding-writable b t F = subst₃ (λ n m T. Writable n m T (connected t) (machine t)) (F .same-inputs) (F .same-outputs) (F .same-frames) (passed-table t 0 (F .legal) .1)
+
+-- and matches the circuit
+folding-matches : (b t : List ℕ) → Folding (2 ^ inputs b) (outputs b) (frames b) b t → Matches (2 ^ inputs b) (frames b) b (machine t)
+unfolding Matches
+folding-matches b t F =
+    let W = folding-writable b t F in
+    masked-gives (connectedOutputs b) (machine t) (W .is-legal) (λ k s w l h i. rw (← F .same-connected k l) (W .outputs-connected k s w l h i)) (outputWords b) (F .gives)
 
 -- invented layer counts: all foldings of a circuit have the same
 counts-determined : (b t u : List ℕ) → Folding (2 ^ inputs b) (outputs b) (frames b) b t → Folding (2 ^ inputs b) (outputs b) (frames b) b u
     → (k : ℕ) → k ≤ frames b → states t k ≡ states u k
 counts-determined b t u F G k h =
     le-antisymm
-    (F .fewest (machine u) (folding-writable b u G .is-legal) (G .gives) k h)
-    (G .fewest (machine t) (folding-writable b t F .is-legal) (F .gives) k h)
+    (F .fewest (machine u) (folding-writable b u G .is-legal) (folding-matches b u G) k h)
+    (G .fewest (machine t) (folding-writable b t F .is-legal) (folding-matches b t F) k h)
 
 -- ---- states
 
@@ -60,15 +68,17 @@ module _
     (K m T : ℕ) (b t : List ℕ) (y : ℕ → ℕ → ℕ)
     (O : (c : List ℕ) → Words K T c → outputWords b c ≡ outputsOf K y 0 0 c)
     (B : (t h : ℕ) → y t h < 2 ^ m)
+    (Z : (t h : ℕ) → t < T → bitAnd (y (suc t) h) (connectedOutputs b t) ≡ y (suc t) h)
     (F : Folding K m T b t)
     (L : Legal K m T (machine t))
   where
     count-is : (k : ℕ) → k ≤ T → count K T y k ≡ states t k
-    unfolding Gives
+    unfolding Gives Matches
     count-is k h =
+        let R = legal K m T y B in
         le-antisymm
         (fewest K m T y (machine t) L (λ c W. F .gives c W ∙ O c W) k h)
-        (F .fewest (folded K T y) (legal K m T y B) (λ c W. gives K T y c W ∙ sym (O c W)) k h)
+        (F .fewest (folded K T y) R (masked-gives (connectedOutputs b) (folded K T y) R (λ t s w l h k. Z t _ l) (outputWords b) (λ c W. gives K T y c W ∙ sym (O c W))) k h)
 
     -- histories come to one state exactly when they are equivalent
     state-decides : {k : ℕ} {c d : List ℕ} → k ≤ T → Words K k c → Words K k d → (stateOf t c ≡ stateOf t d) ↔ Equivalent K T y k (historyNumber K 0 c) (historyNumber K 0 d)
@@ -163,16 +173,16 @@ module _
 module _ (b t : List ℕ) (C : Causal b) (F : Folding (2 ^ inputs b) (outputs b) (frames b) b t) where
   -- the machine of a folding is the circuit's table
   machine-determined : Agree (2 ^ inputs b) (frames b) (foldedMachine b) (machine t)
-  machine-determined = folding-agrees (2 ^ inputs b) (outputs b) (frames b) b t (response b) (C .follows) (C .below) F (folding-writable b t F .is-legal)
+  machine-determined = folding-agrees (2 ^ inputs b) (outputs b) (frames b) b t (response b) (C .follows) (C .below) (C .clear) F (folding-writable b t F .is-legal)
 
   -- and its bytes are the table's
   bytes-determined : Below 256 t → t ≡ foldedBytes b
   unfolding foldedBytes tableBytes
   bytes-determined B =
       let p = bytes-are t B (passed-table t 0 (F .legal) .0) in
-      let q : tableBytes (inputs t) (outputs t) (frames t) (machine t) ≡ tableBytes (inputs b) (outputs b) (frames b) (machine t) =
+      let q : tableBytes (inputs t) (outputs t) (frames t) (connected t) (machine t) ≡ tableBytes (inputs b) (outputs b) (frames b) (connected t) (machine t) =
       rw (F .same-inputs, F .same-outputs, F .same-frames) in
-      p ∙ q ∙ sym (agree-bytes (inputs b) (outputs b) (frames b) (foldedMachine b) (machine t) machine-determined)
+      p ∙ q ∙ sym (agree-bytes (inputs b) (outputs b) (frames b) (connectedOutputs b) (connected t) (foldedMachine b) (machine t) (λ k l. sym (F .same-connected k l)) machine-determined)
 
 -- so of all lists of bytes exactly one is a folding of a circuit that passes its check
 determined : (b t : List ℕ) → Causal b → Sized 8 (inputs b) (outputs b) (frames b)

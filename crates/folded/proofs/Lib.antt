@@ -8,6 +8,7 @@ pub mod Response
 pub mod Tables
 pub mod Outcomes
 pub mod Asked
+pub mod Matching
 pub mod Theorems
 pub mod Plans
 pub mod Determined

@@ -12,7 +12,8 @@ use Rattle.layered.specs.Search.{join, tabulate, total}
 use Rattle.layered.specs.Machines.{Machine, entries, tableWords}
 use Rattle.layered.proofs.Lists.{Below, total-each, join-cong, tabulate-cong, tabulate-add, join-tabulate}
 use Rattle.layered.proofs.Entries.{entries-cong, entries-counts}
-use Rattle.table.specs.Table.{countAt, states, headLength, entryCount, outputsAt, nextsAt, tableLength, entryAt, machine}
+use Rattle.table.specs.Table.{countAt, states, connectedAt, connected, entryCount, outputsAt, nextsAt, tableLength, entryAt, machine}
+use Rattle.table.proofs.Offsets.{connected-at, head-length}
 use Rattle.folded.proofs.Agreement.{Agree}
 use Rattle.folded.proofs.Places.{before}
 use Rattle.folded.proofs.Checked.{below-is}
@@ -63,7 +64,7 @@ words-back b B (suc c) h =
 -- ---- the table
 
 module _ (b : List ℕ) where
-  -- word i, and the words behind the sizes, in parts: counts, outputs, next states
+  -- word i, and the words behind the sizes, in parts: counts, connected outputs, outputs, next states
   word : ℕ → ℕ
   word i = wordAt b (2 * i)
 
@@ -74,55 +75,65 @@ module _ (b : List ℕ) where
   unfolding word states countAt
   counts-are = tabulate-cong (suc (frames b)) _ _ (λ i l. let p : 2 * (3 + i) ≡ 6 + 2 * i = omega arith in ap (wordAt b) p)
 
-  outs-are : tabulate entryTotal (λ i. word (3 + (suc (frames b) + i))) ≡ entries (2 ^ inputs b) (frames b) (states b) (machine b .out)
-  unfolding word entryTotal entryAt outputsAt headLength countAt
+  connecteds-are : tabulate (frames b) (λ i. word (3 + (suc (frames b) + i))) ≡ tabulate (frames b) (connected b)
+  unfolding word connected
+  connecteds-are = tabulate-cong (frames b) _ _ (λ i l. let p : 2 * (3 + (suc (frames b) + i)) ≡ connectedAt (frames b) i = omega (arith, connected-at (frames b) i) in ap (wordAt b) p)
+
+  outs-are : tabulate entryTotal (λ i. word (3 + (suc (frames b) + (frames b + i)))) ≡ entries (2 ^ inputs b) (frames b) (states b) (machine b .out)
+  unfolding word entryTotal entryAt outputsAt
   outs-are =
-      sym (entries-tabulate (2 ^ inputs b) (frames b) (states b) (λ i. word (3 + (suc (frames b) + i))))
+      sym (entries-tabulate (2 ^ inputs b) (frames b) (states b) (λ i. word (3 + (suc (frames b) + (frames b + i)))))
       ∙ entries-cong (2 ^ inputs b) (frames b) (states b) _ _ (λ t s w l k j.
-      let p : 2 * (3 + (suc (frames b) + (before (2 ^ inputs b) (machine b) t + (s * 2 ^ inputs b + w)))) ≡ entryAt b (outputsAt b) t s w = omega (arith, below-is b t) in
+      let p : 2 * (3 + (suc (frames b) + (frames b + (before (2 ^ inputs b) (machine b) t + (s * 2 ^ inputs b + w))))) ≡ entryAt b (outputsAt b) t s w =
+      omega (arith, below-is b t, head-length (frames b)) in
       ap (wordAt b) p)
 
-  nexts-are : tabulate entryTotal (λ i. word (3 + (suc (frames b) + (entryTotal + i)))) ≡ entries (2 ^ inputs b) (frames b) (states b) (machine b .next)
-  unfolding word entryTotal entryAt nextsAt outputsAt headLength countAt entryCount
+  nexts-are : tabulate entryTotal (λ i. word (3 + (suc (frames b) + (frames b + (entryTotal + i))))) ≡ entries (2 ^ inputs b) (frames b) (states b) (machine b .next)
+  unfolding word entryTotal entryAt nextsAt outputsAt entryCount
   nexts-are =
-      sym (entries-tabulate (2 ^ inputs b) (frames b) (states b) (λ i. word (3 + (suc (frames b) + (entryTotal + i)))))
+      sym (entries-tabulate (2 ^ inputs b) (frames b) (states b) (λ i. word (3 + (suc (frames b) + (frames b + (entryTotal + i))))))
       ∙ entries-cong (2 ^ inputs b) (frames b) (states b) _ _ (λ t s w l k j.
-      let p : 2 * (3 + (suc (frames b) + (entryTotal + (before (2 ^ inputs b) (machine b) t + (s * 2 ^ inputs b + w))))) ≡ entryAt b (nextsAt b) t s w =
-      omega (arith, below-is b t, below-is b (frames b)) in
+      let p : 2 * (3 + (suc (frames b) + (frames b + (entryTotal + (before (2 ^ inputs b) (machine b) t + (s * 2 ^ inputs b + w)))))) ≡ entryAt b (nextsAt b) t s w =
+      omega (arith, below-is b t, below-is b (frames b), head-length (frames b)) in
       ap (wordAt b) p)
 
   sizes-are : tabulate 3 word ≡ inputs b ∷ outputs b ∷ frames b ∷ []
   unfolding word inputs outputs frames tabulate join
   sizes-are = refl
 
-  -- its words are those of its machine
-  words-are : tabulate (3 + (suc (frames b) + (entryTotal + entryTotal))) word ≡ tableWords (inputs b) (outputs b) (2 ^ inputs b) (frames b) (machine b)
-  unfolding tableWords
-  words-are =
-      tabulate-add 3 (suc (frames b) + (entryTotal + entryTotal)) word
-      ∙ ap₂ _++_ sizes-are
-      (tabulate-add (suc (frames b)) (entryTotal + entryTotal) (λ i. word (3 + i))
-      ∙ ap₂ _++_ counts-are (tabulate-add entryTotal entryTotal (λ i. word (3 + (suc (frames b) + i))) ∙ ap₂ _++_ outs-are nexts-are))
+  -- how many words there are
+  wordTotal : ℕ
+  wordTotal = 3 + (suc (frames b) + (frames b + (entryTotal + entryTotal)))
 
-  length-is : tableLength b ≡ 2 * (3 + (suc (frames b) + (entryTotal + entryTotal)))
-  unfolding tableLength nextsAt outputsAt headLength countAt entryCount entryTotal
-  length-is = omega (arith, below-is b (frames b))
+  -- its words are those of its machine
+  words-are : tabulate wordTotal word ≡ tableWords (inputs b) (outputs b) (2 ^ inputs b) (frames b) (connected b) (machine b)
+  unfolding wordTotal tableWords
+  words-are =
+      tabulate-add 3 (suc (frames b) + (frames b + (entryTotal + entryTotal))) word
+      ∙ ap₂ _++_ sizes-are
+      (tabulate-add (suc (frames b)) (frames b + (entryTotal + entryTotal)) (λ i. word (3 + i))
+      ∙ ap₂ _++_ counts-are
+      (tabulate-add (frames b) (entryTotal + entryTotal) (λ i. word (3 + (suc (frames b) + i)))
+      ∙ ap₂ _++_ connecteds-are (tabulate-add entryTotal entryTotal (λ i. word (3 + (suc (frames b) + (frames b + i)))) ∙ ap₂ _++_ outs-are nexts-are)))
+
+  length-is : tableLength b ≡ 2 * wordTotal
+  unfolding tableLength nextsAt outputsAt entryCount entryTotal wordTotal
+  length-is = omega (arith, below-is b (frames b), head-length (frames b))
 
   -- so it is its machine's bytes
-  pub bytes-are : Below 256 b → length b ≡ tableLength b → b ≡ tableBytes (inputs b) (outputs b) (frames b) (machine b)
+  pub bytes-are : Below 256 b → length b ≡ tableLength b → b ≡ tableBytes (inputs b) (outputs b) (frames b) (connected b) (machine b)
   unfolding tableBytes wordBytes word
   bytes-are B L =
-      let c : ℕ = 3 + (suc (frames b) + (entryTotal + entryTotal)) in
-      let e : length b ≡ 2 * c = L ∙ length-is in
-      sym (take-all (2 * c) b (omega arith)) ∙ sym (words-back b B c (omega arith)) ∙ ap (allBytes 2) words-are
+      let e : length b ≡ 2 * wordTotal = L ∙ length-is in
+      sym (take-all (2 * wordTotal) b (omega arith)) ∙ sym (words-back b B wordTotal (omega arith)) ∙ ap (allBytes 2) words-are
 
--- machines that agree have the same bytes
-pub agree-bytes : (n m T : ℕ) (M N : Machine) → Agree (2 ^ n) T M N → tableBytes n m T M ≡ tableBytes n m T N
+-- machines that agree, with the same connected outputs, have the same bytes
+pub agree-bytes : (n m T : ℕ) (C D : ℕ → ℕ) (M N : Machine) → ((t : ℕ) → t < T → C t ≡ D t) → Agree (2 ^ n) T M N → tableBytes n m T C M ≡ tableBytes n m T D N
 unfolding tableBytes tableWords
-agree-bytes n m T M N A =
+agree-bytes n m T C D M N E A =
     ap wordBytes (ap₂ (λ c e. n ∷ m ∷ T ∷ c ++ e)
     (tabulate-cong (suc T) _ _ (λ t l. A .states-are t (omega arith)))
-    (ap₂ _++_ (both (M .out) (N .out) (A .outs-are)) (both (M .next) (N .next) (A .nexts-are))))
+    (ap₂ _++_ (tabulate-cong T C D E) (ap₂ _++_ (both (M .out) (N .out) (A .outs-are)) (both (M .next) (N .next) (A .nexts-are)))))
   where
     both : (e f : ℕ → ℕ → ℕ → ℕ) → ((t s w : ℕ) → t < T → s < M .states t → w < 2 ^ n → e t s w ≡ f t s w)
         → entries (2 ^ n) T (M .states) e ≡ entries (2 ^ n) T (N .states) f

@@ -11,23 +11,24 @@ use Rattle.verdict.specs.Judgements.{answer}
 use Rattle.sizes.specs.Sizes.{inputs, outputs, frames}
 use Rattle.sizes.specs.Sized.{Sized}
 use Rattle.layered.specs.States.{Words, outputs as outputsOf, number, history}
-use Rattle.layered.specs.Machines.{Machine, Legal, Gives, Renumbered, folded}
+use Rattle.layered.specs.Machines.{Machine, Legal, Gives, Renumbered, masked, folded}
 use Rattle.layered.proofs.States.{number-decides, number-order, history-is}
-use Rattle.layered.proofs.Machines.{legal, gives, fewest, unique}
+use Rattle.layered.proofs.Machines.{masked-legal, legal, gives, fewest, unique}
 use Rattle.layered.proofs.Canonical.{canonical}
-use Rattle.circuit.specs.Circuit.{outputWords}
+use Rattle.circuit.specs.Circuit.{connectedOutputs, outputWords}
 use Rattle.layered.specs.Histories.{historyWords, historyNumber}
 use Rattle.circuit.specs.Theorems.{response, Causal, AcceptedCausal}
-use Rattle.table.specs.Table.{states, machine, checked}
+use Rattle.table.specs.Table.{states, connected, machine, checked}
 use Rattle.folded.specs.Folded.{foldedBytes, foldChecked}
-use Rattle.folded.specs.Theorems.{stateOf, Smallest, Folding, Canonical, Foldings}
+use Rattle.folded.specs.Theorems.{stateOf, Smallest, Matches, Folding, Canonical, Foldings}
 use Rattle.circuit.proofs.Causal.{causal}
 use Rattle.layered.proofs.Histories.{number-words, history-below}
 use Rattle.layered.proofs.Feeding.{words-length}
+use Rattle.folded.proofs.Checked.{Writable}
 use Rattle.folded.proofs.Agreement.{Agree, agree-renumberings, agree-reached, agree-gives}
-use Rattle.folded.proofs.Written.{tableBytes, fits, inputs-back, outputs-back, frames-back, machine-back, bytes-pass}
+use Rattle.folded.proofs.Written.{tableBytes, fits, inputs-back, outputs-back, frames-back, connected-back, machine-back, bytes-pass}
 use Rattle.folded.proofs.Response.{comes-to, no-telling, smallest-class}
-use Rattle.folded.proofs.Tables.{folded-writable, table-writable}
+use Rattle.folded.proofs.Tables.{table-writable}
 use Rattle.folded.proofs.Outcomes.{circuit-sized, accepted, written-bytes}
 
 -- ---- a table that is the folded machine of a response which gives the circuit's outputs
@@ -37,6 +38,7 @@ module _
     (F : (c : List ℕ) → Words K T c → outputWords b c ≡ outputsOf K y 0 0 c)
     (B : (t h : ℕ) → y t h < 2 ^ m)
     (A : Agree K T (folded K T y) (machine t))
+    (N : (k : ℕ) → k < T → connected t k ≡ connectedOutputs b k)
   where
     state-is : {k : ℕ} {c : List ℕ} → k ≤ T → Words K k c → stateOf t c ≡ number K T y k (historyNumber K 0 c)
     unfolding stateOf
@@ -72,13 +74,19 @@ module _
     unfolding Gives
     gives-outputs c W = agree-gives (folded K T y) (machine t) (legal K m T y B) A (outputsOf K y 0 0) (gives K T y) c W ∙ sym (F c W)
 
-    fewest-states : (M : Machine) → Legal K m T M → Gives K T M (outputWords b) → (k : ℕ) → k ≤ T → states t k ≤ M .states k
-    fewest-states M L G k h = omega (arith, fewest K m T y M L (gives-response M G) k h, A .states-are k h)
+    -- a machine is judged by what it is when masked
+    fewest-states : (M : Machine) → Legal K m T M → Matches K T b M → (k : ℕ) → k ≤ T → states t k ≤ M .states k
+    unfolding Matches
+    fewest-states M L G k h =
+        let P = masked (connectedOutputs b) M in
+        omega (arith, fewest K m T y P (masked-legal (connectedOutputs b) M L) (gives-response P G) k h, A .states-are k h)
 
-    unique-table : (M : Machine) → Legal K m T M → Gives K T M (outputWords b) → ((k : ℕ) → k ≤ T → states t k ≡ M .states k) ↔ Renumbered K T (machine t) M
+    unique-table : (M : Machine) → Legal K m T M → Matches K T b M → ((k : ℕ) → k ≤ T → states t k ≡ M .states k) ↔ Renumbered K T (machine t) (masked (connectedOutputs b) M)
+    unfolding Matches
     unique-table M L G =
-        let U = unique K m T y M L (gives-response M G) in
-        let N = agree-renumberings (folded K T y) (machine t) M A in
+        let P = masked (connectedOutputs b) M in
+        let U = unique K m T y P (masked-legal (connectedOutputs b) M L) (gives-response P G) in
+        let N = agree-renumberings (folded K T y) (machine t) P A in
         ((λ E. N .0 (U .0 (λ k h. A .states-are k h ∙ E k h))), (λ R k h. sym (A .states-are k h) ∙ U .1 (N .1 R) k h))
 
     is-folding : inputs t ≡ inputs b → outputs t ≡ outputs b → frames t ≡ frames b → checked t ≡ answer 0 0 → Folding K m T b t
@@ -86,6 +94,7 @@ module _
       same-inputs = i;
       same-outputs = o;
       same-frames = f;
+      same-connected = N;
       apart = apart;
       every-state = every-state;
       in-order = in-order;
@@ -103,43 +112,40 @@ module _ (b : List ℕ) (C : Causal b) (Z : Sized 8 (inputs b) (outputs b) (fram
   folding =
       let W = table-writable b C Z in
       is-folding (2 ^ inputs b) (outputs b) (frames b) b (foldedBytes b) (response b) (C .follows) (C .below)
-      (machine-back W) (inputs-back W) (outputs-back W) (frames-back W) (bytes-pass W)
+      (machine-back W) (connected-back W) (inputs-back W) (outputs-back W) (frames-back W) (bytes-pass W)
 
 -- ---- canonical
 
--- the tables of two responses are the same bytes exactly when the outputs are the same
-bytes-canonical : (n m T : ℕ) (y z : ℕ → ℕ → ℕ) → Sized 8 n m T → ((t h : ℕ) → y t h < 2 ^ m) → ((t h : ℕ) → z t h < 2 ^ m)
-    → (tableBytes n m T (folded (2 ^ n) T y) ≡ tableBytes n m T (folded (2 ^ n) T z)) ↔ ((c : List ℕ) → Words (2 ^ n) T c → outputsOf (2 ^ n) y 0 0 c ≡ outputsOf (2 ^ n) z 0 0 c)
-unfolding tableBytes wordBytes
-bytes-canonical n m T y z Z B D =
-    let I = canonical (2 ^ n) m T y B n z in
-    let F = fits (folded-writable n m T y Z B) in
-    let G = fits (folded-writable n m T z Z D) in
-    ((λ e. I .0 (bytes-injective 2 _ _ (omega arith) F G e)), (λ O. ap (allBytes 2) (I .1 O)))
-
--- a circuit by sizes that are written otherwise
+-- what is written of a circuit, by sizes that are written otherwise
 module _ (n m T : ℕ) (d : List ℕ) (i : inputs d ≡ n) (o : outputs d ≡ m) (f : frames d ≡ T) where
-  bytes-of : foldedBytes d ≡ tableBytes n m T (folded (2 ^ n) T (response d))
+  bytes-of : foldedBytes d ≡ tableBytes n m T (connectedOutputs d) (folded (2 ^ n) T (response d))
   unfolding foldedBytes tableBytes
   bytes-of = rw (i, o, f)
 
-  causal-of : Causal d → ((c : List ℕ) → Words (2 ^ n) T c → outputWords d c ≡ outputsOf (2 ^ n) (response d) 0 0 c) × ((t h : ℕ) → response d t h < 2 ^ m)
-  causal-of C = rw (← i, ← o, ← f) (C .follows, C .below)
+  follows-of : Causal d → (c : List ℕ) → Words (2 ^ n) T c → outputWords d c ≡ outputsOf (2 ^ n) (response d) 0 0 c
+  follows-of C = rw (← i, ← f) (C .follows)
 
--- two circuits of equal sizes fold to the same bytes exactly when they agree on every sequence
+  writable-of : Causal d → Sized 8 n m T → Writable n m T (connectedOutputs d) (folded (2 ^ n) T (response d))
+  writable-of C = rw (← i, ← o, ← f) (table-writable d C)
+
+-- two circuits of equal sizes fold to the same bytes exactly when they agree on every sequence and connect the same outputs
 pub same-bytes : (b d : List ℕ) → Causal b → Causal d → Sized 8 (inputs b) (outputs b) (frames b)
     → inputs d ≡ inputs b → outputs d ≡ outputs b → frames d ≡ frames b
-    → (foldedBytes b ≡ foldedBytes d) ↔ ((c : List ℕ) → Words (2 ^ inputs b) (frames b) c → outputWords b c ≡ outputWords d c)
+    → (foldedBytes b ≡ foldedBytes d)
+    ↔ (((c : List ℕ) → Words (2 ^ inputs b) (frames b) c → outputWords b c ≡ outputWords d c) × ((k : ℕ) → k < frames b → connectedOutputs b k ≡ connectedOutputs d k))
+unfolding tableBytes wordBytes
 same-bytes b d C D Z i o f =
     let n : ℕ = inputs b in
     let m : ℕ = outputs b in
     let T : ℕ = frames b in
     let p = bytes-of n m T b refl refl refl in
     let q = bytes-of n m T d i o f in
-    let E = causal-of n m T d i o f D in
-    let I = bytes-canonical n m T (response b) (response d) Z (C .below) (E .1) in (
-      (λ e c W. C .follows c W ∙ I .0 (sym p ∙ e ∙ q) c W ∙ sym (E .0 c W)),
-      (λ O. p ∙ I .1 (λ c W. sym (C .follows c W) ∙ O c W ∙ E .0 c W) ∙ sym q),
+    let E = follows-of n m T d i o f D in
+    let I = canonical (2 ^ n) m T (response b) (C .below) n (response d) (connectedOutputs b) (connectedOutputs d) in (
+      (λ e.
+          let A = I .0 (bytes-injective 2 _ _ (omega arith) (fits (table-writable b C Z)) (fits (writable-of n m T d i o f D Z)) (sym p ∙ e ∙ q)) in
+          ((λ c W. C .follows c W ∙ A .0 c W ∙ sym (E c W)), A .1)),
+      (λ A. p ∙ ap (allBytes 2) (I .1 ((λ c W. sym (C .follows c W) ∙ A .0 c W ∙ E c W), A .1)) ∙ sym q),
     )
 
 -- ---- whatever folding accepts

@@ -13,7 +13,7 @@ use Rattle.layered.specs.Machines.{feed, Gives}
 use Rattle.layered.proofs.Feeding.{reached-below}
 use Rattle.circuit.specs.Lists.{grown, bit, packed}
 use Rattle.circuit.specs.Examples.{parity, silent, delayed}
-use Rattle.circuit.specs.Circuit.{gates, leftsAt, rightsAt, literalAt, allInputs, allOutputs, gateSignal, outputSignal, inputValues, literalValue, gateValue, signalValues, outputWord, outputWords}
+use Rattle.circuit.specs.Circuit.{gates, leftsAt, rightsAt, literalAt, allInputs, allOutputs, gateSignal, outputSignal, unconnected, operand, inputValues, literalValue, gateValue, signalValues, outputWord, outputWords}
 use Rattle.sizes.specs.Sizes.{inputs, outputs, frames}
 use Rattle.table.specs.Table.{states, machine}
 use Rattle.layered.specs.Histories.{historyNumber}
@@ -24,7 +24,7 @@ use Rattle.folded.proofs.Checked.{passed-table}
 
 -- the outputs of a circuit, with all that is computed for them
 abbrev given : (b c : List ℕ) → List ℕ
-unfolding outputWords outputWord outputSignal signalValues gateValue literalValue literalAt inputValues gateSignal allInputs allOutputs gates leftsAt rightsAt grown bit packed inputs outputs frames wordAt wordBytes
+unfolding outputWords outputWord outputSignal signalValues gateValue literalValue operand unconnected literalAt inputValues gateSignal allInputs allOutputs gates leftsAt rightsAt grown bit packed inputs outputs frames wordAt wordBytes
 given b c = outputWords b c
 
 parity-10 : outputWords (wordBytes parity) (1 ∷ 0 ∷ []) ≡ 1 ∷ 1 ∷ []

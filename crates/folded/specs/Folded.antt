@@ -9,12 +9,12 @@ use Rattle.verdict.specs.Judgements.{answer, refuse, andThen, resultAfter}
 use Rattle.verdict.specs.declared.Figures.{Figures}
 use Rattle.sizes.specs.Sizes.{inputs, outputs, frames}
 use Rattle.layered.specs.Machines.{tableWords, folded}
-use Rattle.circuit.specs.Circuit.{checked, allInputs}
+use Rattle.circuit.specs.Circuit.{checked, allInputs, connectedOutputs}
 use Rattle.circuit.specs.Theorems.{response}
 
--- the bytes of the circuit's table (document 01, "The sheet" and "States")
+-- the bytes of the circuit's table (document 01, "The sheet" and "States"; document 02, Point 8)
 unfoldable pub foldedBytes : List ℕ → List ℕ
-foldedBytes b = wordBytes (tableWords (inputs b) (outputs b) (2 ^ inputs b) (frames b) (folded (2 ^ inputs b) (frames b) (response b)))
+foldedBytes b = wordBytes (tableWords (inputs b) (outputs b) (2 ^ inputs b) (frames b) (connectedOutputs b) (folded (2 ^ inputs b) (frames b) (response b)))
 
 -- how many scratch numbers are needed
 unfoldable pub scratchNeeded : List ℕ → ℕ

@@ -3,15 +3,18 @@
 use Prim.Native.Nat.{ℕ, _+_, _-_, _^_, _≤_, _<_}
 use mathlib.Core.Path.{_≡_}
 use mathlib.Core.Logic.{_↔_}
+use mathlib.Core.Bool.{true}
 use mathlib.Core.List.{List, _∷_, _++_}
 use lib.ListN.{length, getD, take, drop}
 use Rattle.verdict.specs.Judgements.{answer}
 use Rattle.sizes.specs.Sizes.{inputs, outputs, frames}
 use Rattle.layered.specs.States.{Words}
 use Rattle.layered.specs.Histories.{historyNumber}
-use Rattle.layered.specs.Machines.{Machine, Legal, Gives, Renumbered}
-use Rattle.circuit.specs.Circuit.{outputWords}
-use Rattle.table.specs.Table.{states, machine, checked}
+use Rattle.layered.specs.Machines.{Machine, Legal, feed, Gives, Renumbered, masked}
+use Rattle.circuit.specs.Lists.{bit}
+use Rattle.circuit.specs.Circuit.{connects, connectedOutputs, outputWords}
+use Rattle.circuit.specs.Circuit as circuit
+use Rattle.table.specs.Table.{states, connected, machine, checked}
 use Rattle.layered.specs.Machines.{reached}
 use Rattle.folded.specs.Folded.{foldChecked, foldResult, cleared, scratchAfter}
 use Rattle.folded.specs.Planned.{planOf, asked, commitChecked, commitResult}
@@ -24,6 +27,16 @@ stateOf t c = reached (machine t) 0 0 c
 unfoldable pub Smallest : (K : ℕ) (t c : List ℕ) → Type 0
 Smallest K t c = (d : List ℕ) → Words K (length c) d → stateOf t d ≡ stateOf t c → historyNumber K 0 c ≤ historyNumber K 0 d
 
+-- M matches the circuit b: on every sequence it gives b's outputs in connected bits. Its other bits are free, and masked out here; b's are 0.
+unfoldable pub Matches : (K T : ℕ) (b : List ℕ) → Machine → Type 0
+Matches K T b M = Gives K T (masked (connectedOutputs b) M) (outputWords b)
+
+-- what that means of an accepted circuit, bit by bit: wherever output j of frame k, both from 0, is connected, M gives its value
+unfoldable pub MatchesBits : Type 0
+MatchesBits = (b : List ℕ) (p : ℕ) (M : Machine) → circuit.checked b ≡ answer 0 p → Matches (2 ^ inputs b) (frames b) b M
+    ↔ ((c : List ℕ) → Words (2 ^ inputs b) (frames b) c → (k j : ℕ) → k < frames b → j < outputs b → connects b k j ≡ true
+    → bit (getD (feed M 0 (M .start) c) k 0) j ≡ bit (getD (outputWords b c) k 0) j)
+
 module _ (K m T : ℕ) (b t : List ℕ) where
   -- of the circuit b with 2^n = K, m outputs and T frames
   pub record Folding : Type 0 where
@@ -31,6 +44,8 @@ module _ (K m T : ℕ) (b t : List ℕ) where
     pub same-inputs : inputs t ≡ inputs b
     pub same-outputs : outputs t ≡ outputs b
     pub same-frames : frames t ≡ frames b
+    -- the same outputs are connected
+    pub same-connected : (k : ℕ) → k < T → connected t k ≡ connectedOutputs b k
     -- two histories of equal length reach the same state exactly when no continuation tells them apart
     pub apart : (k : ℕ) (c d : List ℕ) → k ≤ T → Words K k c → Words K k d
         → (stateOf t c ≡ stateOf t d) ↔ ((e : List ℕ) → Words K (T - k) e → drop k (outputWords b (c ++ e)) ≡ drop k (outputWords b (d ++ e)))
@@ -42,17 +57,19 @@ module _ (K m T : ℕ) (b t : List ℕ) where
     -- the bytes pass every check, and run from the start they give the circuit's outputs on every sequence
     pub legal : checked t ≡ answer 0 0
     pub gives : Gives K T (machine t) (outputWords b)
-    -- fewest: every layered machine that gives the outputs has at each layer at least as many states
-    pub fewest : (M : Machine) → Legal K m T M → Gives K T M (outputWords b) → (k : ℕ) → k ≤ T → states t k ≤ M .states k
-    -- unique: the counts are equal at all layers exactly when the machine is the table renumbered within layers
-    pub unique : (M : Machine) → Legal K m T M → Gives K T M (outputWords b)
-        → ((k : ℕ) → k ≤ T → states t k ≡ M .states k) ↔ Renumbered K T (machine t) M
+    -- fewest: every layered machine that matches the circuit has at each layer at least as many states
+    pub fewest : (M : Machine) → Legal K m T M → Matches K T b M → (k : ℕ) → k ≤ T → states t k ≤ M .states k
+    -- unique: the counts are equal at all layers exactly when the machine is the table renumbered within layers, outputs equal in connected bits
+    pub unique : (M : Machine) → Legal K m T M → Matches K T b M
+        → ((k : ℕ) → k ≤ T → states t k ≡ M .states k) ↔ Renumbered K T (machine t) (masked (connectedOutputs b) M)
 
-  -- canonical: for another circuit of equal sizes that is accepted and folded, the same bytes exactly when the two agree on every sequence
+  -- canonical: for another circuit of equal sizes that is accepted and folded, the same bytes exactly when the two agree on every sequence and
+  -- connect the same outputs
   unfoldable pub Canonical : Type 0
   Canonical = (d before : List ℕ) (room p : ℕ) → inputs d ≡ inputs b → outputs d ≡ outputs b → frames d ≡ frames b
       → foldChecked d room (length before) ≡ answer 0 p
-      → (t ≡ take p (foldResult d room before)) ↔ ((c : List ℕ) → Words K T c → outputWords b c ≡ outputWords d c)
+      → (t ≡ take p (foldResult d room before))
+      ↔ (((c : List ℕ) → Words K T c → outputWords b c ≡ outputWords d c) × ((k : ℕ) → k < T → connectedOutputs b k ≡ connectedOutputs d k))
 
 -- whatever folding accepts
 unfoldable pub Foldings : Type 0
@@ -67,8 +84,8 @@ pub record Asking (b : List ℕ) (room : ℕ) (plan : List ℕ) : Type 0 where
   pub too-short : (x : ℕ) → x < getD plan 20 0 → foldChecked b room x ≡ answer 7 (getD plan 20 0)
   -- whatever folding writes has the plan's sizes, counts and bytes
   pub as-folded : (before : List ℕ) (scratchRoom p : ℕ) → foldChecked b scratchRoom (length before) ≡ answer 0 p → plan ≡ planOf (take p (foldResult b scratchRoom before))
-  -- every layered machine that gives the outputs has at each layer at least as many states as the plan counts
-  pub fewest : (M : Machine) → Legal (2 ^ inputs b) (outputs b) (frames b) M → Gives (2 ^ inputs b) (frames b) M (outputWords b)
+  -- every layered machine that matches the circuit has at each layer at least as many states as the plan counts
+  pub fewest : (M : Machine) → Legal (2 ^ inputs b) (outputs b) (frames b) M → Matches (2 ^ inputs b) (frames b) b M
       → (k : ℕ) → k ≤ frames b → getD plan (3 + k) 0 ≤ M .states k
 
 -- whatever asking returns

@@ -1,29 +1,13 @@
--- Bits of a conjunction, of a complement and of a part of a number. Assumes nothing.
+-- Bits of a complement and of a part of a number. Assumes nothing.
 use mathlib.Core.Path.{_≡_, refl, sym, ap, _∙_}
-use mathlib.Core.Bool.{true, not, _&&_}
+use mathlib.Core.Bool.{true, not}
 use Prim.Native.Nat.{ℕ, zero, suc, _+_, _*_, _-_, _/_, _%_, _^_, _<_}
 use native.Mathlib.Nat.{mod-lt, pow-suc, add-mul, zero-add, div-one}
 use native.Mathlib.Omega.{arith}
-use lib.Dec.{eqb, lit<}
+use lib.Dec.{eqb}
 use lib.Pow.{pow-pos, split, high, ones-split, shr-lt, shr-shr, field, mod-mod-pow}
-use lib.Bits.{bitAnd, and-shr, and-mod}
 use Rattle.circuit.specs.Lists.{bit}
 use Rattle.circuit.proofs.Bits.{bit-none}
-
--- ---- a conjunction
-
-digit-and : (p q : ℕ) → p < 2 → q < 2 → eqb (bitAnd p q) 1 ≡ (eqb p 1 && eqb q 1)
-digit-and zero q hp hq = refl
-digit-and (suc zero) zero hp hq = refl
-digit-and (suc zero) (suc zero) hp hq = refl
-digit-and (suc zero) (suc (suc q)) hp hq = absurd (omega arith)
-digit-and (suc (suc p)) q hp hq = absurd (omega arith)
-
-pub bit-and : (x y j : ℕ) → bit (bitAnd x y) j ≡ (bit x j && bit y j)
-unfolding bit
-bit-and x y j =
-    ap (λ k. eqb (k % 2) 1) (and-shr x y j) ∙ ap (λ k. eqb k 1) (and-mod (x / 2 ^ j) (y / 2 ^ j) 1)
-    ∙ digit-and (x / 2 ^ j % 2) (y / 2 ^ j % 2) (mod-lt (x / 2 ^ j) (lit< tt)) (mod-lt (y / 2 ^ j) (lit< tt))
 
 -- ---- a complement
 

@@ -20,16 +20,17 @@ use Rattle.layered.proofs.Search.{every-each}
 use Rattle.layered.proofs.Histories.{history-length, history-word}
 use Rattle.circuit.specs.Limits.{mostSignals}
 use Rattle.circuit.specs.Lists.{grown, bit, packed}
-use Rattle.circuit.specs.Circuit.{gates, leftsAt, rightsAt, literalAt, allInputs, gateSignal, inputValues, literalValue, gateValue}
+use Rattle.circuit.specs.Circuit.{gates, leftsAt, rightsAt, operand, allInputs, gateSignal, inputValues, literalValue, gateValue}
 use Rattle.circuit.specs.WellFormed.{LegalGates}
 use Rattle.circuit.proofs.Ahead.{beq-same}
-use Rattle.circuit.proofs.Bits.{digit, bit-none, bit-packed}
-use Rattle.circuit.proofs.Laws.{fill-grown, signal-before, values-grow}
+use Rattle.circuit.proofs.Bits.{digit, bit-none, bit-packed, bit-and}
+use Rattle.circuit.proofs.Literals.{operand-before}
+use Rattle.circuit.proofs.Laws.{fill-grown, values-grow}
 use Rattle.circuit.proofs.Lists.{listed-after}
 use Rattle.circuit.proofs.Frames.{ends, inputs-are, from-first, only-input}
 use Rattle.lanes.specs.Limits.{laneBits, laneCount}
 use Rattle.lanes.specs.Lanes.{lane, literalLanes, sequence, Lanes, InputLanes, FrameLanes, Settled, Ready, Unnamed, FirstUses, SignalLanes}
-use Rattle.lanes.proofs.Bits.{bit-and, bit-not, bit-part, bit-low, bit-high}
+use Rattle.lanes.proofs.Bits.{bit-not, bit-part, bit-low, bit-high}
 
 -- ---- a lane of a list
 
@@ -191,10 +192,10 @@ module _ (b : List ℕ) where
   -- a gate that does not name a signal does not see it
   gate-other : (v : List Bool) (s g : ℕ) (x : Bool) → Unnamed b s g → gateValue b (set v s x) g ≡ gateValue b v g
   unfolding gateValue literalValue
-  gate-other v s g x u = rw (getD-set-other v s (literalAt b (leftsAt b) g / 2) x false (u .0), getD-set-other v s (literalAt b (rightsAt b) g / 2) x false (u .1))
+  gate-other v s g x u = rw (getD-set-other v s (operand b (leftsAt b) g / 2) x false (u .0), getD-set-other v s (operand b (rightsAt b) g / 2) x false (u .1))
 
-  -- the lanes of its literals give a gate's
-  gate-lanes : (v : List ℕ) (g l r x y j : ℕ) → j < laneCount → l ≡ literalAt b (leftsAt b) g → r ≡ literalAt b (rightsAt b) g
+  -- the lanes of its operands give a gate's
+  gate-lanes : (v : List ℕ) (g l r x y j : ℕ) → j < laneCount → l ≡ operand b (leftsAt b) g → r ≡ operand b (rightsAt b) g
       → getD v (l / 2) 0 < 2 ^ laneCount → getD v (r / 2) 0 < 2 ^ laneCount → x ≡ literalLanes (getD v (l / 2) 0) l → y ≡ literalLanes (getD v (r / 2) 0) r
       → bit (bitAnd x y) j ≡ gateValue b (lane j v) g
   unfolding gateValue
@@ -233,7 +234,7 @@ module _ (b : List ℕ) where
 
   -- the lanes of one gate more are stored
   pub settled-more : LegalGates b → (v : List ℕ) (g n l r x y : ℕ) → g < gates b → n ≡ 1 + allInputs b + g → n < length v → Settled b v g
-      → l ≡ literalAt b (leftsAt b) g → r ≡ literalAt b (rightsAt b) g
+      → l ≡ operand b (leftsAt b) g → r ≡ operand b (rightsAt b) g
       → getD v (l / 2) 0 < 2 ^ laneCount → getD v (r / 2) 0 < 2 ^ laneCount → x ≡ literalLanes (getD v (l / 2) 0) l → y ≡ literalLanes (getD v (r / 2) 0) r
       → Settled b (set v n (bitAnd x y)) (g + 1)
   unfolding Settled gateSignal
@@ -242,8 +243,8 @@ module _ (b : List ℕ) where
       -- no gate up to g names the signal of gate g
       unnamed : (i : ℕ) → i ≤ g → Unnamed b n i
       unnamed i h = (
-        λ e. omega (arith, signal-before b i _ _ (L .left i (omega arith)) refl),
-        λ e. omega (arith, signal-before b i _ _ (L .right i (omega arith)) refl),
+        λ e. omega (arith, operand-before b (leftsAt b) i _ (L .left i (omega arith)) refl),
+        λ e. omega (arith, operand-before b (rightsAt b) i _ (L .right i (omega arith)) refl),
       )
 
       go : Dec (i < g) → bit (getD (set v n (bitAnd x y)) (1 + allInputs b + i) 0) j ≡ gateValue b (lane j (set v n (bitAnd x y))) i
@@ -314,7 +315,7 @@ uses-none b n from s g hs lo hi = absurd (omega (arith, at-most n s))
     at-most (suc n) zero = omega arith
     at-most (suc n) (suc s) = at-most n s
 
-pub uses-more : (b f f′ : List ℕ) (base l r g : ℕ) → base ≡ 1 + allInputs b → base ≤ length f → l ≡ literalAt b (leftsAt b) g → r ≡ literalAt b (rightsAt b) g
+pub uses-more : (b f f′ : List ℕ) (base l r g : ℕ) → base ≡ 1 + allInputs b → base ≤ length f → l ≡ operand b (leftsAt b) g → r ≡ operand b (rightsAt b) g
     → f′ ≡ noted (noted f base l g) base r g → FirstUses b (suc g) f → FirstUses b g f′
 unfolding FirstUses
 uses-more b f f′ base l r g eb room el er ef F s i hs lo hi = go (ℕ-discrete (l / 2) s) (ℕ-discrete (r / 2) s) (decLt g i)

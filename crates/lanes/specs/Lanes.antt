@@ -8,7 +8,7 @@ use lib.Dec.{eqb}
 use Rattle.sizes.specs.Limits.{mostBits}
 use Rattle.sizes.specs.Sizes.{inputs, frames}
 use Rattle.circuit.specs.Lists.{bit}
-use Rattle.circuit.specs.Circuit.{gates, leftsAt, rightsAt, literalAt, allInputs, gateSignal, inputValues, gateValue, signalValues}
+use Rattle.circuit.specs.Circuit.{gates, leftsAt, rightsAt, operand, allInputs, gateSignal, inputValues, gateValue, signalValues}
 use Rattle.circuit.specs.Frames.{InputOf, OnlyInputOf}
 use Rattle.layered.specs.Histories.{historyWords}
 use Rattle.lanes.specs.Limits.{laneCount}
@@ -43,7 +43,7 @@ abbrev pub FrameLanes : (n T t : ℕ) (h : ℕ → ℕ) (v : List ℕ) → Type 
 FrameLanes n T t h v = (f s j : ℕ) → f ≤ T → InputOf n f s → j < laneCount
     → (bit (getD v s 0) j ≡ bit (getD (sequence (2 ^ n) T t (h j)) (f - 1) 0) (s - 1 - (f - 1) * n)) × OnlyInputOf n f s
 
--- the first k gates have in each lane the value that their literals give
+-- the first k gates have in each lane the value that their operands give
 unfoldable pub Settled : List ℕ → (v : List ℕ) (k : ℕ) → Type 0
 Settled b v k = (g j : ℕ) → g < k → j < laneCount → bit (getD v (gateSignal b g) 0) j ≡ gateValue b (lane j v) g
 
@@ -53,7 +53,7 @@ Ready b v = getD v 0 0 ≡ 0 → Settled b v (gates b)
 
 -- gate g does not name signal s
 abbrev pub Unnamed : List ℕ → (s g : ℕ) → Type 0
-Unnamed b s g = ¬ (literalAt b (leftsAt b) g / 2 ≡ s) × ¬ (literalAt b (rightsAt b) g / 2 ≡ s)
+Unnamed b s g = ¬ (operand b (leftsAt b) g / 2 ≡ s) × ¬ (operand b (rightsAt b) g / 2 ≡ s)
 
 -- no gate from gate `from` to before the one that `firsts` has for signal s names s
 unfoldable pub FirstUses : List ℕ → (from : ℕ) (firsts : List ℕ) → Type 0

@@ -12,7 +12,7 @@ use lib.Seq.{take-suc, getD-take, getD-set-same, getD-set-other}
 use lib.Dec.{ltb}
 use Rattle.sizes.specs.Sizes.{inputs, outputs}
 use Rattle.circuit.specs.Lists.{grown}
-use Rattle.circuit.specs.Circuit.{gates, leftsAt, rightsAt, literalAt, allInputs, gateSignal, outputSignal, frameOf}
+use Rattle.circuit.specs.Circuit.{gates, leftsAt, rightsAt, operand, allInputs, gateSignal, outputSignal, frameOf}
 use Rattle.circuit.specs.Frames.{OnlyInputOf}
 use Rattle.circuit.proofs.Laws.{fill-grown}
 use Rattle.circuit.proofs.Frames.{frame-output, only-input}
@@ -87,7 +87,7 @@ input-only n T v hn I s h l =
 -- ---- gates
 
 pub latest-more : (b v : List ℕ) (g n l r : ℕ) → n < length v → take n v ≡ latestFrames b g
-    → l ≡ literalAt b (leftsAt b) g → r ≡ literalAt b (rightsAt b) g → l / 2 < n → r / 2 < n
+    → l ≡ operand b (leftsAt b) g → r ≡ operand b (rightsAt b) g → l / 2 < n → r / 2 < n
     → (j : ℕ) → j ≡ n + 1 → take j (set v n (max (getD v (l / 2) 0) (getD v (r / 2) 0))) ≡ latestFrames b (g + 1)
 unfolding latestFrames laterFrame
 latest-more b v g n l r room e el er hl hr j ej =

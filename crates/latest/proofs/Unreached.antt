@@ -4,7 +4,7 @@ use mathlib.Core.Bool.{Bool, false, _&&_, cond, not}
 use mathlib.Core.Logic.{_⊎_, inl, inr}
 use mathlib.Core.List.{List, [], _∷_}
 use Prim.Native.Nat.{ℕ, zero, suc, _+_, _/_, _%_, _≤_, _<_, max}
-use native.Mathlib.Nat.{eq-or-lt-of-le}
+use native.Mathlib.Nat.{eq-or-lt-of-le, le-refl}
 use native.Mathlib.Omega.{arith}
 use lib.Dec.{eqb}
 use lib.ListN.{length, getD}
@@ -12,9 +12,11 @@ use lib.Seq.{getD-take}
 use borrow.Author.Tests.{ltb-false}
 use Rattle.sizes.specs.Sizes.{inputs, outputs}
 use Rattle.circuit.specs.Lists.{grown, listed, bit}
-use Rattle.circuit.specs.Circuit.{gates, leftsAt, rightsAt, literalAt, allInputs, allOutputs, gateSignal, outputSignal, frameOf, inputValues, literalValue, gateValue, signalValues, looksAhead}
+use Rattle.circuit.specs.Circuit.{gates, leftsAt, rightsAt, operand, allInputs, allOutputs, gateSignal, outputSignal, frameOf, inputValues, literalValue, gateValue, signalValues, looksAhead}
 use Rattle.circuit.specs.WellFormed.{CircuitHeaded, LegalGates}
-use Rattle.circuit.proofs.Laws.{length-grown, signal-before, output-in}
+use Rattle.circuit.proofs.Literals.{operand-before}
+use Rattle.circuit.proofs.Unconnected.{start-length, gate-value}
+use Rattle.circuit.proofs.Laws.{length-grown, output-in}
 use Rattle.circuit.proofs.Lists.{grown-old, grown-new, listed-start, listed-after}
 use Rattle.circuit.proofs.Ahead.{output-value, quiet}
 use Rattle.latest.specs.Latest.{inputFrames, laterFrame, latestFrames, reachesLater}
@@ -46,26 +48,23 @@ module _ (b c d : List ℕ) (k : ℕ) (same : (i : ℕ) → i < k → getD c i 0
 
   -- gate g, where the signals before it agree
   gate-agrees : LegalGates b → (g : ℕ) → g < gates b → ((s : ℕ) → s < 1 + allInputs b + g → Agree g s) → Agree (suc g) (1 + allInputs b + g)
-  unfolding latestFrames signalValues laterFrame gateValue inputFrames inputValues
+  unfolding latestFrames laterFrame gateValue inputFrames gateSignal
   gate-agrees L g h ih l =
       let n : ℕ = inputs b in
       let count : ℕ = allInputs b in
-      let left : ℕ = literalAt b (leftsAt b) g in
-      let right : ℕ = literalAt b (rightsAt b) g in
+      let left : ℕ = operand b (leftsAt b) g in
+      let right : ℕ = operand b (rightsAt b) g in
       let fs : List ℕ = latestFrames b g in
       let at-frame : length (inputFrames n count) + g ≡ 1 + count + g = ap (λ k. k + g) (length-grown (0 ∷ []) (λ _ i. frameOf n i) count) in
       let fr : getD (latestFrames b (suc g)) (1 + count + g) 0 ≡ max (getD fs (left / 2) 0) (getD fs (right / 2) 0) =
       ap (λ s. getD (latestFrames b (suc g)) s 0) (sym at-frame) ∙ grown-new (inputFrames n count) (laterFrame b) 0 g in
-      let value : (words : List ℕ) → getD (signalValues b words (suc g)) (1 + count + g) false ≡ gateValue b (signalValues b words g) g = λ words.
-      ap (λ s. getD (signalValues b words (suc g)) s false)
-      (sym (ap (λ k. k + g) (length-grown (false ∷ []) (λ _ i. bit (getD words (i / n) 0) (i % n)) count)))
-      ∙ grown-new (inputValues words n count) (gateValue b) false g in
+      let value : (words : List ℕ) → getD (signalValues b words (suc g)) (1 + count + g) false ≡ gateValue b (signalValues b words g) g = λ words. gate-value b words (suc g) g (le-refl (suc g)) in
       value c
       ∙ ap₂ _&&_
       (literal-agrees (signalValues b c g) (signalValues b d g) left
-      (ih (left / 2) (signal-before b g left (1 + count + g) (L .left g h) refl) (omega (arith, fr))))
+      (ih (left / 2) (operand-before b (leftsAt b) g (1 + count + g) (L .left g h) refl) (omega (arith, fr))))
       (literal-agrees (signalValues b c g) (signalValues b d g) right
-      (ih (right / 2) (signal-before b g right (1 + count + g) (L .right g h) refl) (omega (arith, fr))))
+      (ih (right / 2) (operand-before b (rightsAt b) g (1 + count + g) (L .right g h) refl) (omega (arith, fr))))
       ∙ sym (value d)
 
   -- a signal before gate g keeps its latest frame and its value
@@ -76,7 +75,7 @@ module _ (b c d : List ℕ) (k : ℕ) (same : (i : ℕ) → i < k → getD c i 0
       let count : ℕ = allInputs b in
       let fr = grown-old (inputFrames n count) (laterFrame b) 0 g s (omega (arith, length-grown (0 ∷ []) (λ _ i. frameOf n i) count)) in
       let value : (words : List ℕ) → getD (signalValues b words (suc g)) s false ≡ getD (signalValues b words g) s false = λ words.
-      grown-old (inputValues words n count) (gateValue b) false g s (omega (arith, length-grown (false ∷ []) (λ _ i. bit (getD words (i / n) 0) (i % n)) count)) in
+      grown-old (inputValues words n count) (gateValue b) false g s (omega (arith, start-length words n count)) in
       value c ∙ A (omega (arith, fr)) ∙ sym (value d)
 
   signal-agrees : LegalGates b → (g : ℕ) → g ≤ gates b → (s : ℕ) → s < 1 + allInputs b + g → Agree g s

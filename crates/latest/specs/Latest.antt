@@ -8,7 +8,7 @@ use lib.ListN.{getD}
 use lib.Dec.{ltb}
 use Rattle.sizes.specs.Sizes.{inputs, outputs}
 use Rattle.circuit.specs.Lists.{grown, listed}
-use Rattle.circuit.specs.Circuit.{gates, leftsAt, rightsAt, literalAt, allInputs, outputSignal, frameOf}
+use Rattle.circuit.specs.Circuit.{gates, leftsAt, rightsAt, operand, allInputs, outputSignal, frameOf}
 
 -- the latest frames of the constant and the inputs
 unfoldable pub inputFrames : (n count : ℕ) → List ℕ
@@ -20,7 +20,7 @@ InputsTo n T k v = (getD v 0 0 ≡ 0) × ((f j : ℕ) → f < T → j < k → ge
 
 -- the later of the latest frames of gate g's operands, given those of the signals before it
 unfoldable pub laterFrame : List ℕ → List ℕ → (g : ℕ) → ℕ
-laterFrame b fs g = max (getD fs (literalAt b (leftsAt b) g / 2) 0) (getD fs (literalAt b (rightsAt b) g / 2) 0)
+laterFrame b fs g = max (getD fs (operand b (leftsAt b) g / 2) 0) (getD fs (operand b (rightsAt b) g / 2) 0)
 
 -- the latest frames of the constant, the inputs and the first k gates
 unfoldable pub latestFrames : List ℕ → (k : ℕ) → List ℕ

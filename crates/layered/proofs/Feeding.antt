@@ -3,9 +3,10 @@ use mathlib.Core.Path.{_≡_, refl, sym, ap, _∙_, subst}
 use mathlib.Core.List.{List, [], _∷_, _++_}
 use Prim.Native.Nat.{ℕ, zero, suc, _+_, _-_, _≤_, _<_}
 use native.Mathlib.Omega.{arith}
+use lib.Bits.{bitAnd}
 use lib.ListN.{length, getD, drop}
 use Rattle.layered.specs.States.{Words, none, more}
-use Rattle.layered.specs.Machines.{Machine, Legal, feed, reached}
+use Rattle.layered.specs.Machines.{Machine, Legal, feed, reached, masked}
 
 -- ---- words
 
@@ -64,3 +65,12 @@ module _ (M : Machine) where
   reached-below L t s b l (more {k = r} {w = w} {c = c} k W) =
       let p : suc t + r ≡ t + suc r = omega arith in
       subst (λ k. reached M (suc t) (M .next t s w) c < M .states k) p (reached-below L (suc t) _ (omega arith) (L .next-is t s w (omega arith) l k) W)
+
+-- what a masked machine gives in each frame
+pub masked-word : (C : ℕ → ℕ) (M : Machine) (t s : ℕ) (c : List ℕ) (k : ℕ) → k < length c → getD (feed (masked C M) t s c) k 0 ≡ bitAnd (getD (feed M t s c) k 0) (C (t + k))
+unfolding feed
+masked-word C M t s [] k h = absurd (omega arith)
+masked-word C M t s (w ∷ c) zero h = ap (λ i. bitAnd (M .out t s w) (C i)) (omega arith)
+masked-word C M t s (w ∷ c) (suc k) h =
+    let p : suc t + k ≡ t + suc k = omega arith in
+    masked-word C M (suc t) (M .next t s w) c k (omega arith) ∙ ap (λ i. bitAnd (getD (feed M (suc t) (M .next t s w) c) k 0) (C i)) p

@@ -12,10 +12,10 @@ use Rattle.verdict.specs.declared.Refusal.{Refusal}
 use Rattle.verdict.specs.declared.Verdict.{Verdict}
 use Rattle.verdict.specs.declared.Verdict.the-variants.{Accepted, Refused}
 use Rattle.verdict.proofs.Laws.{never, refusal-number, stop, go-on}
-use Rattle.sizes.specs.Sizes.{inputs, outputs, frames}
+use Rattle.sizes.specs.Sizes.{inputs, frames}
 use Rattle.layered.specs.States.{Words, none, more}
 use Rattle.layered.specs.Machines.{feed}
-use Rattle.table.specs.Table.{states, machine, checked}
+use Rattle.table.specs.Table.{states, machine, badNext, checked}
 use Rattle.positions.specs.Positions.{placeChecked, positionChecked}
 use Rattle.positions.specs.declared.Position.{Position}
 use Rattle.steps.specs.Steps.{entryChecked, moveChecked, stepChecked, moved, handedBack, stepAfter, stepped, stepFigures}
@@ -39,10 +39,10 @@ module _ (b : List ℕ) (p : ℕ) (e : checked b ≡ answer 0 p) where
         rw (le-ltb (frames b) t (omega arith), lt-leb (states b t) s hs, ne-eqb t (frames b) n, lt-leb (2 ^ inputs b) w hw)
 
     entry-passes : entryChecked b t s w ≡ answer 0 0
-    unfolding entryChecked
+    unfolding entryChecked badNext
     entry-passes =
         rw (
-          lt-leb (2 ^ outputs b) (machine b .out t s w) (sound b p e .legal .out-is t s w ht hs hw),
+          sound b p e .outputs-connected t s w ht hs hw,
           lt-leb (states b (suc t)) (machine b .next t s w) (sound b p e .legal .next-is t s w ht hs hw),
         )
 

@@ -1,14 +1,13 @@
 -- A table stepped (document 01's "step").
-use Prim.Native.Nat.{ℕ, suc, _^_}
+use Prim.Native.Nat.{ℕ, suc}
 use mathlib.Core.Bool.{cond}
 use mathlib.Core.List.{List}
-use lib.Dec.{leb, eqb}
+use lib.Dec.{eqb}
 use Rattle.verdict.specs.Judgements.{answer, refusalFigures, refuse, andThen}
 use Rattle.verdict.specs.declared.Figures.{Figures}
-use Rattle.sizes.specs.Sizes.{outputs}
 use Rattle.positions.specs.Positions.{positionChecked}
 use Rattle.positions.specs.declared.Position.{Position}
-use Rattle.table.specs.Table.{states, outputsAt, nextsAt, entryAt, machine, headChecked}
+use Rattle.table.specs.Table.{outputsAt, nextsAt, entryAt, machine, headChecked, badOutput, badNext}
 use Rattle.steps.specs.declared.Stepped.{Stepped}
 use Rattle.steps.specs.declared.Stepped.the-variants.{Moved, Refused}
 use Rattle.steps.specs.declared.StepFigures.{StepFigures}
@@ -16,8 +15,8 @@ use Rattle.steps.specs.declared.StepFigures.{StepFigures}
 -- 5, of the one entry that is read, output before next
 unfoldable pub entryChecked : List ℕ → (t s w : ℕ) → Figures
 entryChecked b t s w =
-    refuse (leb (2 ^ outputs b) (machine b .out t s w)) 5 (entryAt b (outputsAt b) t s w)
-    (refuse (leb (states b (suc t)) (machine b .next t s w)) 5 (entryAt b (nextsAt b) t s w)
+    refuse (badOutput b t (machine b .out t s w)) 5 (entryAt b (outputsAt b) t s w)
+    (refuse (badNext b t (machine b .next t s w)) 5 (entryAt b (nextsAt b) t s w)
     (answer 0 0))
 
 -- the verdict on the move that a step makes: 11, 10, 9, then 5

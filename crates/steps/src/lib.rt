@@ -2,7 +2,9 @@
 use positions::Position;
 use positions::check_position;
 use table::Layout;
+use table::entries::is_stray;
 use table::head::check_head;
+use table::head::connected_of;
 use table::head::entries_below;
 use table::head::states_of;
 use verdict::Refusal;
@@ -90,7 +92,7 @@ fn read_entry(table: &[u8], layout: Layout, position: Position, word: usize) -> 
     let offset = 2 * (below + (position.state * layout.words + word));
     let output_at = layout.outputs + offset;
     let output = read(table, output_at);
-    if layout.limit <= output {
+    if is_stray(connected_of(table, layout.frames, layer), output) {
         return Stepped::Refused(Refusal::Entry(output_at), position);
     }
     let next_at = layout.nexts + offset;

@@ -10,16 +10,21 @@ use lib.Pow.{pow-mono}
 use lib.ListN.{length, take, drop}
 use Rattle.words.specs.Words.{wordAt}
 use Rattle.words.proofs.Laws.{number-take, number-drop}
-use Rattle.sizes.specs.Sizes.{inputs, outputs, frames}
+use Rattle.sizes.specs.Sizes.{inputs, frames}
 use Rattle.layered.specs.Search.{total}
-use Rattle.table.specs.Table.{countAt, states, headLength, statesBelow, entriesBelow, entryCount, outputsAt, nextsAt, tableLength}
+use Rattle.table.specs.Table.{countAt, states, connectedAt, headLength, statesBelow, entriesBelow, entryCount, outputsAt, nextsAt, tableLength}
 use Rattle.table.specs.Sound.{TableHeaded, layoutOf}
 use Rattle.table.specs.declared.Layout.{Layout}
 
+-- where the connected outputs of the frame from layer t stand
+pub connected-at : (T t : ℕ) → connectedAt T t ≡ 8 + 2 * T + 2 * t
+unfolding connectedAt countAt
+connected-at T t = omega arith
+
 -- the length of the head
-pub head-length : (T : ℕ) → headLength T ≡ 8 + 2 * T
-unfolding headLength countAt
-head-length T = omega arith
+pub head-length : (T : ℕ) → headLength T ≡ 8 + 4 * T
+unfolding headLength
+head-length T = omega (arith, connected-at T T)
 
 -- a word of a part of b that has k bytes
 pub part-word : (b : List ℕ) (start k i : ℕ) → i + 2 ≤ k → wordAt (take k (drop start b)) i ≡ wordAt b (start + i)
@@ -56,7 +61,7 @@ pub words-most : (n : ℕ) → n ≤ 8 → 2 ^ n ≤ 256
 words-most n h = pow-mono {j = 8} h
 
 -- the arrays follow the head and each other
-pub arrays-stand : (b : List ℕ) → (outputsAt b ≡ 8 + 2 * frames b) × (nextsAt b ≡ outputsAt b + 2 * entryCount b) × (tableLength b ≡ nextsAt b + 2 * entryCount b)
+pub arrays-stand : (b : List ℕ) → (outputsAt b ≡ 8 + 4 * frames b) × (nextsAt b ≡ outputsAt b + 2 * entryCount b) × (tableLength b ≡ nextsAt b + 2 * entryCount b)
 unfolding outputsAt nextsAt tableLength
 arrays-stand b = (head-length (frames b), refl, refl)
 
@@ -64,12 +69,11 @@ arrays-stand b = (head-length (frames b), refl, refl)
 pub record Laid (b : List ℕ) (l : Layout) : Type 0 where
   pub words-is : l .words ≡ 2 ^ inputs b
   pub frames-is : l .frames ≡ frames b
-  pub limit-is : l .limit ≡ 2 ^ outputs b
   pub outputs-is : l .outputs ≡ outputsAt b
   pub nexts-is : l .nexts ≡ nextsAt b
   pub words-to : l .words ≤ 256
   pub frames-to : l .frames ≤ 16
-  pub outputs-at : l .outputs ≡ 8 + 2 * l .frames
+  pub outputs-at : l .outputs ≡ 8 + 4 * l .frames
   pub nexts-at : l .nexts ≡ l .outputs + 2 * entryCount b
   pub end-at : length b ≡ l .nexts + 2 * entryCount b
 
@@ -84,7 +88,6 @@ laid b l h e =
     record {
       words-is = w;
       frames-is = f;
-      limit-is = ap (λ (l : Layout). l .limit) e;
       outputs-is = o;
       nexts-is = n;
       words-to = omega (arith, words-most (inputs b) (h .sized .inputs-to));

@@ -1,8 +1,9 @@
 -- The table format (document 01's sheet), its judgement, and its meaning as a layered machine.
 use Prim.Native.Nat.{ℕ, suc, _+_, _*_, _/_, _^_}
-use mathlib.Core.Bool.{not, _||_, cond}
+use mathlib.Core.Bool.{Bool, not, _||_, cond}
 use mathlib.Core.List.{List}
 use lib.Dec.{ltb, leb, eqb}
+use lib.Bits.{bitAnd}
 use lib.ListN.{length, take, drop}
 use Rattle.words.specs.Words.{wordAt}
 use Rattle.verdict.specs.Judgements.{answer, refuse, andThen, refuseFirst, firstRefusal}
@@ -23,9 +24,17 @@ countAt t = sizesLength + 2 * t
 unfoldable pub states : List ℕ → (t : ℕ) → ℕ
 states b t = wordAt b (countAt t)
 
--- length of the head: the sizes and the counts of layers 0 to T
+-- byte offset, in a table of T frames, of the word that tells the connected outputs of the frame from layer t
+unfoldable pub connectedAt : (T t : ℕ) → ℕ
+connectedAt T t = countAt (suc T) + 2 * t
+
+-- the connected outputs of the frame from layer t, bit j - 1 for output j (document 02, Point 8: the outputs that are fitted)
+unfoldable pub connected : List ℕ → (t : ℕ) → ℕ
+connected b t = wordAt b (connectedAt (frames b) t)
+
+-- length of the head: the sizes, the counts of layers 0 to T, and the connected outputs of T frames
 unfoldable pub headLength : (T : ℕ) → ℕ
-headLength T = countAt (suc T)
+headLength T = connectedAt T T
 
 -- S0 + .. + S(t-1): how many states the layers below t have
 unfoldable pub statesBelow : List ℕ → (t : ℕ) → ℕ
@@ -73,28 +82,45 @@ unfoldable pub countsChecked : List ℕ → Figures
 countsChecked b =
     refuseFirst (λ t. outside 1 (cond (eqb t 0 || eqb t (frames b)) endStates mostStates) (states b t)) 2 countAt (answer 0 0) 0 (suc (frames b))
 
--- 1 (six bytes), 2 (n, m, T), 1 (head), 2 (counts), 1 (length): all of the order before 5
+-- 2, of the connected outputs: each word is below 2^m
+unfoldable pub connectedChecked : List ℕ → Figures
+connectedChecked b = refuseFirst (λ t. leb (2 ^ outputs b) (connected b t)) 2 (connectedAt (frames b)) (answer 0 0) 0 (frames b)
+
+-- 1 (six bytes), 2 (n, m, T), 1 (head), 2 (counts), 2 (connected outputs), 1 (length): all of the order before 5
 unfoldable pub headChecked : List ℕ → Figures
 headChecked b =
     refuse (ltb (length b) sizesLength) 1 (length b)
     (andThen (sizesChecked mostInputs (inputs b) (outputs b) (frames b))
     (refuse (ltb (length b) (headLength (frames b))) 1 (length b)
     (andThen (countsChecked b)
+    (andThen (connectedChecked b)
     (refuse (not (eqb (length b) (tableLength b))) 1 (length b)
-    (answer 0 0)))))
+    (answer 0 0))))))
 
--- 5, of a part of an array that stands at byte offset `at`: its first word at or above the limit
-unfoldable pub partChecked : (limit at : ℕ) → List ℕ → Figures
-partChecked limit at part = refuseFirst (λ i. leb limit (wordAt part (2 * i))) 5 (λ i. at + 2 * i) (answer 0 0) 0 (length part / 2)
+-- x has a bit that c has not
+unfoldable pub strays : (c x : ℕ) → Bool
+strays c x = not (eqb (bitAnd x c) x)
 
--- 5, of all outputs
-unfoldable pub outputsChecked : List ℕ → Figures
-outputsChecked b = partChecked (2 ^ outputs b) (outputsAt b) (take (2 * entryCount b) (drop (outputsAt b) b))
+-- an output of the frame from layer t is bad where a bit of it is not connected, 2^m or more included
+unfoldable pub badOutput : List ℕ → (t x : ℕ) → Bool
+badOutput b t x = strays (connected b t) x
 
--- 5, of all next states, layer by layer
-unfoldable pub nextsChecked : List ℕ → Figures
-nextsChecked b = firstRefusal (λ t. partChecked (states b (suc t)) (nextsAt b + 2 * entriesBelow b t) (layerPart b (nextsAt b) t)) 0 (frames b)
+-- a next state is bad where layer t + 1 has no such state
+unfoldable pub badNext : List ℕ → (t x : ℕ) → Bool
+badNext b t x = leb (states b (suc t)) x
+
+-- 5, of a part of an array that stands at byte offset `at`: its first bad word
+unfoldable pub partChecked : (bad : ℕ → Bool) (at : ℕ) → List ℕ → Figures
+partChecked bad at part = refuseFirst (λ i. bad (wordAt part (2 * i))) 5 (λ i. at + 2 * i) (answer 0 0) 0 (length part / 2)
+
+-- 5, of the array at `start`, layer by layer
+unfoldable pub arrayChecked : List ℕ → (start : ℕ) (bad : (t x : ℕ) → Bool) → Figures
+arrayChecked b start bad = firstRefusal (λ t. partChecked (bad t) (start + 2 * entriesBelow b t) (layerPart b start t)) 0 (frames b)
+
+-- 5, of all outputs, then of all next states
+unfoldable pub entriesChecked : List ℕ → Figures
+entriesChecked b = andThen (arrayChecked b (outputsAt b) (badOutput b)) (arrayChecked b (nextsAt b) (badNext b))
 
 -- the verdict on a table
 unfoldable pub checked : List ℕ → Figures
-checked b = andThen (headChecked b) (andThen (outputsChecked b) (nextsChecked b))
+checked b = andThen (headChecked b) (entriesChecked b)

@@ -1,4 +1,4 @@
-// The head of a table: the sizes and the counts of states, their judgement, and where the arrays stand.
+// The head of a table: the sizes, the counts of states and the connected outputs, their judgement, and where the arrays stand.
 use super::Layout;
 use super::Limits;
 use sizes::Sizes;
@@ -14,17 +14,35 @@ ghost use lib.Dec.{eqb};
 ghost use lib.ListN.{length};
 ghost use Rattle.verdict.specs.Judgements.{figures};
 ghost use Rattle.sizes.specs.Sizes.{inputs, frames};
-ghost use Rattle.sizes.specs.Limits.{mostFrames};
+ghost use Rattle.sizes.specs.Limits.{mostOutputs, mostFrames};
+ghost use Rattle.sizes.specs.Sized.{sizesOf};
 ghost use Rattle.table.specs.Limits.{endStates, mostStates};
-ghost use Rattle.table.specs.Table.{states, headLength, statesBelow, entriesBelow, countsChecked, headChecked};
+ghost use Rattle.table.specs.Table.{states, connectedAt, connected, headLength, statesBelow, entriesBelow, countsChecked, connectedChecked, headChecked};
 ghost use Rattle.table.specs.Sound.{TableHeaded, layoutOf};
+
+// Where, in a table of so many frames, the connected outputs of the frame from layer t stand.
+pub fn connected_at(frames: usize, t: usize) -> usize
+    requires { ⌜ (frames ≤ mostFrames) × (t ≤ frames) ⌝ }
+    ensures { λ r. ⌜ r ≡ connectedAt frames t ⌝ }
+{
+    Limits::SIZES + 2 * (frames + 1 + t)
+}
 
 // The length of the head of a table of so many frames.
 pub fn head_length(frames: usize) -> usize
     requires { ⌜ frames ≤ mostFrames ⌝ }
     ensures { λ r. ⌜ r ≡ headLength frames ⌝ }
 {
-    Limits::SIZES + 2 * (frames + 1)
+    connected_at(frames, frames)
+}
+
+// The connected outputs of the frame from layer t.
+pub fn connected_of(table: &[u8], last: usize, t: usize) -> usize
+    requires { ⌜ (last ≡ frames (now table)) × (last ≤ mostFrames) × (t < last) ⌝ }
+    requires { ⌜ headLength last ≤ length (now table) ⌝ }
+    ensures { λ r. ⌜ (r ≡ connected (now (table .entry)) t) × (r < 65536) ⌝ }
+{
+    read(table, connected_at(last, t))
 }
 
 // How many states layer t has.
@@ -61,6 +79,23 @@ fn check_counts(table: &[u8], last: usize) -> Verdict
     Verdict::Accepted(0)
 }
 
+// Number 2, of the connected outputs.
+fn check_connected(table: &[u8], sizes: Sizes) -> Verdict
+    requires { ⌜ sizes ≡ sizesOf (now table) ⌝ }
+    requires { ⌜ (sizes .outputs ≤ mostOutputs) × (sizes .frames ≤ mostFrames) ⌝ }
+    requires { ⌜ headLength (sizes .frames) ≤ length (now table) ⌝ }
+    ensures { λ r. ⌜ figures r ≡ connectedChecked (now (table .entry)) ⌝ }
+{
+    let last = sizes.frames;
+    let limit = power(sizes.outputs);
+    for t in 0..last {
+        if limit <= connected_of(table, last, t) {
+            return Verdict::Refused(Refusal::Size(connected_at(last, t)));
+        }
+    }
+    Verdict::Accepted(0)
+}
+
 // How many states the layers below `layer` have.
 pub fn states_below(table: &[u8], layer: usize) -> usize
     requires { ⌜ (layer ≤ mostFrames + 1) × (6 + 2 * layer ≤ length (now table)) ⌝ }
@@ -82,7 +117,7 @@ pub fn entries_below(table: &[u8], words: usize, layer: usize) -> usize
     states_below(table, layer) * words
 }
 
-// All that is judged before number 5: 1 (six bytes), 2 (n, m, T), 1 (head), 2 (counts), 1 (length).
+// All that is judged before number 5: 1 (six bytes), 2 (n, m, T), 1 (head), 2 (counts), 2 (connected outputs), 1 (length).
 pub fn check_head(table: &[u8]) -> Verdict
     ensures { λ r. ⌜ figures r ≡ headChecked (now (table .entry)) ⌝ }
 {
@@ -103,6 +138,10 @@ pub fn check_head(table: &[u8]) -> Verdict
     let Verdict::Accepted(_) = counted else {
         return counted;
     };
+    let connected = check_connected(table, sizes);
+    let Verdict::Accepted(_) = connected else {
+        return connected;
+    };
     let entries = entries_below(table, power(sizes.inputs), sizes.frames);
     if length != head + 4 * entries {
         return Verdict::Refused(Refusal::Length(length));
@@ -117,13 +156,11 @@ impl Layout {
     {
         let sizes = Sizes::read(table);
         let words = power(sizes.inputs);
-        let limit = power(sizes.outputs);
         let outputs = head_length(sizes.frames);
         let entries = entries_below(table, words, sizes.frames);
         Layout {
             words,
             frames: sizes.frames,
-            limit,
             outputs,
             nexts: outputs + 2 * entries,
         }

@@ -1,9 +1,8 @@
 // Tables of layered states ("sheets" in document 01): the check of a table.
-mod entries;
+pub mod entries;
 pub mod head;
 
-use entries::check_nexts;
-use entries::check_outputs;
+use entries::check_array;
 use head::check_head;
 use verdict::Verdict;
 ghost use mathlib.Core.Path.{_≡_};
@@ -22,11 +21,10 @@ impl Limits {
     pub const STATES: usize = 32768;
 }
 
-// What the head says of the arrays: 2^n, T, 2^m, and the byte offsets of the outputs and of the next states.
+// What the head says of the arrays: 2^n, T, and the byte offsets of the outputs and of the next states.
 pub struct Layout {
     pub words: usize,
     pub frames: usize,
-    pub limit: usize,
     pub outputs: usize,
     pub nexts: usize,
 }
@@ -41,9 +39,9 @@ pub fn check(table: &[u8]) -> Verdict
         return head;
     };
     let layout = Layout::read(table);
-    let outputs = check_outputs(table, layout);
+    let outputs = check_array(table, layout, false);
     let Verdict::Accepted(_) = outputs else {
         return outputs;
     };
-    check_nexts(table, layout)
+    check_array(table, layout, true)
 }

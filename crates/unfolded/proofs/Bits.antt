@@ -1,27 +1,21 @@
 -- Words as bits, and tests of all numbers below a bound.
 use mathlib.Core.Path.{_≡_, refl, sym, ap, ap₂, _∙_}
-use mathlib.Core.Bool.{Bool, true, false, not, _&&_, Bool·beq}
+use mathlib.Core.Bool.{Bool, true, false, not, _&&_, and-true, and-false, Bool·beq}
 use mathlib.Core.Logic.{⊎-elim}
 use Prim.Native.Nat.{ℕ, zero, suc, _^_, _<_}
 use native.Mathlib.Nat.{le-of-suc-le-suc, eq-or-lt-of-le, le-refl, le-suc, le-trans}
 use native.Mathlib.Omega.{arith}
+use lib.Bits.{bitAnd}
 use lib.Dec.{eqb}
-use borrow.Author.Tests.{eqb-true, eqb-false}
+use borrow.Author.Tests.{eqb-true, eqb-false, not-false}
 use Rattle.circuit.specs.Lists.{bit}
-use Rattle.circuit.proofs.Bits.{equal-bits}
+use Rattle.circuit.proofs.Bits.{equal-bits, bit-and}
 use Rattle.circuit.proofs.Ahead.{beq-same, same-beq}
 use Rattle.layered.specs.Search.{every}
 use Rattle.layered.proofs.Search.{every-true, every-each}
+use Rattle.table.specs.Table.{strays}
 
 -- ---- truth values
-
-pub and-true : (a : Bool) → (a && true) ≡ a
-and-true true = refl
-and-true false = refl
-
-pub and-false : (a : Bool) → (a && false) ≡ false
-and-false true = refl
-and-false false = refl
 
 pub not-not : (a : Bool) → not (not a) ≡ a
 not-not true = refl
@@ -41,6 +35,11 @@ module _ (p : ℕ → Bool) where
       (eq-or-lt-of-le (le-of-suc-le-suc h))
 
 -- ---- bits
+
+-- a word without stray bits has no bit that c has not
+pub no-stray : (c x j : ℕ) → strays c x ≡ false → bit c j ≡ false → bit x j ≡ false
+unfolding strays
+no-stray c x j e n = ap (λ y. bit y j) (sym (eqb-true (bitAnd x c) x (not-false _ e))) ∙ bit-and x c j ∙ ap (λ a. bit x j && a) n ∙ and-false (bit x j)
 
 -- words below 2^n with the same n bits are the same
 pub same-bits : (n w x : ℕ) → w < 2 ^ n → x < 2 ^ n → every n (λ i. Bool·beq (bit w i) (bit x i)) ≡ eqb x w

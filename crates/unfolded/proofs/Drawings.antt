@@ -1,23 +1,49 @@
 -- All frames: literals are of earlier signals, and whatever each frame hands on of what its literals read as holds at the end.
 use mathlib.Core.Path.{_≡_, refl, sym, ap, ap₂, _∙_}
-use mathlib.Core.Bool.{cond}
+use mathlib.Core.Bool.{false, cond}
 use mathlib.Core.Logic.{⊎-elim}
 use mathlib.Core.List.{List, [], _++_}
-use Prim.Native.Nat.{ℕ, zero, suc, _+_, _*_, _/_, _^_, _≤_, _<_}
+use Prim.Native.Nat.{ℕ, zero, suc, _+_, _*_, _/_, _%_, _^_, _≤_, _<_}
 use native.Mathlib.Nat.{le-of-suc-le-suc, eq-or-lt-of-le, le-refl, mul-comm, mul-zero, mul-suc, mul-le-mul-left, div-lt-iff-lt-mul}
 use native.Mathlib.Omega.{arith}
+use lib.Arith.{digits-div, digits-mod}
 use lib.Pow.{pow-pos}
 use lib.ListN.{length, getD, length-append, List·getD-append}
 use lib.Seq.{getD-append-add}
 use borrow.Author.Tests.{lt-ltb}
 use Rattle.sizes.specs.Sizes.{inputs, outputs, frames}
-use Rattle.circuit.specs.Lists.{listed}
-use Rattle.table.specs.Table.{states}
-use Rattle.unfolded.specs.Unfolded.{Frame, inputLiteral, frameGates, nextLiteral, outLiteral, Drawing, tableFrame, withFrame, drawing, outputGate, drawn}
+use Rattle.circuit.specs.Limits.{mark}
+use Rattle.circuit.specs.Lists.{listed, bit}
+use Rattle.table.specs.Table.{states, connected}
+use Rattle.unfolded.specs.Unfolded.{Frame, inputLiteral, frameGates, nextLiteral, outLiteral, Drawing, tableFrame, withFrame, drawing, isConnected, drawn}
 use Rattle.circuit.proofs.Lists.{listed-length, listed-at}
 use Rattle.unfolded.proofs.Lists.{Under, none, under-more, under-widen, under-listed, under-at}
-use Rattle.unfolded.proofs.Gates.{Admitted, no-gate, admitted-append, each-admitted, Reads, run, run-append, run-length, run-read, each-reads}
+use Rattle.unfolded.proofs.Gates.{Admitted, no-gate, admitted-append, Reads, run, run-append, run-length, run-read, each-reads, closing, closed, closed-length, closing-either}
 use Rattle.unfolded.proofs.Frames.{input-half, Placed, frame-admitted, next-below, out-below}
+
+-- ---- the output gates
+
+-- the literal of output q
+abbrev pub outputLiteral : List ℕ → (q : ℕ) → ℕ
+outputLiteral b q = getD (drawing b (frames b) .outputs) q 0
+
+-- output j of the frame from layer t is connected where that bit of its word is 1
+pub connected-at : (b : List ℕ) (t j : ℕ) → j < outputs b → isConnected b (outputs b * t + j) ≡ bit (connected b t) j
+unfolding isConnected
+connected-at b t j h =
+    let p : outputs b * t + j ≡ t * outputs b + j = omega (arith, mul-comm t (outputs b)) in
+    ap (λ q. bit (connected b (q / outputs b)) (q % outputs b)) p ∙ ap₂ (λ t j. bit (connected b t) j) (digits-div t h) (digits-mod t h)
+
+-- all gates, with `blank` twice for an unconnected output: it is drawn with the mark, and read with 0
+abbrev pub allGates : List ℕ → (blank : ℕ) → List (ℕ × ℕ)
+allGates b blank = closed (drawing b (frames b) .gates) (isConnected b) (outputLiteral b) (outputs b * frames b) blank
+
+pub drawn-marked : (b : List ℕ) → drawn b ≡ allGates b mark
+unfolding drawn closed closing
+drawn-marked b = refl
+
+pub drawn-length : (b : List ℕ) → length (drawn b) ≡ length (drawing b (frames b) .gates) + outputs b * frames b
+drawn-length b = ap length (drawn-marked b) ∙ closed-length (drawing b (frames b) .gates) (isConnected b) (outputLiteral b) (outputs b * frames b) mark
 
 -- ---- literals are of earlier signals
 
@@ -98,19 +124,15 @@ module _ (b : List ℕ) (one : states b 0 ≡ 1) where
   }
   drawing-drawn (suc t) h = drawn-more b t (drawing b t) h (drawing-drawn t (omega arith))
 
-  -- all gates
-  pub drawn-admitted : Admitted (base b) (drawn b)
-  unfolding drawn behind outputGate
-  drawn-admitted =
-      let D = drawing-drawn (frames b) (le-refl (frames b)) in
-      admitted-append (D .admitted)
-      (each-admitted (behind b (drawing b (frames b))) (outputGate (drawing b (frames b))) (outputs b * frames b)
-      (λ q l. (under-at _ (D .outputs-before) q (omega (arith, D .outputs-count)), omega arith)))
+  all-drawn : Drawn b (frames b) (drawing b (frames b))
+  all-drawn = drawing-drawn (frames b) (le-refl (frames b))
 
-pub drawn-length : (b : List ℕ) → length (drawn b) ≡ length (drawing b (frames b) .gates) + outputs b * frames b
-unfolding drawn
-drawn-length b =
-    length-append (drawing b (frames b) .gates) _ ∙ ap (λ k. length (drawing b (frames b) .gates) + k) (listed-length (outputGate (drawing b (frames b))) (outputs b * frames b))
+  -- the gates of all frames, and the literals of all outputs
+  pub gates-admitted : Admitted (base b) (drawing b (frames b) .gates)
+  gates-admitted = all-drawn .admitted
+
+  pub outputs-low : (q : ℕ) → q < outputs b * frames b → outputLiteral b q < 2 * behind b (drawing b (frames b))
+  outputs-low q h = under-at _ (all-drawn .outputs-before) q (omega (arith, all-drawn .outputs-count))
 
 -- ---- what is read, frame by frame
 
@@ -177,19 +199,28 @@ module _
       }
       known (suc t) h = known-more t (drawing b t) h (drawing-drawn b one t (omega arith)) (known t (omega arith))
 
-      -- the output gates, together with literal 1
-      pub outputs-read : (meets : (t j : ℕ) (a : A) → OfOutput t j a → OfOutput t j (meet a (read start 1))) (t j : ℕ) → t < frames b → j < outputs b
-          → OfOutput t j (read (run meet read start (drawn b)) (2 * (behind b (drawing b (frames b)) + (outputs b * t + j))))
-      unfolding drawn outputGate
-      outputs-read meets t j h l =
+      -- the output gates: together with literal 1 where they are connected, else literal 0 twice
+      pub outputs-read : (meets : (t j : ℕ) (a : A) → OfOutput t j a → OfOutput t j (meet a (read start 1)))
+          (nothing : (t j : ℕ) → t < frames b → j < outputs b → isConnected b (outputs b * t + j) ≡ false → OfOutput t j (meet (read start 0) (read start 0)))
+          (t j : ℕ) → t < frames b → j < outputs b
+          → OfOutput t j (read (run meet read start (allGates b 0)) (2 * (behind b (drawing b (frames b)) + (outputs b * t + j))))
+      unfolding closed
+      outputs-read meets nothing t j h l =
           let d : Drawing = drawing b (frames b) in
           let vs : List A = run meet read start (d .gates) in
-          let D = drawing-drawn b one (frames b) (le-refl (frames b)) in
+          let last : ℕ → ℕ × ℕ = closing (isConnected b) (outputLiteral b) 0 in
           let q : ℕ = outputs b * t + j in
           let w : q < outputs b * frames b = omega (arith, mul-suc (outputs b) t, mul-le-mul-left (outputs b) h) in
           let n : length vs ≡ behind b d = run-behind d in
-          let e : read (run meet read start (drawn b)) (2 * (behind b d + q)) ≡ meet (read vs (getD (d .outputs) q 0)) (read start 1) =
-          ap₂ (λ v k. read v (2 * (k + q))) (run-append meet read start (d .gates) (listed [] (outputGate d) (outputs b * frames b))) (sym n)
-          ∙ each-reads meet read R vs (outputGate d) (outputs b * frames b) q w (λ i l. (rw n (under-at _ (D .outputs-before) i (omega (arith, D .outputs-count))), one-before b d _ n))
-          ∙ ap (λ a. meet (read vs (getD (d .outputs) q 0)) a) (run-read meet read R start (d .gates) 1 (omega (arith, S .from, base-from b))) in
-          rw e (meets t j _ (known (frames b) (le-refl (frames b)) .of-outputs t j h l))
+          let o : 1 < 2 * length vs = one-before b d _ n in
+          let e : read (run meet read start (allGates b 0)) (2 * (behind b d + q)) ≡ meet (read vs (last q .0)) (read vs (last q .1)) =
+          ap₂ (λ v k. read v (2 * (k + q))) (run-append meet read start (d .gates) (listed [] last (outputs b * frames b))) (sym n)
+          ∙ each-reads meet read R vs last (outputs b * frames b) q w (λ i l.
+          closing-either (isConnected b) (outputLiteral b) 0 i (λ (g : ℕ × ℕ). (g .0 < 2 * length vs) × (g .1 < 2 * length vs))
+          (λ c. (rw n (outputs-low b one i l), o))
+          (λ c. (omega arith, omega arith))) in
+          let old : (l : ℕ) → l ≤ 1 → read vs l ≡ read start l = λ l h. run-read meet read R start (d .gates) l (omega (arith, S .from, base-from b)) in
+          rw e
+          (closing-either (isConnected b) (outputLiteral b) 0 q (λ (g : ℕ × ℕ). OfOutput t j (meet (read vs (g .0)) (read vs (g .1))))
+          (λ c. rw (old 1 (omega arith)) (meets t j _ (known (frames b) (le-refl (frames b)) .of-outputs t j h l)))
+          (λ c. rw (old 0 (omega arith)) (nothing t j h l c)))

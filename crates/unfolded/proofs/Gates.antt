@@ -2,14 +2,16 @@
 -- together, and literals are of earlier signals.
 use mathlib.Core.Path.{_≡_, refl, sym, ap, ap₂, _∙_}
 use mathlib.Core.Logic.{⊎-elim}
+use mathlib.Core.Bool.{Bool, true, false, cond}
 use mathlib.Core.List.{List, [], _∷_, _++_}
 use Prim.Native.Nat.{ℕ, zero, suc, _+_, _*_, _≤_, _<_}
 use native.Mathlib.Nat.{le-of-suc-le-suc, eq-or-lt-of-le, le-suc, le-trans, le-refl}
 use native.Mathlib.Omega.{arith}
-use lib.ListN.{length, length-append}
+use lib.ListN.{length, getD, length-append, List·getD-append}
+use lib.Seq.{getD-append-add}
 use Rattle.circuit.specs.Lists.{grown, listed}
 use Rattle.unfolded.specs.Unfolded.{chain, lastOf, chainsFrom, ending}
-use Rattle.circuit.proofs.Lists.{listed-length}
+use Rattle.circuit.proofs.Lists.{listed-length, listed-at}
 use Rattle.unfolded.proofs.Lists.{Under, none, more, under-widen}
 
 -- ---- literals are of earlier signals
@@ -165,3 +167,44 @@ each-admitted at g zero U = no-gate
 each-admitted at g (suc k) U =
     let u = U k (le-refl (suc k)) in
     admitted-append (each-admitted at g k (λ i l. U i (le-trans l (le-suc k)))) (gate {l = g k .0} {r = g k .1} (omega arith) (omega arith) no-gate)
+
+-- ---- output gates behind other gates
+
+-- output q: where it is connected the literal that is given and literal 1, else `blank` twice
+unfoldable pub closing : (c : ℕ → Bool) (left : ℕ → ℕ) (blank q : ℕ) → ℕ × ℕ
+closing c left blank q = cond (c q) (left q, 1) (blank, blank)
+
+-- gates, and k outputs
+unfoldable pub closed : (gs : List (ℕ × ℕ)) (c : ℕ → Bool) (left : ℕ → ℕ) (k blank : ℕ) → List (ℕ × ℕ)
+unfolding closing
+closed gs c left k blank = gs ++ listed [] (closing c left blank) k
+
+module _ (gs : List (ℕ × ℕ)) (c : ℕ → Bool) (left : ℕ → ℕ) (k blank : ℕ) where
+  pub closed-length : length (closed gs c left k blank) ≡ length gs + k
+  unfolding closed
+  closed-length = length-append gs _ ∙ ap (λ i. length gs + i) (listed-length (closing c left blank) k)
+
+  pub closed-inner : (g : ℕ) → g < length gs → getD (closed gs c left k blank) g (0, 0) ≡ getD gs g (0, 0)
+  unfolding closed
+  closed-inner g h = List·getD-append gs _ (0, 0) g h
+
+  pub closed-output : (q : ℕ) → q < k → getD (closed gs c left k blank) (length gs + q) (0, 0) ≡ closing c left blank q
+  unfolding closed
+  closed-output q h = getD-append-add gs _ q (0, 0) ∙ listed-at (closing c left blank) (0, 0) k q h
+
+module _ (c : ℕ → Bool) (left : ℕ → ℕ) (blank q : ℕ) where
+  pub closing-connected : c q ≡ true → closing c left blank q ≡ (left q, 1)
+  unfolding closing
+  closing-connected e = ap (λ x. cond x (left q, 1) (blank, blank)) e
+
+  pub closing-blank : c q ≡ false → closing c left blank q ≡ (blank, blank)
+  unfolding closing
+  closing-blank e = ap (λ x. cond x (left q, 1) (blank, blank)) e
+
+  pub closing-either : (P : ℕ × ℕ → Type 0) → (c q ≡ true → P (left q, 1)) → (c q ≡ false → P (blank, blank)) → P (closing c left blank q)
+  unfolding closing
+  closing-either P f g = go (c q) refl
+    where
+      go : (x : Bool) → c q ≡ x → P (cond x (left q, 1) (blank, blank))
+      go true e = f e
+      go false e = g e

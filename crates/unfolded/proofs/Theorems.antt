@@ -1,29 +1,28 @@
 -- The statements of specs/Theorems.
-use mathlib.Core.Path.{_≡_, sym, ap, ap₂, _∙_}
-use mathlib.Core.Bool.{Bool, false, _&&_}
-use mathlib.Core.List.{List, [], _∷_}
+use mathlib.Core.Path.{_≡_, sym, ap, ap₂, _∙_, subst}
+use mathlib.Core.Bool.{false, not, _&&_}
+use mathlib.Core.List.{List, []}
 use Prim.Native.Nat.{ℕ, suc, _+_, _*_, _/_, _%_, _^_, _≤_, _<_}
 use native.Mathlib.Nat.{le-suc, le-refl, mul-suc, mul-le-mul-left}
 use native.Mathlib.Omega.{arith}
-use lib.ListN.{length, getD, take, drop, length-take, length-drop}
-use lib.Seq.{ext-getD, getD-take, getD-drop, take-take}
+use lib.ListN.{length, getD, take}
+use lib.Seq.{ext-getD, getD-take, take-take}
+use Rattle.words.specs.Words.{wordBytes}
 use Rattle.verdict.specs.Judgements.{answer}
 use Rattle.verdict.proofs.Laws.{finds-none}
-use Rattle.sizes.specs.Limits.{mostInputs}
 use Rattle.sizes.specs.Sizes.{inputs, outputs, frames}
-use Rattle.sizes.specs.Sized.{Sized}
 use Rattle.layered.specs.States.{Words}
 use Rattle.layered.specs.Machines.{feed, Gives}
-use Rattle.circuit.specs.Limits.{mostGates}
+use Rattle.circuit.specs.Limits.{mostGates, mark}
 use Rattle.circuit.specs.Lists.{listed, bit}
-use Rattle.circuit.specs.Circuit.{allInputs, allOutputs, frameOf, inputValues, literalValue, outputWord, outputWords, outputBit, looksAhead, lookAheadChecked, formChecked, checked as circuitChecked}
+use Rattle.circuit.specs.Circuit.{allInputs, allOutputs, gateOfOutput, outputSignal, unconnected, connectedOutputs, frameOf, inputValues, literalValue, outputWord, outputWords, outputBit, looksAhead, lookAheadChecked, formChecked, checked as circuitChecked}
 use Rattle.circuit.specs.Theorems.{AcceptedCausal}
-use Rattle.circuit.proofs.Laws.{length-grown}
-use Rattle.circuit.proofs.Bits.{packed-bits}
+use Rattle.circuit.proofs.Bits.{equal-bits}
 use Rattle.circuit.proofs.Accepted.{formed}
 use Rattle.circuit.proofs.Ahead.{output-parts, quiet}
+use Rattle.circuit.proofs.Unconnected.{word-below, connected-bit, connected-below, word-bit}
 use Rattle.circuit.proofs.Causal.{causal}
-use Rattle.table.specs.Table.{machine}
+use Rattle.table.specs.Table.{connected, machine}
 use Rattle.table.specs.Sound.{Sound}
 use Rattle.layered.specs.Machines.{reached}
 use Rattle.folded.specs.Folded.{foldedBytes, scratchNeeded, foldChecked}
@@ -31,12 +30,13 @@ use Rattle.layered.proofs.Feeding.{words-length, feed-length}
 use Rattle.folded.proofs.Asked.{ask-accepts, fold-accepts}
 use Rattle.folded.proofs.Outcomes.{circuit-sized, accepted as foldAccepted, written-bytes as foldWritten}
 use Rattle.folded.proofs.Theorems.{folding, same-bytes}
-use Rattle.unfolded.specs.Unfolded.{drawing, drawn, gatesNeeded, unfoldedBytes}
+use Rattle.unfolded.specs.Unfolded.{drawing, isConnected, drawn, gatesNeeded, circuitWords, unfoldedBytes}
 use Rattle.unfolded.specs.Theorems.{Unfolding, Unfoldings}
 use Rattle.circuit.proofs.Lists.{listed-length, listed-at}
-use Rattle.unfolded.proofs.Gates.{Admitted, run, run-length}
-use Rattle.unfolded.proofs.Drawings.{base, behind, drawn-admitted, drawn-length}
-use Rattle.unfolded.proofs.Written.{circuitBytes, inputs-back, outputs-back, frames-back, values-run, output-at, form-passes}
+use Rattle.unfolded.proofs.Gates.{run}
+use Rattle.unfolded.proofs.Drawings.{outputLiteral, connected-at, allGates, drawn-marked, drawn-length, base, behind, gates-admitted, outputs-low}
+use Rattle.unfolded.proofs.Written.{circuitBytes, inputs-back, outputs-back, frames-back, Drawable, fitting, values-run, form-passes, output-at, unconnected-is}
+use Rattle.unfolded.proofs.Bits.{not-not}
 use Rattle.unfolded.proofs.Outcomes.{accepted, written-bytes}
 use Rattle.unfolded.proofs.Values.{feed-at, words-at, stateAfter, state-below, output-value}
 
@@ -44,58 +44,72 @@ use Rattle.unfolded.proofs.Values.{feed-at, words-at, stateAfter, state
 
 module _ (b : List ℕ) (S : Sound b) (G : length (drawn b) ≤ mostGates) where
   circuit : List ℕ
-  circuit = circuitBytes (inputs b) (outputs b) (frames b) (drawn b)
+  circuit = circuitBytes (inputs b) (outputs b) (frames b) (allGates b mark)
 
-  sizes : Sized mostInputs (inputs b) (outputs b) (frames b)
-  sizes = S .headed .sized
+  drawable : Drawable (inputs b) (outputs b) (frames b) (drawing b (frames b) .gates) (isConnected b) (outputLiteral b)
+  unfolding base behind
+  drawable = record {
+    sizes = S .headed .sized;
+    inner-admitted = gates-admitted b (S .headed .one-first);
+    lefts-low = outputs-low b (S .headed .one-first);
+    gates-to = omega (arith, drawn-length b);
+  }
 
-  all-admitted : Admitted (1 + inputs b * frames b) (drawn b)
-  unfolding base
-  all-admitted = drawn-admitted b (S .headed .one-first)
+  -- its sizes
+  inputs-are : inputs circuit ≡ inputs b
+  unfolding circuit
+  inputs-are = inputs-back (fitting drawable)
+
+  outputs-are : outputs circuit ≡ outputs b
+  unfolding circuit
+  outputs-are = outputs-back (fitting drawable)
+
+  frames-are : frames circuit ≡ frames b
+  unfolding circuit
+  frames-are = frames-back (fitting drawable)
+
+  -- the same outputs are connected
+  connected-are : (k : ℕ) → k < frames b → connectedOutputs circuit k ≡ connected b k
+  unfolding circuit
+  connected-are k h =
+      let m : ℕ = outputs b in
+      let o = outputs-are in
+      equal-bits m (connectedOutputs circuit k) (connected b k) (subst (λ m. connectedOutputs circuit k < 2 ^ m) o (connected-below circuit k)) (S .headed .connected-to k h)
+      (λ j l.
+      let inside : m * k + j < m * frames b = omega (arith, mul-suc m k, mul-le-mul-left m h) in
+      connected-bit circuit k j (omega arith)
+      ∙ ap (λ m. not (unconnected circuit (gateOfOutput circuit (m * k + j)))) o
+      ∙ ap not (unconnected-is drawable (m * k + j) inside)
+      ∙ not-not (isConnected b (m * k + j))
+      ∙ connected-at b k j l)
 
   -- it passes every check but 4
   form : formChecked circuit ≡ answer 0 0
-  unfolding circuit base
-  form = form-passes (inputs b) (outputs b) (frames b) (drawn b) sizes all-admitted G (omega (arith, drawn-length b))
+  unfolding circuit
+  form = form-passes drawable
 
   -- its output words are the machine's outputs
   module _ (c : List ℕ) (W : Words (2 ^ inputs b) (frames b) c) where
-    values : List Bool
-    values = run _&&_ literalValue (inputValues c (inputs b) (inputs b * frames b)) (drawn b)
-
-    values-length : length values ≡ behind b (drawing b (frames b)) + outputs b * frames b
-    unfolding values behind base inputValues
-    values-length =
-        run-length _&&_ literalValue (inputValues c (inputs b) (inputs b * frames b)) (drawn b)
-        ∙ omega (arith, drawn-length b, length-grown (false ∷ []) (λ _ i. bit (getD c (i / inputs b) 0) (i % inputs b)) (inputs b * frames b))
-
     word-is : (t : ℕ) → t < frames b → outputWord circuit c t ≡ machine b .out t (stateAfter b c t) (getD c t 0)
-    unfolding outputWord circuit values base
+    unfolding circuit outputSignal behind base
     word-is t h =
-        let n : ℕ = inputs b in
         let m : ℕ = outputs b in
-        let T : ℕ = frames b in
-        let p : ℕ = behind b (drawing b T) + m * t in
-        let part : List Bool = take m (drop p values) in
-        let room : p + m ≤ length values = omega (arith, values-length, mul-suc m t, mul-le-mul-left m h) in
-        let as-many : length part ≡ m = length-take m (drop p values) ∙ omega (arith, length-drop p values) in
-        let A = all-admitted in
-        rw (outputs-back n m T (drawn b) sizes A G, values-run n m T (drawn b) sizes A G c, output-at b sizes A G (m * t))
-        (packed-bits m (machine b .out t (stateAfter b c t) (getD c t 0)) part
-        (S .legal .out-is t (stateAfter b c t) (getD c t 0) h (state-below b c W (S .legal) t (omega arith)) (words-at W t h))
-        as-many
+        let o = outputs-are in
+        let H = formed circuit 0 form .head in
+        equal-bits m (outputWord circuit c t) (machine b .out t (stateAfter b c t) (getD c t 0))
+        (subst (λ m. outputWord circuit c t < 2 ^ m) o (word-below circuit c t))
+        (S .legal .out-is t (stateAfter b c t) (getD c t 0) h (state-below b c W S t (omega arith)) (words-at W t h))
         (λ j l.
-        let q : p + j ≡ behind b (drawing b T) + (m * t + j) = omega arith in
-        getD-take m (drop p values) j false l
-        ∙ getD-drop p values j false
-        ∙ ap (λ i. getD values i false) q
-        ∙ output-value b c W (S .legal) (S .headed .one-first) t j h l))
+        word-bit circuit H c t (omega (arith, frames-are)) j (omega arith)
+        ∙ ap₂ (λ vs m. getD vs (outputSignal circuit (m * t + j)) false) (values-run drawable c) o
+        ∙ ap (λ i. getD (run _&&_ literalValue (inputValues c (inputs b) (inputs b * frames b)) (allGates b 0)) i false) (output-at drawable (m * t + j))
+        ∙ output-value b c W S t j h l)
 
     words-are : outputWords circuit c ≡ feed (machine b) 0 0 c
-    unfolding outputWords circuit base stateAfter
+    unfolding outputWords stateAfter
     words-are =
         let T : ℕ = frames b in
-        ap (listed [] (outputWord circuit c)) (frames-back (inputs b) (outputs b) T (drawn b) sizes all-admitted G)
+        ap (listed [] (outputWord circuit c)) frames-are
         ∙ ext-getD 0 (listed [] (outputWord circuit c) T) (feed (machine b) 0 0 c)
         (listed-length (outputWord circuit c) T ∙ sym (feed-length (machine b) 0 0 c ∙ words-length W))
         (λ t l.
@@ -118,16 +132,13 @@ module _ (b : List ℕ) (S : Sound b) (G : length (drawn b) ≤ mostGates) where
 
   -- so no output looks ahead
   none-ahead : (q : ℕ) → q < allOutputs circuit → looksAhead circuit q ≡ false
-  unfolding outputBit frameOf circuit base
+  unfolding outputBit frameOf
   none-ahead q h =
-      let n : ℕ = inputs b in
-      let m : ℕ = outputs b in
-      let T : ℕ = frames b in
       let F = formed circuit 0 form in
       let t : ℕ = q / outputs circuit in
-      let fb : frames circuit ≡ T = frames-back n m T (drawn b) sizes all-admitted G in
-      let ib : inputs circuit ≡ n = inputs-back n m T (drawn b) sizes all-admitted G in
-      let t< : t < T = omega (arith, fb, output-parts circuit (F .head) q h .0) in
+      let fb = frames-are in
+      let ib = inputs-are in
+      let t< : t < frames b = omega (arith, fb, output-parts circuit (F .head) q h .0) in
       quiet circuit (F .head) q h (λ c d W U e. ap (λ w. bit w (q % outputs circuit)) (word-same c d (rw (ib, fb) at W) (rw (ib, fb) at U) t t< e))
 
   -- it passes every check
@@ -153,57 +164,56 @@ alike d t room rest p q i f e c a =
 -- a table that folding d wrote
 module _ (b : List ℕ) (S : Sound b) (G : length (drawn b) ≤ mostGates) (d : List ℕ) (q : ℕ) (C : circuitChecked d ≡ answer 0 q) (e : b ≡ foldedBytes d) where
   same-folded : (inputs b ≡ inputs d) × (frames b ≡ frames d) × (foldedBytes (circuit b S G) ≡ foldedBytes d)
-  unfolding AcceptedCausal Gives circuit base
+  unfolding AcceptedCausal Gives
   same-folded =
-      let n : ℕ = inputs b in
-      let m : ℕ = outputs b in
-      let T : ℕ = frames b in
       let t : List ℕ = circuit b S G in
       let Z = circuit-sized d q C in
       let K = causal d q C in
       let F = folding d K Z in
-      let i : n ≡ inputs d = ap inputs e ∙ F .same-inputs in
-      let o : m ≡ outputs d = ap outputs e ∙ F .same-outputs in
-      let f : T ≡ frames d = ap frames e ∙ F .same-frames in
-      let A = all-admitted b S G in
-      let z = sizes b S G in
-      let it : inputs t ≡ inputs d = inputs-back n m T (drawn b) z A G ∙ i in
-      let ot : outputs t ≡ outputs d = outputs-back n m T (drawn b) z A G ∙ o in
-      let ft : frames t ≡ frames d = frames-back n m T (drawn b) z A G ∙ f in (
+      let i : inputs b ≡ inputs d = ap inputs e ∙ F .same-inputs in
+      let o : outputs b ≡ outputs d = ap outputs e ∙ F .same-outputs in
+      let f : frames b ≡ frames d = ap frames e ∙ F .same-frames in (
         i,
         f,
-        sym (same-bytes d t K (causal t 0 (passes b S G)) Z it ot ft .1 (λ c W.
-            sym (F .gives c W)
-            ∙ ap (λ x. feed (machine x) 0 0 c) (sym e)
-            ∙ sym (words-are b S G c (rw (i, f) W)))),
+        sym (same-bytes d t K (causal t 0 (passes b S G)) Z (inputs-are b S G ∙ i) (outputs-are b S G ∙ o) (frames-are b S G ∙ f) .1 (
+          (λ c W.
+              sym (F .gives c W)
+              ∙ ap (λ x. feed (machine x) 0 0 c) (sym e)
+              ∙ sym (words-are b S G c (rw (i, f) W))),
+          (λ k h.
+              sym (F .same-connected k h)
+              ∙ ap (λ x. connected x k) (sym e)
+              ∙ sym (connected-are b S G k (omega (arith, f)))),
+        )),
       )
 
 -- ---- whatever unfolding accepts
 
 module _ (b : List ℕ) (S : Sound b) (G : length (drawn b) ≤ mostGates) where
-  unfolding-of : Unfolding b (unfoldedBytes b)
-  unfolding unfoldedBytes circuit circuitBytes base
-  unfolding-of =
-      let n : ℕ = inputs b in
-      let m : ℕ = outputs b in
-      let T : ℕ = frames b in
-      let A = all-admitted b S G in
-      let z = sizes b S G in
-      record {
-        same-inputs = inputs-back n m T (drawn b) z A G;
-        same-outputs = outputs-back n m T (drawn b) z A G;
-        same-frames = frames-back n m T (drawn b) z A G;
-        legal = passes b S G;
-        gives = words-are b S G;
-        folds-back = λ d before room p a e.
-            let a′ = foldAccepted d room (length before) p a in
-            let w = foldWritten d before room p a in
-            let s = same-folded b S G d (a′ .circuit-place) (a′ .circuit-accepted) (e ∙ w) in
-            let k = alike d (circuit b S G) room (length before) p 0
-            (inputs-back n m T (drawn b) z A G ∙ s .0) (frames-back n m T (drawn b) z A G ∙ s .1) (s .2) (passes b S G) a in
-            (k, foldWritten (circuit b S G) before room p k ∙ s .2 ∙ sym w ∙ sym e);
-      }
+  bytes-are : unfoldedBytes b ≡ circuit b S G
+  unfolding unfoldedBytes circuit circuitBytes
+  bytes-are = ap (λ gs. wordBytes (circuitWords (inputs b) (outputs b) (frames b) gs)) (drawn-marked b)
+
+  unfolding-of : Unfolding b (circuit b S G)
+  unfolding-of = record {
+    same-inputs = inputs-are b S G;
+    same-outputs = outputs-are b S G;
+    same-frames = frames-are b S G;
+    same-connected = connected-are b S G;
+    legal = passes b S G;
+    gives = words-are b S G;
+    folds-back = λ d before room p a e.
+        let a′ = foldAccepted d room (length before) p a in
+        let w = foldWritten d before room p a in
+        let s = same-folded b S G d (a′ .circuit-place) (a′ .circuit-accepted) (e ∙ w) in
+        let k = alike d (circuit b S G) room (length before) p 0 (inputs-are b S G ∙ s .0) (frames-are b S G ∙ s .1) (s .2) (passes b S G) a in
+        (k, foldWritten (circuit b S G) before room p k ∙ s .2 ∙ sym w ∙ sym e);
+  }
 
 pub unfoldings : Unfoldings
 unfolding Unfoldings gatesNeeded drawn
-unfoldings b before p e = let a = accepted b (length before) p e in rw (written-bytes b before p e) (unfolding-of b (a .table-sound) (a .gates-to))
+unfoldings b before p e =
+    let a = accepted b (length before) p e in
+    let S = a .table-sound in
+    let G = a .gates-to in
+    rw (written-bytes b before p e, bytes-are b S G) (unfolding-of b S G)

@@ -1,7 +1,7 @@
 -- The values of the drawn circuit: a state's literal is true exactly of the state that the machine is in, an output's literal is that bit
 -- of the machine's output.
 use mathlib.Core.Path.{_≡_, refl, sym, ap, ap₂, _∙_}
-use mathlib.Core.Bool.{Bool, true, false, not, _&&_, cond, Bool·beq}
+use mathlib.Core.Bool.{Bool, true, false, not, _&&_, and-true, and-false, cond, Bool·beq}
 use mathlib.Core.List.{List, [], _∷_, _++_}
 use Prim.Native.Nat.{ℕ, zero, suc, _+_, _*_, _-_, _/_, _%_, _^_, _≤_, _<_}
 use native.Mathlib.Nat.{mul-comm, mul-suc, mul-le-mul-left, div-add-mod', mod-lt, div-lt-iff-lt-mul}
@@ -15,19 +15,20 @@ use borrow.Author.Tests.{eqb-true, eqb-false, eq-eqb}
 use Rattle.sizes.specs.Sizes.{inputs, outputs, frames}
 use Rattle.circuit.specs.Lists.{grown, listed, bit}
 use Rattle.circuit.specs.Circuit.{inputValues, literalValue}
-use Rattle.circuit.proofs.Laws.{length-grown}
+use Rattle.circuit.proofs.Unconnected.{start-length}
 use Rattle.layered.specs.Search.{every}
 use Rattle.layered.specs.States.{Words, none, more}
-use Rattle.layered.specs.Machines.{Machine, Legal, feed}
-use Rattle.table.specs.Table.{states, machine}
+use Rattle.layered.specs.Machines.{Machine, feed}
+use Rattle.table.specs.Table.{states, connected, machine, badOutput}
+use Rattle.table.specs.Sound.{Sound}
 use Rattle.layered.specs.Machines.{reached}
 use Rattle.layered.proofs.Feeding.{words-length}
-use Rattle.unfolded.specs.Unfolded.{ending, inverted, Frame, inputLiteral, matching, edgesAt, invertedEdges, entering, nextLiteral, withBit, outLiteral, frameGates, nextGatesAt, outGatesAt, Drawing, tableFrame, drawing, drawn}
+use Rattle.unfolded.specs.Unfolded.{ending, inverted, Frame, inputLiteral, matching, edgesAt, invertedEdges, entering, nextLiteral, withBit, outLiteral, frameGates, nextGatesAt, outGatesAt, Drawing, tableFrame, drawing, isConnected}
 use Rattle.circuit.proofs.Lists.{listed-at, listed-cons}
 use Rattle.unfolded.proofs.Gates.{Reads, run, together, together-append}
 use Rattle.unfolded.proofs.Frames.{Placed, crossed, edge-reads, next-reads, out-reads}
-use Rattle.unfolded.proofs.Drawings.{base, behind, input-low, HandsOn, Step, outputs-read}
-use Rattle.unfolded.proofs.Bits.{and-true, and-false, not-not, every-one, same-bits}
+use Rattle.unfolded.proofs.Drawings.{base, behind, allGates, connected-at, input-low, HandsOn, Step, outputs-read}
+use Rattle.unfolded.proofs.Bits.{not-not, every-one, no-stray, same-bits}
 
 -- ---- values as they are read
 
@@ -141,6 +142,9 @@ module _ (b c : List ℕ) where
   unfolding start inputValues inputBit
   start-is = listed-cons false (λ i. bit (getD c (i / inputs b) 0) (i % inputs b)) (inputs b * frames b)
 
+  false-value : literalValue start 0 ≡ false
+  false-value = literal-even start 0 0 refl ∙ ap (λ l. getD l 0 false) start-is
+
   true-value : literalValue start 1 ≡ true
   true-value = literal-odd start 1 0 refl ∙ ap (λ l. not (getD l 0 false)) start-is
 
@@ -176,7 +180,7 @@ module _ (b c : List ℕ) where
   abbrev OfOutput : ℕ → ℕ → Bool → Type 0
   OfOutput t j a = a ≡ bit (machine b .out t (stateAfter t) (getD c t 0)) j
 
-  module _ (W : Words (2 ^ inputs b) (frames b) c) (L : Legal (2 ^ inputs b) (outputs b) (frames b) (machine b)) where
+  module _ (W : Words (2 ^ inputs b) (frames b) c) (Z : Sound b) where
     state-more : (t : ℕ) → t < frames b → stateAfter (suc t) ≡ machine b .next t (stateAfter t) (getD c t 0)
     unfolding stateAfter
     state-more t h =
@@ -185,8 +189,8 @@ module _ (b c : List ℕ) where
 
     pub state-below : (t : ℕ) → t ≤ frames b → stateAfter t < states b t
     unfolding stateAfter reached
-    state-below zero h = L .start-is
-    state-below (suc t) h = rw (state-more t h) (L .next-is t (stateAfter t) (getD c t 0) h (state-below t (omega arith)) (words-at W t h))
+    state-below zero h = Z .legal .start-is
+    state-below (suc t) h = rw (state-more t h) (Z .legal .next-is t (stateAfter t) (getD c t 0) h (state-below t (omega arith)) (words-at W t h))
 
     module _
         (t : ℕ) (d : Drawing) (vs : List Bool) (h : t < frames b) (P : Placed (tableFrame b t d)) (at : length vs ≡ tableFrame b t d .at)
@@ -258,17 +262,26 @@ module _ (b c : List ℕ) where
     step : Step _&&_ literalValue value-reads b start OfState OfOutput
     unfolding start inputValues base stateAfter reached
     step = record {
-      from = length-grown (false ∷ []) (λ _ i. bit (getD c (i / inputs b) 0) (i % inputs b)) (inputs b * frames b);
+      from = start-length c (inputs b) (inputs b * frames b);
       first = true-value;
       on = λ t d vs h P at old S. hands-on t d vs h P at old S;
     }
 
+    -- an output that is not connected is false
+    none-connected : (t j : ℕ) → t < frames b → j < outputs b → isConnected b (outputs b * t + j) ≡ false → OfOutput t j (literalValue start 0 && literalValue start 0)
+    unfolding badOutput
+    none-connected t j h l e =
+        let s : ℕ = stateAfter t in
+        let w : ℕ = getD c t 0 in
+        ap (λ v. v && v) false-value
+        ∙ sym (no-stray (connected b t) (machine b .out t s w) j (Z .outputs-connected t s w h (state-below t (omega arith)) (words-at W t h)) (sym (connected-at b t j l) ∙ e))
+
     -- the output gates
-    pub output-value : states b 0 ≡ 1 → (t j : ℕ) → t < frames b → j < outputs b
-        → getD (run _&&_ literalValue (inputValues c (inputs b) (inputs b * frames b)) (drawn b)) (behind b (drawing b (frames b)) + (outputs b * t + j)) false
+    pub output-value : (t j : ℕ) → t < frames b → j < outputs b
+        → getD (run _&&_ literalValue (inputValues c (inputs b) (inputs b * frames b)) (allGates b 0)) (behind b (drawing b (frames b)) + (outputs b * t + j)) false
         ≡ bit (machine b .out t (stateAfter t) (getD c t 0)) j
     unfolding start
-    output-value one t j h l =
+    output-value t j h l =
         let at : ℕ = behind b (drawing b (frames b)) + (outputs b * t + j) in
-        sym (literal-even (run _&&_ literalValue start (drawn b)) (2 * at) at refl)
-        ∙ outputs-read _&&_ literalValue value-reads b start OfState OfOutput one step (λ t j a e. ap (λ v. a && v) true-value ∙ and-true a ∙ e) t j h l
+        sym (literal-even (run _&&_ literalValue start (allGates b 0)) (2 * at) at refl)
+        ∙ outputs-read _&&_ literalValue value-reads b start OfState OfOutput (Z .headed .one-first) step (λ t j a e. ap (λ v. a && v) true-value ∙ and-true a ∙ e) none-connected t j h l

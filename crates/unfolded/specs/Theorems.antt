@@ -1,6 +1,6 @@
 -- What is proved of the circuit that unfolding writes. b is a table; t are the bytes that unfolding it wrote. The table is the machine that
 -- its bytes are, with start 0; the outputs of a circuit are what its simulation gives.
-use Prim.Native.Nat.{ℕ, _^_}
+use Prim.Native.Nat.{ℕ, _^_, _<_}
 use mathlib.Core.Path.{_≡_}
 use mathlib.Core.List.{List}
 use lib.ListN.{length, take}
@@ -8,8 +8,8 @@ use Rattle.verdict.specs.Judgements.{answer}
 use Rattle.sizes.specs.Sizes.{inputs, outputs, frames}
 use Rattle.layered.specs.States.{Words}
 use Rattle.layered.specs.Machines.{feed}
-use Rattle.circuit.specs.Circuit.{checked, outputWords}
-use Rattle.table.specs.Table.{machine}
+use Rattle.circuit.specs.Circuit.{checked, connectedOutputs, outputWords}
+use Rattle.table.specs.Table.{connected, machine}
 use Rattle.folded.specs.Folded.{foldChecked, foldResult}
 use Rattle.unfolded.specs.Unfolded.{unfoldChecked, unfoldResult}
 
@@ -18,6 +18,8 @@ pub record Unfolding (b t : List ℕ) : Type 0 where
   pub same-inputs : inputs t ≡ inputs b
   pub same-outputs : outputs t ≡ outputs b
   pub same-frames : frames t ≡ frames b
+  -- the same outputs are connected
+  pub same-connected : (k : ℕ) → k < frames b → connectedOutputs t k ≡ connected b k
   -- the bytes pass every check of a circuit
   pub legal : checked t ≡ answer 0 0
   -- on every sequence the circuit's outputs are what the table gives

@@ -10,9 +10,9 @@ use Rattle.words.specs.Words.{wordBytes}
 use Rattle.verdict.specs.Judgements.{answer, refuse, andThen, resultAfter}
 use Rattle.verdict.specs.declared.Figures.{Figures}
 use Rattle.sizes.specs.Sizes.{inputs, outputs, frames}
-use Rattle.circuit.specs.Limits.{mostGates}
+use Rattle.circuit.specs.Limits.{mostGates, mark}
 use Rattle.circuit.specs.Lists.{grown, listed, bit}
-use Rattle.table.specs.Table.{states, machine, checked, entryAt, outputsAt, nextsAt}
+use Rattle.table.specs.Table.{states, connected, machine, checked, entryAt, outputsAt, nextsAt}
 
 -- ---- chains of gates
 
@@ -171,13 +171,19 @@ unfolding tableFrame withFrame
 drawing b zero = record { gates = []; states = 1 ∷ []; outputs = [] }
 drawing b (suc t) = let d : Drawing = drawing b t in withFrame d (tableFrame b t d)
 
--- After all frames come the m·T output gates: left the last gather gate inverted (none: 0), right literal 1
-unfoldable pub outputGate : Drawing → (q : ℕ) → ℕ × ℕ
-outputGate d q = (getD (d .outputs) q 0, 1)
+-- output q, counted over all frames, is connected
+unfoldable pub isConnected : List ℕ → (q : ℕ) → Bool
+unfolding bit connected outputs
+isConnected b q = bit (connected b (q / outputs b)) (q % outputs b)
+
+-- After all frames come the m·T output gates: left the last gather gate inverted (none: 0), right literal 1; both the mark where the output is
+-- unconnected
+abbrev pub outputGate : (connected : Bool) (literal : ℕ) → ℕ × ℕ
+outputGate connected literal = cond connected (literal, 1) (mark, mark)
 
 unfoldable pub drawn : List ℕ → List (ℕ × ℕ)
-unfolding drawing outputGate grown outputs frames
-drawn b = let d : Drawing = drawing b (frames b) in d .gates ++ listed [] (outputGate d) (outputs b * frames b)
+unfolding drawing isConnected grown outputs frames
+drawn b = let d : Drawing = drawing b (frames b) in d .gates ++ listed [] (λ q. outputGate (isConnected b q) (getD (d .outputs) q 0)) (outputs b * frames b)
 
 -- ---- the circuit
 

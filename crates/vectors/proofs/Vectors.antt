@@ -28,11 +28,11 @@ use Rattle.vectors.proofs.Quick.{quickAhead, quickChecked, quick-checke
 -- ---- all that is unfolded to compute a circuit's outputs, its check, the same quickly, a folded table's bytes, and a table's check
 
 abbrev circuit-outputs : List ℕ → List ℕ → List ℕ
-unfolding circuit.outputWord circuit.signalValues circuit.gateValue circuit.literalValue circuit.inputValues circuit.outputSignal circuit.gateSignal circuit.gates circuit.leftsAt circuit.rightsAt circuit.literalAt circuit.allInputs circuit.allOutputs grown bit packed wordAt inputs outputs frames
+unfolding circuit.outputWord circuit.signalValues circuit.gateValue circuit.operand circuit.unconnected circuit.literalValue circuit.inputValues circuit.outputSignal circuit.gateSignal circuit.gates circuit.leftsAt circuit.rightsAt circuit.literalAt circuit.allInputs circuit.allOutputs grown bit packed wordAt inputs outputs frames
 circuit-outputs b words = circuit.outputWords b words
 
 abbrev circuit-checked : List ℕ → Figures
-unfolding circuit-outputs circuit.checked circuit.formChecked circuit.headChecked circuit.literalsChecked circuit.circuitLength circuit.admissible circuit.lookAheadChecked circuit.looksAhead circuit.asFirst circuit.outputOn circuit.outputBit circuit.laterInputs circuit.frameOf historyWords every blockStart sizesChecked refuseFirst
+unfolding circuit-outputs circuit.checked circuit.formChecked circuit.headChecked circuit.literalsChecked circuit.circuitLength circuit.admissible circuit.ofUnconnected circuit.lookAheadChecked circuit.looksAhead circuit.asFirst circuit.outputOn circuit.outputBit circuit.laterInputs circuit.frameOf historyWords every blockStart sizesChecked refuseFirst
 circuit-checked b = circuit.checked b
 
 abbrev circuit-quick : List ℕ → Figures
@@ -40,11 +40,11 @@ unfolding circuit-checked quickChecked quickAhead reachesLater latestFrames late
 circuit-quick b = quickChecked b
 
 abbrev folded-bytes : List ℕ → List ℕ
-unfolding circuit-outputs folded.foldedBytes tableWords count number history response historyWords
+unfolding circuit-outputs circuit.connectedOutputs folded.foldedBytes tableWords count number history response historyWords
 folded-bytes b = folded.foldedBytes b
 
 abbrev table-checked : List ℕ → Figures
-unfolding table.checked table.headChecked table.countsChecked table.outputsChecked table.nextsChecked table.partChecked table.layerPart table.countAt table.states table.headLength table.statesBelow table.entriesBelow table.entryCount table.outputsAt table.nextsAt table.tableLength table.entryAt total firstRefusal
+unfolding table.checked table.headChecked table.countsChecked table.connectedChecked table.entriesChecked table.arrayChecked table.badOutput table.badNext table.strays table.partChecked table.layerPart table.countAt table.states table.connectedAt table.connected table.headLength table.statesBelow table.entriesBelow table.entryCount table.outputsAt table.nextsAt table.tableLength table.entryAt total firstRefusal
 table-checked b = table.checked b
 
 -- ---- the test

@@ -180,6 +180,25 @@ first-cong f g number place rest k zero e = refl
 first-cong f g number place rest k (suc c) e =
     ap₂ (λ t r. refuse t number (place k) r) (e k (le-refl k) (omega arith)) (first-cong f g number place rest (suc k) c (λ j lo hi. e j (omega arith) (omega arith)))
 
+-- the first of a + c indices is the first of a, and where they have none of the c behind them
+pub first-parts : (test : ℕ → Bool) (number : ℕ) (place : ℕ → ℕ) (k a c : ℕ) → eqb number 0 ≡ false → refuseFirst test number place (answer 0 0) k (a + c)
+    ≡ andThen (refuseFirst test number place (answer 0 0) k a) (refuseFirst test number place (answer 0 0) (k + a) c)
+unfolding refuseFirst
+first-parts test number place k zero c z =
+    let p : 0 + c ≡ c = omega arith in
+    let q : k ≡ k + 0 = omega arith in
+    ap₂ (refuseFirst test number place (answer 0 0)) q p
+first-parts test number place k (suc a) c z =
+    let p : suc a + c ≡ suc (a + c) = omega arith in
+    let q : suc k + a ≡ k + suc a = omega arith in
+    ap (refuseFirst test number place (answer 0 0) k) p
+    ∙ ap (refuse (test k) number (place k)) (first-parts test number place (suc k) a c z ∙ ap (λ i. andThen (refuseFirst test number place (answer 0 0) (suc k) a) (refuseFirst test number place (answer 0 0) i c)) q)
+    ∙ within (test k) (place k) (refuseFirst test number place (answer 0 0) (suc k) a) (refuseFirst test number place (answer 0 0) (k + suc a) c)
+  where
+    within : (t : Bool) (p : ℕ) (f g : Figures) → refuse t number p (andThen f g) ≡ andThen (refuse t number p f) g
+    within true p f g = rw z
+    within false p f g = refl
+
 -- where each judgement accepts with place 0, the row does
 pub all-accept : (f : ℕ → Figures) (k c : ℕ) → ((j : ℕ) → k ≤ j → j < k + c → f j ≡ answer 0 0) → firstRefusal f k c ≡ answer 0 0
 unfolding firstRefusal

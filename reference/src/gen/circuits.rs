@@ -1,12 +1,18 @@
 //! Circuits to try the implementations on.
 
-use super::{any_sizes, Rng};
+use super::{any_connected, any_sizes, Rng};
 use crate::circuit::Circuit;
-use crate::gates::{not, Gates, FALSE, TRUE};
+use crate::gates::{not, Gates, FALSE, TRUE, UNCONNECTED};
 use crate::sizes::Sizes;
 
-/// A random legal circuit.
+/// A random legal circuit, in which outputs may be unconnected.
 pub fn legal(rng: &mut Rng, sizes: Sizes, gates: usize) -> Circuit {
+    let circuit = connected(rng, sizes, gates);
+    partly_connected(rng, circuit)
+}
+
+/// A random legal circuit, all its outputs connected.
+pub fn connected(rng: &mut Rng, sizes: Sizes, gates: usize) -> Circuit {
     let mut growing = Growing::new(sizes);
     let inner = gates - sizes.output_gates();
     while growing.gates.count() < inner {
@@ -29,6 +35,42 @@ pub fn any_legal(rng: &mut Rng, most_signals: usize, most_inner: usize) -> Circu
     let sizes = any_sizes(rng, most_signals);
     let gates = sizes.output_gates() + rng.between(0, most_inner);
     legal(rng, sizes, gates)
+}
+
+/// The same circuit, or every third time one with any of its outputs connected.
+pub fn partly_connected(rng: &mut Rng, circuit: Circuit) -> Circuit {
+    if rng.one_in(3) {
+        let connected = any_connected(rng, &circuit.sizes);
+        with_connected(&circuit, &connected)
+    } else {
+        circuit
+    }
+}
+
+/// The circuit with nothing connected to outputs but those that `connected` has, by frame. A gate that
+/// names one of the others takes false for it.
+pub fn with_connected(circuit: &Circuit, connected: &[u16]) -> Circuit {
+    let mut made = circuit.clone();
+    let Sizes { outputs, .. } = circuit.sizes;
+    for output in 0..circuit.sizes.output_gates() {
+        if connected[output / outputs] >> (output % outputs) & 1 == 0 {
+            disconnect(&mut made, output);
+        }
+    }
+    made
+}
+
+fn disconnect(circuit: &mut Circuit, output: usize) {
+    let gate = circuit.first_output() + output;
+    let own = circuit.literal(gate);
+    for literal in circuit.left.iter_mut().chain(&mut circuit.right) {
+        if *literal == own {
+            *literal = FALSE;
+        } else if *literal == not(own) {
+            *literal = TRUE;
+        }
+    }
+    circuit.mark_unconnected(gate);
 }
 
 /// Gates that are added with a bound on their latest frame.
@@ -88,6 +130,9 @@ pub fn reordered(rng: &mut Rng, circuit: &Circuit) -> Circuit {
     let mut outputs = circuit.first_output()..circuit.gates();
     loop {
         let literal = |literal: u16| {
+            if literal == UNCONNECTED {
+                return Some(literal);
+            }
             let signal = signals[usize::from(literal / 2)]?;
             Some(2 * signal + literal % 2)
         };
@@ -203,20 +248,27 @@ pub fn match_history(gates: &mut Gates, sizes: &Sizes, length: usize, history: u
     gates.chain(literals).expect("a history has a word")
 }
 
-/// A legal circuit with up to three literals changed, so that it may refer to later signals or frames.
+/// A legal circuit with up to three literals changed, and at times a gate marked, so that it may refer
+/// to later signals, to later frames or to unconnected outputs.
 pub fn careless(rng: &mut Rng, sizes: Sizes, gates: usize) -> Circuit {
     let circuit = legal(rng, sizes, gates);
-    with_changed_literals(rng, circuit, 3, |rng, limit| {
+    let mut circuit = with_changed_literals(rng, circuit, 3, |rng, limit| {
         let valid = rng.below(limit);
-        let high = rng.pick(&[limit - 1, limit, limit + 1, usize::from(u16::MAX)]);
+        let high = rng.pick(&[limit - 1, limit, limit + 1, usize::from(UNCONNECTED)]);
         rng.pick(&[valid, valid, high])
-    })
+    });
+    if rng.one_in(4) {
+        let gate = any_gate(rng, &circuit);
+        circuit.mark_unconnected(gate);
+    }
+    circuit
 }
 
 /// A legal circuit with up to eight literals changed to other valid ones, so that it may look ahead.
 pub fn heedless(rng: &mut Rng, sizes: Sizes, gates: usize) -> Circuit {
-    let circuit = legal(rng, sizes, gates);
-    with_changed_literals(rng, circuit, 8, Rng::below)
+    let circuit = connected(rng, sizes, gates);
+    let circuit = with_changed_literals(rng, circuit, 8, Rng::below);
+    partly_connected(rng, circuit)
 }
 
 /// Changes up to `most` literals; `literal` is given the limit below which one is valid.
@@ -227,9 +279,7 @@ fn with_changed_literals(
     literal: fn(&mut Rng, usize) -> usize,
 ) -> Circuit {
     for _ in 0..rng.between(0, most) {
-        let any_gate = rng.below(circuit.gates());
-        let any_output = rng.between(circuit.first_output(), circuit.gates() - 1);
-        let gate = rng.pick(&[any_gate, any_output]);
+        let gate = any_gate(rng, &circuit);
         let literal = literal(rng, circuit.literal_limit(gate)) as u16;
         if rng.one_in(2) {
             circuit.left[gate] = literal;
@@ -238,6 +288,13 @@ fn with_changed_literals(
         }
     }
     circuit
+}
+
+/// A gate, from 0; every other time an output.
+fn any_gate(rng: &mut Rng, circuit: &Circuit) -> usize {
+    let any = rng.below(circuit.gates());
+    let any_output = rng.between(circuit.first_output(), circuit.gates() - 1);
+    rng.pick(&[any, any_output])
 }
 
 /// Sizes and gate counts at their limits.
@@ -329,6 +386,24 @@ fn lengthened(gates: &mut Gates, literal: u16, count: usize) -> u16 {
 #[cfg(test)]
 mod tests {
     use super::*;
+    use crate::check_circuit;
+
+    #[test]
+    fn outputs_are_connected_as_told() {
+        let mut rng = Rng::new(2);
+        for _ in 0..300 {
+            let sizes = any_sizes(&mut rng, 8);
+            let circuit = connected(&mut rng, sizes, sizes.output_gates() + 10);
+            assert_eq!(
+                circuit.connected(),
+                vec![sizes.every_output(); sizes.frames]
+            );
+            let words = any_connected(&mut rng, &sizes);
+            let made = with_connected(&circuit, &words);
+            assert_eq!(made.connected(), words);
+            assert_eq!(check_circuit(&made.to_bytes()), (0, 0));
+        }
+    }
 
     #[test]
     fn outputs_by_sequence_are_given() {

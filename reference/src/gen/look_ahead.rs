@@ -4,7 +4,7 @@ use std::ops::Range;
 
 use super::{any_sizes, circuits, Rng};
 use crate::circuit::Circuit;
-use crate::gates::{not, Gates, TRUE};
+use crate::gates::{not, Gates, FALSE, TRUE, UNCONNECTED};
 use crate::sizes::Sizes;
 
 /// Gives a value again behind gates that also lead to a further literal, which has no effect.
@@ -51,14 +51,19 @@ pub fn absorbed(gates: &mut Gates, value: u16, other: u16) -> u16 {
     gates.or(value, both)
 }
 
-/// `circuit` with output `output`, from 0, replaced by what `change` makes of it.
+/// `circuit` with output `output`, from 0, replaced by what `change` makes of it. It ends connected; an
+/// unconnected one is false before.
 pub fn with_changed_output(
     circuit: &Circuit,
     output: usize,
     change: impl FnOnce(&mut Gates, u16) -> u16,
 ) -> Circuit {
     let (mut gates, mut outputs) = Gates::reopened(circuit);
-    outputs[output] = change(&mut gates, outputs[output]);
+    let value = match outputs[output] {
+        UNCONNECTED => FALSE,
+        connected => connected,
+    };
+    outputs[output] = change(&mut gates, value);
     gates.finish(&outputs)
 }
 
@@ -72,8 +77,8 @@ pub fn inverted_on(circuit: &Circuit, output: usize, sequence: usize) -> Circuit
     })
 }
 
-/// `circuit` with the same outputs behind further gates, `gates` in all. In turn each output that is
-/// not of the last frame is led to an input of a later frame, without effect.
+/// `circuit` with the same outputs behind further gates, `gates` in all. In turn each connected output
+/// that is not of the last frame is led to an input of a later frame, without effect.
 pub fn crossed_out(rng: &mut Rng, circuit: &Circuit, gates: usize) -> Circuit {
     let outputs = 0..outputs_before_last_frame(&circuit.sizes);
     crossed_out_among(rng, circuit, outputs, gates)
@@ -95,7 +100,10 @@ pub fn crossed_out_among(
     let sizes = circuit.sizes;
     let inner = gates - sizes.output_gates();
     let (mut made, mut outputs) = Gates::reopened(circuit);
-    for output in among.cycle() {
+    let connected: Vec<usize> = among
+        .filter(|&output| outputs[output] != UNCONNECTED)
+        .collect();
+    for output in connected.into_iter().cycle() {
         if made.count() + MOST_CROSSING_OUT > inner {
             break;
         }
@@ -104,7 +112,7 @@ pub fn crossed_out_among(
         outputs[output] = cross_out(&mut made, outputs[output], later);
     }
     while made.count() < inner {
-        outputs[0] = made.and(outputs[0], TRUE);
+        made.and(TRUE, TRUE);
     }
     made.finish(&outputs)
 }
@@ -145,10 +153,13 @@ mod tests {
             let circuit = circuits::any_legal(&mut rng, 6, 20);
             let gates = gates_crossed_out(&circuit) + rng.below(20);
             let crossed = crossed_out(&mut rng, &circuit, gates);
-            let early = outputs_before_last_frame(&circuit.sizes);
+            let early = 0..outputs_before_last_frame(&circuit.sizes);
+            let connected =
+                |output: &usize| !circuit.is_unconnected(circuit.first_output() + output);
             let reaching = crossed.outputs_reaching_later_inputs();
-            assert!(reaching.into_iter().eq(0..early));
+            assert!(reaching.into_iter().eq(early.filter(connected)));
             assert_eq!(crossed.gates(), gates);
+            assert_eq!(crossed.connected(), circuit.connected());
             assert_eq!(
                 crossed.outputs_on_all_sequences(),
                 circuit.outputs_on_all_sequences()

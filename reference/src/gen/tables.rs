@@ -1,14 +1,52 @@
 //! Tables to try the implementations on.
 
-use super::{any_sizes, Rng};
+use super::{any_connected, any_sizes, Rng};
 use crate::circuit::{simulate, Circuit};
 use crate::sizes::Sizes;
 use crate::table::{Head, Table};
 use crate::unfold::gates_needed;
 
-/// A random legal table. Some layers have states that nothing enters, some have equal states.
+/// A random legal table, every other time with any outputs connected.
 pub fn legal(rng: &mut Rng, sizes: Sizes, counts: Vec<u16>) -> Table {
-    let head = Head { sizes, counts };
+    let table = connected(rng, sizes, counts);
+    if rng.one_in(2) {
+        let connected = any_connected(rng, &sizes);
+        with_connected(&table, &connected)
+    } else {
+        table
+    }
+}
+
+/// The table with the outputs connected that `connected` has, by frame, and all others never set.
+pub fn with_connected(table: &Table, connected: &[u16]) -> Table {
+    let mut made = table.clone();
+    made.head.connected = connected.to_vec();
+    for (layer, word) in connected.iter().enumerate() {
+        for entry in table.head.entries_of(layer) {
+            made.output_words[entry] &= word;
+        }
+    }
+    made
+}
+
+/// Words of connected outputs, by which each frame connects others than every other frame: one output,
+/// all but one, or the first ones. There must be an output for each frame.
+pub fn each_frame_its_own(sizes: &Sizes) -> [Vec<u16>; 3] {
+    let one = |frame: usize| 1u16 << frame;
+    let all_but_one = |frame| sizes.every_output() & !one(frame);
+    let first_ones = |frame| one(frame + 1) - 1;
+    let by_frame = |word: &dyn Fn(usize) -> u16| (0..sizes.frames).map(word).collect();
+    [
+        by_frame(&one),
+        by_frame(&all_but_one),
+        by_frame(&first_ones),
+    ]
+}
+
+/// A random legal table, all its outputs connected. Some layers have states that nothing enters, some
+/// have equal states.
+pub fn connected(rng: &mut Rng, sizes: Sizes, counts: Vec<u16>) -> Table {
+    let head = every_output_connected(sizes, counts);
     let bits = rng.between(0, sizes.outputs);
     let mut table = Table {
         output_words: (0..head.entries())
@@ -27,6 +65,15 @@ pub fn legal(rng: &mut Rng, sizes: Sizes, counts: Vec<u16>) -> Table {
         }
     }
     table
+}
+
+/// A head whose outputs are all connected.
+fn every_output_connected(sizes: Sizes, counts: Vec<u16>) -> Head {
+    Head {
+        sizes,
+        counts,
+        connected: vec![sizes.every_output(); sizes.frames],
+    }
 }
 
 /// A random legal table of random sizes, with up to `most_states` states a layer.
@@ -85,6 +132,7 @@ pub fn with_spare_state(table: &Table, layer: usize) -> Table {
 pub fn each_history(circuit: &Circuit) -> Table {
     let sizes = circuit.sizes;
     let mut table = histories_apart(sizes);
+    table.head.connected = circuit.connected();
     for layer in 0..sizes.frames {
         for (history, entry) in table.head.entries_of(layer).enumerate() {
             let mut words = sizes.history_words(layer + 1, history);
@@ -97,13 +145,14 @@ pub fn each_history(circuit: &Circuit) -> Table {
     table
 }
 
-/// A table in which each history has a state of its own, with the history's number. Outputs are 0.
+/// A table in which each history has a state of its own, with the history's number. Outputs are 0, all
+/// of them connected.
 pub fn histories_apart(sizes: Sizes) -> Table {
     let mut counts: Vec<u16> = (0..sizes.frames)
         .map(|layer| sizes.histories(layer) as u16)
         .collect();
     counts.push(1);
-    let head = Head { sizes, counts };
+    let head = every_output_connected(sizes, counts);
     let mut next_states: Vec<u16> = (1..sizes.frames)
         .flat_map(|layer| 0..head.counts[layer])
         .collect();
@@ -169,9 +218,10 @@ fn repeat_states(rng: &mut Rng, table: &mut Table, layer: usize) {
     }
 }
 
-/// A random legal table that unfolds to exactly `gates` gates, which the counts must allow.
+/// A random legal table, all its outputs connected, that unfolds to exactly `gates` gates, which the
+/// counts must allow.
 pub fn with_gates(rng: &mut Rng, sizes: Sizes, counts: Vec<u16>, gates: usize) -> Table {
-    let mut table = legal(rng, sizes, counts);
+    let mut table = connected(rng, sizes, counts);
     table.output_words.fill(0);
     let bits = gates - gates_needed(&table);
     let places = table.output_words.len() * sizes.outputs;

@@ -44,7 +44,7 @@ int main(void) {
                                2, 0, 3, 0, 7, 0, 2, 0, 11, 0,   /* left literals */
                                5, 0, 4, 0, 9, 0, 1, 0, 1, 0};   /* right literals */
     const uint16_t words[] = {1, 1, 1, 0, 2};
-    uint8_t table[36];
+    uint8_t table[40];
     uint64_t plan[22] = {0};   /* 21 numbers, and a 0 behind them */
     const uint16_t windows[] = {600, 660, 10000, 50};
 
@@ -61,10 +61,10 @@ int main(void) {
     CALL(simulate, circuit, 28, 2, words + 1, 4, numbers, 4);
     CALL(simulate, circuit, 28, 2, words, 4, numbers, 3);
 
-    CALL(fold, circuit, 27, numbers, 8, bytes, 36);
-    CALL(fold, circuit, 28, numbers, 7, bytes, 36);
-    CALL(fold, circuit, 28, numbers, 8, bytes, 35);
-    CALL(fold, circuit, 28, numbers, 8, bytes, 36);
+    CALL(fold, circuit, 27, numbers, 8, bytes, 40);
+    CALL(fold, circuit, 28, numbers, 7, bytes, 40);
+    CALL(fold, circuit, 28, numbers, 8, bytes, 39);
+    CALL(fold, circuit, 28, numbers, 8, bytes, 40);
     for (size_t i = 0; i < sizeof table; i++) table[i] = bytes[i];
 
     CALL_FOR(22, ask, circuit, 28, numbers, 8);
@@ -73,50 +73,50 @@ int main(void) {
     CALL(ask, circuit, 28, numbers, 8);
     for (size_t i = 0; i < 21; i++) plan[i] = answer[2 + i];
 
-    CALL(commit, circuit, 27, plan, 21, numbers, 8, bytes, 36);
-    CALL(commit, circuit, 28, plan, 21, numbers, 7, bytes, 36);
-    CALL(commit, circuit, 28, plan, 20, numbers, 8, bytes, 36);
-    CALL(commit, circuit, 28, plan, 22, numbers, 8, bytes, 36);
-    CALL(commit, circuit, 28, plan, 21, numbers, 8, bytes, 35);
-    CALL(commit, circuit, 28, plan, 21, numbers, 8, bytes, 36);
+    CALL(commit, circuit, 27, plan, 21, numbers, 8, bytes, 40);
+    CALL(commit, circuit, 28, plan, 21, numbers, 7, bytes, 40);
+    CALL(commit, circuit, 28, plan, 20, numbers, 8, bytes, 40);
+    CALL(commit, circuit, 28, plan, 22, numbers, 8, bytes, 40);
+    CALL(commit, circuit, 28, plan, 21, numbers, 8, bytes, 39);
+    CALL(commit, circuit, 28, plan, 21, numbers, 8, bytes, 40);
 
-    CALL(check_table, table, 36);
-    CALL(check_table, table, 35);
+    CALL(check_table, table, 40);
+    CALL(check_table, table, 39);
 
-    CALL(run, table, 36, words, 2, numbers, 2);
-    CALL(run, table, 35, words, 2, numbers, 2);
-    CALL(run, table, 36, words, 3, numbers, 2);
-    CALL(run, table, 36, words + 3, 2, numbers, 2);
-    CALL(run, table, 36, words, 2, numbers, 1);
+    CALL(run, table, 40, words, 2, numbers, 2);
+    CALL(run, table, 39, words, 2, numbers, 2);
+    CALL(run, table, 40, words, 3, numbers, 2);
+    CALL(run, table, 40, words + 3, 2, numbers, 2);
+    CALL(run, table, 40, words, 2, numbers, 1);
 
-    CALL(step, table, 36, 0, 0, 1);
-    CALL(step, table, 36, 1, 0, 1);
-    CALL(step, table, 35, 1, 0, 1);
-    CALL(step, table, 36, 1, 2, 1);
-    CALL(step, table, 36, 2, 0, 1);
-    CALL(step, table, 36, 1, 0, 2);
+    CALL(step, table, 40, 0, 0, 1);
+    CALL(step, table, 40, 1, 0, 1);
+    CALL(step, table, 39, 1, 0, 1);
+    CALL(step, table, 40, 1, 2, 1);
+    CALL(step, table, 40, 2, 0, 1);
+    CALL(step, table, 40, 1, 0, 2);
 
-    QUIET_STEP(23, 0, 0, table, 36, windows, 0, 600, &position, 1);
-    QUIET_STEP(23, 0, 0, table, 36, windows, 4, 600, &position, 1);
-    QUIET_STEP(23, 1, 1, table, 36, windows, 4, 50, &position, 0);
-    QUIET_STEP(23, 1, 1, table, 35, windows, 4, 50, &position, 0);
-    QUIET_STEP(23, 1, 1, table, 36, windows, 3, 50, &position, 0);
-    QUIET_STEP(23, 1, 1, table, 36, windows, 4, 10080, &position, 0);
-    QUIET_STEP(23, SIZE_MAX, 1, table, 36, windows, 4, 50, &position, 0);
-    QUIET_STEP(23, 1, SIZE_MAX, table, 36, windows, 4, 50, &position, 0);
-    QUIET_STEP(23, 2, 0, table, 36, windows, 4, 50, &position, 0);
-    QUIET_STEP(23, 1, 1, table, 36, windows, 4, 50, &position, 2);
-    QUIET_STEP(2, 1, 1, table, 36, windows, 4, 50, &position, 0);
+    QUIET_STEP(23, 0, 0, table, 40, windows, 0, 600, &position, 1);
+    QUIET_STEP(23, 0, 0, table, 40, windows, 4, 600, &position, 1);
+    QUIET_STEP(23, 1, 1, table, 40, windows, 4, 50, &position, 0);
+    QUIET_STEP(23, 1, 1, table, 39, windows, 4, 50, &position, 0);
+    QUIET_STEP(23, 1, 1, table, 40, windows, 3, 50, &position, 0);
+    QUIET_STEP(23, 1, 1, table, 40, windows, 4, 10080, &position, 0);
+    QUIET_STEP(23, SIZE_MAX, 1, table, 40, windows, 4, 50, &position, 0);
+    QUIET_STEP(23, 1, SIZE_MAX, table, 40, windows, 4, 50, &position, 0);
+    QUIET_STEP(23, 2, 0, table, 40, windows, 4, 50, &position, 0);
+    QUIET_STEP(23, 1, 1, table, 40, windows, 4, 50, &position, 2);
+    QUIET_STEP(2, 1, 1, table, 40, windows, 4, 50, &position, 0);
 
-    CALL(price, table, 36);
-    CALL(price, table, 35);
+    CALL(price, table, 40);
+    CALL(price, table, 39);
 
-    CALL(reach, table, 36, bytes, 40);
-    CALL(reach, table, 35, bytes, 40);
-    CALL(reach, table, 36, bytes, 39);
+    CALL(reach, table, 40, bytes, 40);
+    CALL(reach, table, 39, bytes, 40);
+    CALL(reach, table, 40, bytes, 39);
 
-    CALL(unfold, table, 36, bytes, 76);
-    CALL(unfold, table, 35, bytes, 76);
-    CALL(unfold, table, 36, bytes, 75);
+    CALL(unfold, table, 40, bytes, 76);
+    CALL(unfold, table, 39, bytes, 76);
+    CALL(unfold, table, 40, bytes, 75);
     return 0;
 }

@@ -1,4 +1,4 @@
-//! Faults of lengths and of input words, tried alike on circuits and tables.
+//! Faults of files, of lengths and of input words, tried alike on circuits and tables.
 
 use crate::common::Seen;
 use crate::evaluator::Evaluator;

@@ -51,7 +51,7 @@ pub fn longest_table(sizes: &Sizes) -> usize {
     let entries: usize = (1..=sizes.frames)
         .map(|length| sizes.histories(length))
         .sum();
-    8 + 2 * sizes.frames + 4 * entries
+    8 + 4 * sizes.frames + 4 * entries
 }
 
 pub fn scratch_needed(sizes: &Sizes) -> usize {

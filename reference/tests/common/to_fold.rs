@@ -33,7 +33,8 @@ pub fn unrolled() -> impl Iterator<Item = (u64, Circuit)> {
         let mut rng = Rng::new(seed);
         let sizes = any_sizes(&mut rng, 10);
         let memory = rng.between(1, 4);
-        (seed, circuits::unrolled(&mut rng, sizes, memory))
+        let circuit = circuits::unrolled(&mut rng, sizes, memory);
+        (seed, circuits::partly_connected(&mut rng, circuit))
     })
 }
 

@@ -70,7 +70,7 @@ abbrev at-loop : tie.After-histories Inv-loop μ-loop → tie.At-loop Inv-loop �
 at-loop c = c .before .before .before
 
 -- the head's length
-head-is : (c : tie.After-histories Inv-loop μ-loop) → c .before .head-length .result ≡ 8 + 2 * framesOf (now (start (at-loop c) .args .circuit))
+head-is : (c : tie.After-histories Inv-loop μ-loop) → c .before .head-length .result ≡ 8 + 4 * framesOf (now (start (at-loop c) .args .circuit))
 head-is c = c .before .head-length .ensures ∙ ap headLength (start (at-loop c) .pre .0 .head-is .frames-is) ∙ head-length _
 
 -- all states, times the fan

@@ -8,7 +8,7 @@ use denote.Ref.{now}
 use Rattle.verdict.specs.Judgements.{figures}
 use Rattle.verdict.proofs.Laws.{stop, go-on, accepts}
 use Rattle.circuit.specs.Circuit.{leftsAt, rightsAt, literalsChecked, formChecked}
-use Rattle.circuit.specs.WellFormed.{CircuitHeaded}
+use Rattle.circuit.specs.WellFormed.{CircuitHeaded, HeadOf}
 use Rattle.circuit.proofs.Accepted.{headed}
 use borrow.Author.Needs.{needs}
 use Rattle.circuit.proofs.check_form.Statement.{statement}
@@ -41,8 +41,13 @@ headed₁ c =
 read-requires : tie.Need-read-requires
 read-requires c κs = headed₁ c
 
+first-unconnected-requires : tie.Need-first-unconnected-requires
+first-unconnected-requires c κs = (headed₁ (c .before), c .read .ensures)
+
 check-literals-requires : tie.Need-check-literals-requires
-check-literals-requires c κs = (headed₁ (c .before), (c .read .ensures, omega (arith, headed₁ (c .before))))
+check-literals-requires c κs =
+    let h = headed₁ (c .before .before) in
+    (h, (c .before .read .ensures, (omega (arith, h), c .first-unconnected .ensures)))
 
 enum-told-3 : tie.Need-enum-told-3
 enum-told-3 c = search needs
@@ -51,7 +56,7 @@ enum-told-4 : tie.Need-enum-told-4
 enum-told-4 c = search needs
 
 -- the verdict on the left literals
-lefts-is : (c : tie.After-check-literals) → figures (c .check-literals .result) ≡ literalsChecked (b₁ (c .before .before)) (leftsAt (b₁ (c .before .before)))
+lefts-is : (c : tie.After-check-literals) → figures (c .check-literals .result) ≡ literalsChecked (b₁ (c .before .before .before)) (leftsAt (b₁ (c .before .before .before)))
 unfolding leftsAt
 lefts-is c = c .check-literals .ensures
 
@@ -59,32 +64,38 @@ returns-2 : tie.Need-returns-2
 unfolding formChecked
 returns-2 c =
     let l = c .before .before in
-    let e = l .before .before in
+    let e = l .before .before .before in
     let h = e .before .before in
     go-on (h .check-head .result) _ _ _ (e .enum-told .given .0 .0) (h .check-head .ensures) (e .enum-told .given .1)
     (stop (l .check-literals .result) _ _ (c .enum-told4 .given .0 .0) (lefts-is l) (c .enum-told4 .given .1))
 
-mul-check-literals : tie.Need-mul-check-literals
-mul-check-literals c = omega (arith, headed₁ (c .before .before .before .before .before), c .before .before .before .before .read .ensures)
+-- when the right literals are judged: the left ones were, and what is known of the head
+abbrev lefts₃ : tie.After-struct-known → tie.After-check-literals
+lefts₃ c = c .before .before .before
 
-add-check-literals : tie.Need-add-check-literals
-add-check-literals c = omega (arith, headed₁ (c .before .before .before .before .before), c .before .before .before .before .read .ensures)
+known₃ : (c : tie.After-struct-known) → CircuitHeaded (b₁ (lefts₃ c .before .before .before)) × HeadOf (b₁ (lefts₃ c .before .before .before)) (lefts₃ c .before .before .read .result)
+known₃ c = let r = lefts₃ c .before .before in (headed₁ (r .before), r .read .ensures)
+
+mul-rights-at : tie.Need-mul-rights-at
+mul-rights-at c = omega (arith, known₃ c .0, known₃ c .1)
+
+add-rights-at : tie.Need-add-rights-at
+add-rights-at c = omega (arith, known₃ c .0, known₃ c .1)
 
 check-literals-requires-2 : tie.Need-check-literals-requires-2
-check-literals-requires-2 c κs =
-    let r = c .before .before .before .before in
-    (headed₁ (r .before), (r .read .ensures, omega (arith, headed₁ (r .before), r .read .ensures)))
+check-literals-requires-2 c κs = (known₃ c .0, (known₃ c .1, (omega (arith, known₃ c .0, known₃ c .1), lefts₃ c .before .first-unconnected .ensures)))
 
 returns-3 : tie.Need-returns-3
 unfolding formChecked rightsAt
 returns-3 c =
     let k = c .before .before in
     let l = k .before .before in
-    let e = l .before .before in
+    let r = l .before .before in
+    let e = r .before in
     let h = e .before .before in
     go-on (h .check-head .result) _ _ _ (e .enum-told .given .0 .0) (h .check-head .ensures) (e .enum-told .given .1)
     (go-on (l .check-literals .result) _ _ _ (k .enum-told3 .given .0 .0) (lefts-is l) (k .enum-told3 .given .1)
-    (c .check-literals2 .ensures ∙ ap (λ (n : ℕ). literalsChecked (b₁ e) (8 + 2 * n)) (l .before .read .ensures .gates-is)))
+    (c .check-literals2 .ensures ∙ ap (λ (n : ℕ). literalsChecked (b₁ e) (8 + 2 * n)) (r .read .ensures .gates-is)))
 
 pub check-form-spec : {M : Type 1} → statement M
 check-form-spec =
@@ -95,11 +106,12 @@ check-form-spec =
     enum-told-2
     returns
     read-requires
+    first-unconnected-requires
     check-literals-requires
     enum-told-3
     enum-told-4
     returns-2
-    mul-check-literals
-    add-check-literals
+    mul-rights-at
+    add-rights-at
     check-literals-requires-2
     returns-3)

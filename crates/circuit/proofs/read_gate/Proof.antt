@@ -1,48 +1,29 @@
 -- `circuit::read_gate` meets its contract.
 -- Assumes nothing.
 use denote.Ref.{now}
+use mathlib.Core.Path.{refl, sym, ap, _∙_}
 use borrow.Author.Needs.{needs}
-use Rattle.circuit.proofs.Laws.{gate-read}
+use Rattle.circuit.specs.declared.Gate.{Gate}
+use Rattle.circuit.proofs.Literals.{gate-marked, gate-connected}
 use Rattle.circuit.proofs.read_gate.Statement.{statement}
 use Rattle.circuit.proofs.read_gate.Tie as tie
 
-mul-read : tie.Need-mul-read
-mul-read c = search needs
-
-add-read : tie.Need-add-read
-add-read c = search needs
-
-read-requires : tie.Need-read-requires
-read-requires c κs = search needs
-
-add-read-2 : tie.Need-add-read-2
-add-read-2 c = search needs
-
-mul-read-2 : tie.Need-mul-read-2
-mul-read-2 c = search needs
-
-add-read-3 : tie.Need-add-read-3
-add-read-3 c = search needs
-
-read-requires-2 : tie.Need-read-requires-2
-read-requires-2 c κs = search needs
+read-literals-requires : tie.Need-read-literals-requires
+read-literals-requires c κs = search needs
 
 returns : tie.Need-returns
 returns c =
     let l = c .before .before in
     let a = l .before .before in
-    gate-read (now (a .args .circuit)) (a .args .head .gates) (a .args .g) (l .read .result) (c .read2 .result) (a .pre .0 .legal) (a .pre .1) (a .pre .0 .head-is .gates-is)
-    (l .read .ensures .0) (c .read2 .ensures .0)
+    gate-marked (now (a .args .circuit)) (a .args .g) _ (a .pre .0 .legal) (a .pre .1) (a .pre .0 .headed)
+    (sym (ap (λ (r : Gate). r .left) (l .read-literals .ensures)) ∙ c .if1 .taken) refl
+
+returns-2 : tie.Need-returns-2
+returns-2 c =
+    let l = c .before .before in
+    let a = l .before .before in
+    gate-connected (now (a .args .circuit)) (a .args .g) _ (a .pre .0 .legal) (a .pre .1)
+    (λ q. c .if1 .left (ap (λ (r : Gate). r .left) (l .read-literals .ensures) ∙ q)) (l .read-literals .ensures)
 
 pub read-gate-spec : {M : Type 1} → statement M
-read-gate-spec =
-    tie.close
-    (tie.spec
-    mul-read
-    add-read
-    read-requires
-    add-read-2
-    mul-read-2
-    add-read-3
-    read-requires-2
-    returns)
+read-gate-spec = tie.close (tie.spec read-literals-requires returns returns-2)

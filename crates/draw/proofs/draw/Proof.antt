@@ -1,7 +1,7 @@
 -- `draw::draw` meets its contract. The invariant: the gates of the first t frames are stored, and the literals of the states that they reach and
 -- of their outputs are kept.
 -- Assumes nothing.
-use mathlib.Core.Path.{_≡_, refl, sym, ap, subst, _∙_}
+use mathlib.Core.Path.{_≡_, refl, sym, ap, ap₂, subst, _∙_}
 use mathlib.Core.List.{List, []}
 use Prim.Native.Nat.{ℕ, suc, _+_, _*_, _-_, _≤_, _<_}
 use native.Mathlib.Nat.{mul-zero, mul-suc, mul-le-mul, le-trans}
@@ -186,32 +186,30 @@ few-outputs : (l : tie.At-loop Inv-loop μ-loop) → start l .args .target .outp
 few-outputs l = let h : start l .args .layout .frames ≤ 16 = omega (arith, frames-are l, start l .pre .0 .headed .sized) in mul-le-mul (fit l .outputs-to) h
 
 room : (x : tie.After-loop Inv-loop μ-loop)
-    → x .before .loop .k + start (x .before) .args .target .outputs * start (x .before) .args .layout .frames ≤ start (x .before) .args .target .gates
-room x = let l = x .before in omega (arith, all-gates l, total-is l, l .loop .inv .1, ap (λ (t : ℕ). length (drawing (b₀ l) t .gates)) (ended x))
+    → x .before .loop .k + outputsOf (b₀ (x .before)) * framesOf (b₀ (x .before)) ≤ start (x .before) .args .target .gates
+room x = let l = x .before in omega (arith, all-gates l, l .loop .inv .1, ap (λ (t : ℕ). length (drawing (b₀ l) t .gates)) (ended x))
 
 slice-aggregate-put-outputs : tie.Need-slice-aggregate-put-outputs Inv-loop μ-loop
 slice-aggregate-put-outputs c = sym (c .before .before .loop .inv .5)
-
-mul-put-outputs : tie.Need-mul-put-outputs Inv-loop μ-loop
-mul-put-outputs c = omega (arith, few-outputs (c .before .before))
 
 put-outputs-requires : tie.Need-put-outputs-requires Inv-loop μ-loop
 put-outputs-requires c κs =
     let x = c .before .before in
     let l = x .before in
-    (still l, (room x, omega (arith, few-outputs l, l .loop .inv .5)))
+    let s = start l in
+    (s .pre .0, (s .pre .1 .0, ((aim l, still l), (room x, omega (arith, few-outputs l, total-is l, l .loop .inv .5)))))
 
-drawn-all : (p : tie.After-put-outputs Inv-loop μ-loop) → let l = p .before .before .before .before in p .put-outputs .last .1 .1 .1 .1 .0
+drawn-all : (p : tie.After-put-outputs Inv-loop μ-loop) → let l = p .before .before .before .before in p .put-outputs .last .1 .1 .1 .1 .1 .0
     ≡ gatesStored (start l .args .target .gates) 0 (now (start l .args .result)) (drawn (b₀ l))
 drawn-all p =
     let x = p .before .before .before in
     let l = x .before in
     let s = start l in
-    outputs-drawn (b₀ l) (s .args .target .gates) (now (s .args .result)) (l .loop .result) _ (l .loop .k) (s .args .target .outputs * s .args .layout .frames) (l .loop .outputs)
+    outputs-drawn (b₀ l) (s .args .target .gates) (now (s .args .result)) (l .loop .result) _ (l .loop .k) (l .loop .outputs)
     (l .loop .inv .2 ∙ ap (λ (t : ℕ). gatesStored (s .args .target .gates) 0 (now (s .args .result)) (drawing (b₀ l) t .gates)) (ended x))
     (l .loop .inv .1 ∙ ap (λ (t : ℕ). length (drawing (b₀ l) t .gates)) (ended x))
-    (ap (λ (t : ℕ). take (s .args .target .outputs * t) (l .loop .outputs)) (frames-are l ∙ sym (ended x)) ∙ l .loop .inv .4 ∙ ap (λ (t : ℕ). drawing (b₀ l) t .outputs) (ended x))
-    (total-is l) (p .put-outputs .ensures) (room x) (fit l .room)
+    (ap₂ (λ (m t : ℕ). take (m * t) (l .loop .outputs)) (sym (outputs-are l)) (sym (ended x)) ∙ l .loop .inv .4 ∙ ap (λ (t : ℕ). drawing (b₀ l) t .outputs) (ended x))
+    (p .put-outputs .ensures) (room x) (fit l .room)
 
 same-length : tie.Need-same-length Inv-loop μ-loop
 unfolding gatesNeeded
@@ -245,7 +243,6 @@ draw-spec =
     loop-less
     loop-again
     slice-aggregate-put-outputs
-    mul-put-outputs
     put-outputs-requires
     same-length
     returns)

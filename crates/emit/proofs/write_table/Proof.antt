@@ -1,83 +1,43 @@
--- `emit::write_table` meets its contract: head, counts, outputs and next states are stored one behind the other.
+-- `emit::write_table` meets its contract: head, outputs and next states are stored one behind the other.
 -- Assumes nothing.
-use mathlib.Core.Path.{_≡_, ap, ap₂, _∙_}
+use mathlib.Core.Path.{_≡_, ap, _∙_}
 use mathlib.Core.Bool.{false}
-use mathlib.Core.List.{List, [], _∷_}
 use Prim.Native.Nat.{ℕ, _+_, _*_}
 use native.Mathlib.Omega.{arith}
 use denote.Ref.{now}
 use lib.ListN.{length, replicate}
-use Rattle.words.specs.Words.{stored}
-use Rattle.sizes.specs.Sizes.{inputs, outputs, frames}
+use Rattle.sizes.specs.Sizes.{frames}
 use Rattle.table.specs.Table.{headLength}
 use Rattle.table.proofs.Offsets.{head-length}
 use Rattle.classify.proofs.Step.{half-is, known-kept}
-use Rattle.emit.specs.Emitted.{arrayWords, headWords}
-use Rattle.emit.proofs.Laws.{all-length, head-stored, outputs-stored, nexts-stored}
+use Rattle.emit.specs.Emitted.{arrayWords}
+use Rattle.emit.proofs.Laws.{all-length, outputs-stored, nexts-stored}
 use borrow.Author.Needs.{needs}
 use Rattle.emit.proofs.write_table.Statement.{statement}
 use Rattle.emit.proofs.write_table.Tie as tie
 
-cast-t12 : tie.Need-cast-t12
-cast-t12 c = search needs
+put-head-requires : tie.Need-put-head-requires
+put-head-requires c κs =
+    let a = c .before .before .before .before .before in
+    let b = now (a .args .circuit) in
+    (a .pre .0, (a .pre .1 .0, omega (arith, all-length b, head-length (frames b), a .pre .1 .1 .1 .1)))
 
-cast-t13 : tie.Need-cast-t13
-cast-t13 c = search needs
-
-cast-t14 : tie.Need-cast-t14
-cast-t14 c = search needs
-
-slice-aggregate-store-all : tie.Need-slice-aggregate-store-all
-slice-aggregate-store-all c = search needs
-
-store-all-requires : tie.Need-store-all-requires
-store-all-requires c κs =
-    let a = c .before .before .before .before .before .before .before .before .before in
-    (omega arith, omega (arith, all-length (now (a .args .circuit)), a .pre .1 .1 .1 .1))
-
-add-layers : tie.Need-add-layers
-add-layers c = search needs
-
--- the entry of the function, from each part
-abbrev start : tie.After-store-all → tie.Start
-start p = p .before .before .before .before .before .before .before .before .before .before
-
-store-all-requires-2 : tie.Need-store-all-requires-2
-store-all-requires-2 c κs =
-    let p = c .before .before .before .before in
-    let a = start p in
-    (omega (arith, a .pre .1 .0 .places, a .pre .0 .head-is, a .pre .0 .headed .sizes), omega (arith, all-length (now (a .args .circuit)), a .pre .1 .1 .1 .1, p .store-all .kept .1 .1 .0, a .pre .0 .head-is))
-
-abbrev start₂ : tie.After-store-all2 → tie.Start
-start₂ p = start (p .before .before .before .before .before)
+-- the entry of the function, from the head's store on
+abbrev start₂ : tie.After-put-head → tie.Start
+start₂ p = p .before .before .before .before .before .before
 
 head-length-requires : tie.Need-head-length-requires
 head-length-requires c κs = let p = start₂ (c .before .before) .pre .0 in omega (arith, p .head-is, p .headed .sizes)
 
--- the sizes are the circuit's
-first-words : (n m t : ℕ) (b : List ℕ) → n ≡ inputs b → m ≡ outputs b → t ≡ frames b → n ∷ m ∷ t ∷ [] ≡ inputs b ∷ outputs b ∷ frames b ∷ []
-first-words n m t b e f g = ap₂ (λ (x : ℕ) (l : List ℕ). x ∷ l) e (ap₂ (λ (x y : ℕ). x ∷ y ∷ []) f g)
-
--- what is stored after the counts, and how long the result is
-head₂ : (p : tie.After-store-all2) → p .store-all2 .last .1 .1 .0 ≡ stored 2 (now (start₂ p .args .result)) 0 (headWords (now (start₂ p .args .circuit)))
-head₂ p =
-    let w = p .before .before .before .before .before in
-    let a = start₂ p in
-    let b = now (a .args .circuit) in
-    let h = a .pre .0 .head-is in
-    head-stored b (now (a .args .result)) (a .pre .1 .1 .1 .1) (now (a .args .counts)) (a .pre .1 .0) (a .pre .0 .headed .sizes .frames-to)
-    (w .store-all .last .1 .1 .0) (p .store-all2 .last .1 .1 .0) (a .args .head .frames + 1) (ap (λ (t : ℕ). t + 1) (h .frames-is))
-    (w .store-all .ensures ∙ ap (stored 2 (now (a .args .result)) 0) (first-words _ _ _ b (h .inputs-is) (h .outputs-is) (h .frames-is)))
-    (p .store-all2 .ensures)
-
-len₂ : (p : tie.After-store-all2) → length (p .store-all2 .last .1 .1 .0) ≡ length (now (start₂ p .args .result))
-len₂ p = p .store-all2 .kept .1 .1 .0 ∙ p .before .before .before .before .before .store-all .kept .1 .1 .0
+-- how long the result is
+len₂ : (p : tie.After-put-head) → length (p .put-head .last .1 .1 .1 .0) ≡ length (now (start₂ p .args .result))
+len₂ p = p .put-head .kept .1 .1 .1 .0
 
 -- where the outputs begin
-abbrev before₁ : tie.After-head-length → tie.After-store-all2
+abbrev before₁ : tie.After-head-length → tie.After-put-head
 before₁ h = h .before .before .before
 
-outputs-at : (h : tie.After-head-length) → h .head-length .result ≡ 8 + 2 * frames (now (start₂ (before₁ h) .args .circuit))
+outputs-at : (h : tie.After-head-length) → h .head-length .result ≡ 8 + 4 * frames (now (start₂ (before₁ h) .args .circuit))
 outputs-at h = h .head-length .ensures ∙ ap headLength (start₂ (before₁ h) .pre .0 .head-is .frames-is) ∙ head-length _
 
 put-array-requires : tie.Need-put-array-requires
@@ -99,7 +59,7 @@ len₃ q = q .put-array .kept .1 .1 .1 .1 .0 ∙ len₂ (before₁ (before q))
 
 -- where the next states begin
 end₃ : (q : tie.After-put-array)
-    → q .put-array .result ≡ 8 + 2 * frames (now (start₃ q .args .circuit)) + 2 * length (arrayWords (now (start₃ q .args .circuit)) false (frames (now (start₃ q .args .circuit))))
+    → q .put-array .result ≡ 8 + 4 * frames (now (start₃ q .args .circuit)) + 2 * length (arrayWords (now (start₃ q .args .circuit)) false (frames (now (start₃ q .args .circuit))))
 end₃ q = omega (arith, q .put-array .ensures .1 .1, outputs-at (before q))
 
 put-array-requires-2 : tie.Need-put-array-requires-2
@@ -129,7 +89,7 @@ returns c =
     let a = start₂ p in
     let b = now (a .args .circuit) in (
       nexts-stored b (now (a .args .result)) (a .pre .1 .1 .1 .1) (q .put-array .last .1 .1 .1 .1 .0) (s .put-array2 .last .1 .1 .1 .1 .0) (q .put-array .result) (end₃ q)
-          (outputs-stored b (now (a .args .result)) (a .pre .1 .1 .1 .1) (p .store-all2 .last .1 .1 .0) (q .put-array .last .1 .1 .1 .1 .0) _ (outputs-at h) (head₂ p) (q .put-array .ensures .1 .0))
+          (outputs-stored b (now (a .args .result)) (a .pre .1 .1 .1 .1) (p .put-head .last .1 .1 .1 .0) (q .put-array .last .1 .1 .1 .1 .0) _ (outputs-at h) (p .put-head .ensures) (q .put-array .ensures .1 .0))
           (s .put-array2 .ensures .1 .0),
       z .clear .ensures ∙ ap (λ (n : ℕ). replicate n 0) (s .put-array2 .kept .1 .1 .0 ∙ q .put-array .kept .1 .1 .0),
     )
@@ -138,13 +98,7 @@ pub write-table-spec : {M : Type 1} → statement M
 write-table-spec =
     tie.close
     (tie.spec
-    cast-t12
-    cast-t13
-    cast-t14
-    slice-aggregate-store-all
-    store-all-requires
-    add-layers
-    store-all-requires-2
+    put-head-requires
     head-length-requires
     put-array-requires
     put-array-requires-2

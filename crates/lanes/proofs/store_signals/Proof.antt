@@ -73,7 +73,7 @@ room c = omega (arith, gate c, start c .pre)
 read-gate-requires : tie.Need-read-gate-requires Inv-loop μ-loop
 read-gate-requires c κs = (start c .pre .0, gate c)
 
--- once the gate's literals are read: the turn, and its operands are before it
+-- once the gate's operands are read: the turn, and they are before it
 abbrev turn : tie.After-read-gate Inv-loop μ-loop → tie.In-loop Inv-loop μ-loop
 turn c = c .before
 
@@ -101,7 +101,7 @@ slice-read-literal-lanes-2 c = let r = c .before .before .before in omega (arith
 literal-lanes-requires-2 : tie.Need-literal-lanes-requires-2 Inv-loop μ-loop
 literal-lanes-requires-2 c κs = tt
 
--- at the end of a turn: where the literals were read
+-- at the end of a turn: where the operands were read
 abbrev told : tie.After-literal-lanes2 Inv-loop μ-loop → tie.After-read-gate Inv-loop μ-loop
 told c = c .before .before .before .before
 

@@ -62,7 +62,7 @@ room c = omega (arith, gate c, start c .pre)
 read-gate-requires : tie.Need-read-gate-requires Inv-loop μ-loop
 read-gate-requires c κs = (start c .pre .0, gate c)
 
--- once the gate's literals are read: its operands are before it
+-- once the gate's operands are read: they are before it
 left-in : (c : tie.After-read-gate Inv-loop μ-loop) → c .read-gate .result .left / 2 < start (c .before) .args .head .base + g₁ (c .before)
 left-in c = omega (arith, c .read-gate .ensures .left-before, start (c .before) .pre)
 
@@ -78,7 +78,7 @@ slice-read-later-2 c = let r = c .before .before .before .before in omega (arith
 later-requires : tie.Need-later-requires Inv-loop μ-loop
 later-requires c κs = tt
 
--- at the end of a turn: where the literals were read
+-- at the end of a turn: where the operands were read
 abbrev told : tie.After-later Inv-loop μ-loop → tie.After-read-gate Inv-loop μ-loop
 told c = c .before .before .before .before .before
 

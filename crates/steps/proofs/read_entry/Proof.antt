@@ -1,6 +1,6 @@
 -- `steps::read_entry` meets its contract: the two words that are read are the machine's output and next state.
 -- Assumes nothing.
-use mathlib.Core.Path.{_≡_, ap, _∙_}
+use mathlib.Core.Path.{_≡_, sym, ap, ap₂, _∙_}
 use mathlib.Core.Bool.{false}
 use mathlib.Core.List.{List}
 use Prim.Native.Nat.{ℕ, suc, _+_, _*_, _^_, _<_}
@@ -9,13 +9,12 @@ use native.Mathlib.Omega.{arith}
 use borrow.Author.Tests.{le-leb, lt-leb}
 use denote.Ref.{now}
 use lib.Arith.{digits-lt}
-use lib.Dec.{leb}
 use Rattle.words.specs.Words.{wordAt}
 use Rattle.verdict.specs.Judgements.{answer}
-use Rattle.sizes.specs.Sizes.{inputs, outputs}
-use Rattle.table.specs.Table.{states, entriesBelow, entryCount, outputsAt, nextsAt, entryAt, machine}
+use Rattle.sizes.specs.Sizes.{inputs}
+use Rattle.table.specs.Table.{states, entriesBelow, entryCount, outputsAt, nextsAt, entryAt, machine, strays, badOutput, badNext}
 use Rattle.steps.specs.Steps.{entryChecked, handedBack}
-use Rattle.table.proofs.Offsets.{Laid, laid, layer-in}
+use Rattle.table.proofs.Offsets.{Laid, laid, layer-in, head-length}
 use borrow.Author.Needs.{needs}
 use Rattle.steps.proofs.read_entry.Statement.{statement}
 use Rattle.steps.proofs.read_entry.Tie as tie
@@ -68,8 +67,12 @@ e₂ c = c .before .before .before .before
 output-is : (c : tie.After-read) → c .read .result ≡ out₀ (s₁ (e₂ c))
 output-is c = c .read .ensures .0 ∙ ap (wordAt (b₀ (s₁ (e₂ c)))) (output-at (e₂ c))
 
+stray-is : (c : tie.After-is-stray) → badOutput (b₀ (s₁ (e₂ (c .before .before)))) (s₁ (e₂ (c .before .before)) .args .position .layer) (out₀ (s₁ (e₂ (c .before .before)))) ≡ c .is-stray .result
+unfolding badOutput
+stray-is c = sym (c .is-stray .ensures ∙ ap₂ strays (c .before .connected-of .ensures .0) (output-is (c .before .before)))
+
 abbrev r₃ : tie.After-states-of → tie.After-read
-r₃ c = c .before .before .before .before .before
+r₃ c = c .before .before .before .before .before .before
 
 abbrev e₃ : tie.After-states-of → tie.After-entries-below
 e₃ c = e₂ (r₃ c)
@@ -77,8 +80,10 @@ e₃ c = e₂ (r₃ c)
 abbrev s₃ : tie.After-states-of → tie.Start
 s₃ c = s₁ (e₃ c)
 
-small : (c : tie.After-states-of) → leb (2 ^ outputs (b₀ (s₃ c))) (out₀ (s₃ c)) ≡ false
-small c = lt-leb (2 ^ outputs (b₀ (s₃ c))) (out₀ (s₃ c)) (omega (arith, output-is (r₃ c), c .before .before .before .if1 .left, laid₀ (s₃ c)))
+good : (c : tie.After-states-of) → badOutput (b₀ (s₃ c)) (s₃ c .args .position .layer) (out₀ (s₃ c)) ≡ false
+good c =
+    let e = c .before .before .before in
+    stray-is (e .before) ∙ e .if1 .left
 
 next-is : (c : tie.After-states-of) → c .before .read2 .result ≡ next₀ (s₃ c)
 next-is c = c .before .read2 .ensures .0 ∙ ap (wordAt (b₀ (s₃ c))) (next-at (e₃ c))
@@ -110,45 +115,56 @@ add-output-at c = omega (arith, room (c .before .before .before), laid₀ (s₁ 
 read-requires : tie.Need-read-requires
 read-requires c κs = omega (arith, room (c .before .before .before), laid₀ (s₁ (c .before .before .before)))
 
+connected-of-requires : tie.Need-connected-of-requires
+connected-of-requires c κs =
+    let s = s₁ (e₂ c) in
+    let l = laid₀ s in (
+      (l .frames-is, l .frames-to, omega (arith, s .pre .1 .1)),
+      omega (arith, l .end-at, head-length (s .args .layout .frames)),
+    )
+
+is-stray-requires : tie.Need-is-stray-requires
+is-stray-requires c κs = search needs
+
 returns : tie.Need-returns
 unfolding entryChecked
 returns c =
-    let r = c .before .before in
+    let r = c .before .before .before in
     let s = s₁ (e₂ r) in
-    rw (le-leb (2 ^ outputs (b₀ s)) (out₀ s) (omega (arith, output-is r, c .if1 .taken, laid₀ s)))
+    rw (stray-is (c .before) ∙ c .if1 .taken)
     (ap (λ (p : ℕ). handedBack (answer 5 p) (s .args .position .layer) (s .args .position .state)) (output-at (e₂ r)))
 
 add-next-at : tie.Need-add-next-at
-add-next-at c = omega (arith, room (e₂ (c .before .before .before)), laid₀ (s₁ (e₂ (c .before .before .before))))
+add-next-at c = omega (arith, room (e₂ (c .before .before .before .before)), laid₀ (s₁ (e₂ (c .before .before .before .before))))
 
 read-requires-2 : tie.Need-read-requires-2
-read-requires-2 c κs = omega (arith, room (e₂ (c .before .before .before)), laid₀ (s₁ (e₂ (c .before .before .before))))
+read-requires-2 c κs = omega (arith, room (e₂ (c .before .before .before .before)), laid₀ (s₁ (e₂ (c .before .before .before .before))))
 
-add-t13 : tie.Need-add-t13
-add-t13 c = search needs
+add-t15 : tie.Need-add-t15
+add-t15 c = search needs
 
 states-of-requires : tie.Need-states-of-requires
 states-of-requires c κs =
-    let s = s₁ (e₂ (c .before .before .before .before)) in
+    let s = s₁ (e₂ (c .before .before .before .before .before)) in
     omega (arith, s .pre .1 .1, laid₀ s)
 
 returns-2 : tie.Need-returns-2
-unfolding entryChecked
+unfolding entryChecked badNext
 returns-2 c =
     let d = c .before in
     let s = s₃ d in
-    rw (small d, le-leb (states (b₀ s) (suc (s .args .position .layer))) (next₀ s) (omega (arith, next-is d, count-is d, c .if2 .taken)))
+    rw (good d, le-leb (states (b₀ s) (suc (s .args .position .layer))) (next₀ s) (omega (arith, next-is d, count-is d, c .if2 .taken)))
     (ap (λ (p : ℕ). handedBack (answer 5 p) (s .args .position .layer) (s .args .position .state)) (next-at (e₃ d)))
 
-cast-t19 : tie.Need-cast-t19
-cast-t19 c = search needs
+cast-t20 : tie.Need-cast-t20
+cast-t20 c = search needs
 
 returns-3 : tie.Need-returns-3
-unfolding entryChecked
+unfolding entryChecked badNext
 returns-3 c =
     let d = c .before in
     let s = s₃ d in
-    rw (small d, lt-leb (states (b₀ s) (suc (s .args .position .layer))) (next₀ s) (omega (arith, next-is d, count-is d, c .if2 .left)))
+    rw (good d, lt-leb (states (b₀ s) (suc (s .args .position .layer))) (next₀ s) (omega (arith, next-is d, count-is d, c .if2 .left)))
     (λ i. record { number = 0; place = 0; output = output-is (r₃ d) i; layer = add-one (s .args .position .layer) i; state = next-is d i })
 
 pub read-entry-spec : {M : Type 1} → statement M
@@ -162,11 +178,13 @@ read-entry-spec =
     mul-offset-2
     add-output-at
     read-requires
+    connected-of-requires
+    is-stray-requires
     returns
     add-next-at
     read-requires-2
-    add-t13
+    add-t15
     states-of-requires
     returns-2
-    cast-t19
+    cast-t20
     returns-3)

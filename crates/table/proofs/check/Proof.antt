@@ -2,7 +2,7 @@
 -- Assumes nothing.
 use denote.Ref.{now}
 use Rattle.verdict.proofs.Laws.{stop, go-on, accepts}
-use Rattle.table.specs.Table.{checked}
+use Rattle.table.specs.Table.{outputsAt, badOutput, arrayChecked, entriesChecked, checked}
 use Rattle.table.specs.Sound.{TableHeaded}
 use Rattle.table.proofs.Accepted.{headed, legal-table}
 use borrow.Author.Needs.{needs}
@@ -34,8 +34,8 @@ returns c =
 read-requires : tie.Need-read-requires
 read-requires c κs = headed₁ c
 
-check-outputs-requires : tie.Need-check-outputs-requires
-check-outputs-requires c κs = (headed₁ (c .before), c .read .ensures)
+check-array-requires : tie.Need-check-array-requires
+check-array-requires c κs = (headed₁ (c .before), c .read .ensures)
 
 enum-told-3 : tie.Need-enum-told-3
 enum-told-3 c = search needs
@@ -44,30 +44,32 @@ enum-told-4 : tie.Need-enum-told-4
 enum-told-4 c = search needs
 
 returns-2 : tie.Need-returns-2
-unfolding checked
+unfolding checked entriesChecked
 returns-2 c =
     let o = c .before .before in
     let e = o .before .before in
-    let k = e .before .before in (
+    let k = e .before .before in
+    let b = now (k .before .before .args .table) in (
       go-on (k .check-head .result) _ _ _ (e .enum-told .given .0 .0) (k .check-head .ensures) (e .enum-told .given .1)
-          (stop (o .check-outputs .result) _ _ (c .enum-told4 .given .0 .0) (o .check-outputs .ensures) (c .enum-told4 .given .1)),
+          (stop (o .check-array .result) (arrayChecked b (outputsAt b) (badOutput b)) _ (c .enum-told4 .given .0 .0) (o .check-array .ensures) (c .enum-told4 .given .1)),
       legal-table _,
     )
 
-check-nexts-requires : tie.Need-check-nexts-requires
-check-nexts-requires c κs =
+check-array-requires-2 : tie.Need-check-array-requires-2
+check-array-requires-2 c κs =
     let r = c .before .before .before in
     (headed₁ (r .before), r .read .ensures)
 
 returns-3 : tie.Need-returns-3
-unfolding checked
+unfolding checked entriesChecked
 returns-3 c =
     let d = c .before in
     let o = d .before .before in
     let e = o .before .before in
-    let k = e .before .before in (
+    let k = e .before .before in
+    let b = now (k .before .before .args .table) in (
       go-on (k .check-head .result) _ _ _ (e .enum-told .given .0 .0) (k .check-head .ensures) (e .enum-told .given .1)
-          (go-on (o .check-outputs .result) _ _ _ (d .enum-told3 .given .0 .0) (o .check-outputs .ensures) (d .enum-told3 .given .1) (c .check-nexts .ensures)),
+          (go-on (o .check-array .result) (arrayChecked b (outputsAt b) (badOutput b)) _ _ (d .enum-told3 .given .0 .0) (o .check-array .ensures) (d .enum-told3 .given .1) (c .check-array2 .ensures)),
       legal-table _,
     )
 
@@ -80,9 +82,9 @@ check-spec =
     enum-told-2
     returns
     read-requires
-    check-outputs-requires
+    check-array-requires
     enum-told-3
     enum-told-4
     returns-2
-    check-nexts-requires
+    check-array-requires-2
     returns-3)

@@ -4,7 +4,7 @@ use mathlib.Core.Path.{_≡_, ap, _∙_}
 use Prim.Native.Nat.{ℕ, _+_, _*_, _^_}
 use native.Mathlib.Omega.{arith}
 use denote.Ref.{now}
-use Rattle.sizes.specs.Sizes.{inputs, outputs, frames}
+use Rattle.sizes.specs.Sizes.{inputs, frames}
 use Rattle.sizes.specs.declared.Sizes.{Sizes}
 use Rattle.table.specs.Table.{headLength, outputsAt, nextsAt, entryCount, entriesBelow}
 use Rattle.table.proofs.Offsets.{head-length, words-most, arrays-stand}
@@ -16,9 +16,6 @@ use Rattle.table.proofs.Layout.read.Tie as tie
 inputs-is : (c : tie.After-read) → c .read .result .inputs ≡ inputs (now (c .before .before .args .table))
 inputs-is c = ap (λ (s : Sizes). s .inputs) (c .read .ensures)
 
-outputs-is : (c : tie.After-read) → c .read .result .outputs ≡ outputs (now (c .before .before .args .table))
-outputs-is c = ap (λ (s : Sizes). s .outputs) (c .read .ensures)
-
 frames-is : (c : tie.After-read) → c .read .result .frames ≡ frames (now (c .before .before .args .table))
 frames-is c = ap (λ (s : Sizes). s .frames) (c .read .ensures)
 
@@ -28,37 +25,35 @@ read-requires c κs = omega (arith, c .before .pre, arrays-stand (now (c .before
 power-requires : tie.Need-power-requires
 power-requires c κs = omega (arith, inputs-is c, c .before .before .pre)
 
-power-requires-2 : tie.Need-power-requires-2
-power-requires-2 c κs = omega (arith, outputs-is (c .before), c .before .before .before .pre)
-
 head-length-requires : tie.Need-head-length-requires
-head-length-requires c κs = omega (arith, frames-is (c .before .before), c .before .before .before .before .pre)
+head-length-requires c κs = omega (arith, frames-is (c .before), c .before .before .before .pre)
 
 entries-below-requires : tie.Need-entries-below-requires
 entries-below-requires c κs =
-    let r = c .before .before .before in
+    let r = c .before .before in
     let a = r .before .before in
-    let w : c .before .before .power .result ≡ 2 ^ inputs (now (a .args .table)) = c .before .before .power .ensures ∙ ap (λ (n : ℕ). 2 ^ n) (inputs-is r) in (
+    let w : c .before .power .result ≡ 2 ^ inputs (now (a .args .table)) = c .before .power .ensures ∙ ap (λ (n : ℕ). 2 ^ n) (inputs-is r) in (
       (w, omega (arith, words-most (inputs (now (a .args .table))) (a .pre .sized .inputs-to))),
       (omega (arith, frames-is r, a .pre), omega (arith, frames-is r, a .pre, arrays-stand (now (a .args .table)))),
     )
 
-mul-t7 : tie.Need-mul-t7
-mul-t7 c = search needs
+mul-t6 : tie.Need-mul-t6
+mul-t6 c = search needs
 
-add-t8 : tie.Need-add-t8
-add-t8 c = omega (arith, c .before .head-length .ensures, head-length (c .before .before .before .before .read .result .frames), frames-is (c .before .before .before .before), c .before .before .before .before .before .before .pre)
+add-t7 : tie.Need-add-t7
+add-t7 c =
+    let r = c .before .before .before in
+    omega (arith, c .before .head-length .ensures, head-length (r .read .result .frames), frames-is r, r .before .before .pre)
 
 returns : tie.Need-returns
 unfolding outputsAt nextsAt entryCount
 returns c =
-    let r = c .before .before .before .before in
+    let r = c .before .before .before in
     let o = c .before .head-length .ensures ∙ ap headLength (frames-is r) in
     let e = c .entries-below .ensures .0 ∙ ap (entriesBelow (now (r .before .before .args .table))) (frames-is r) in
     λ i. record {
-      words = (c .before .before .before .power .ensures ∙ ap (λ (n : ℕ). 2 ^ n) (inputs-is r)) i;
+      words = (c .before .before .power .ensures ∙ ap (λ (n : ℕ). 2 ^ n) (inputs-is r)) i;
       frames = frames-is r i;
-      limit = (c .before .before .power2 .ensures ∙ ap (λ (n : ℕ). 2 ^ n) (outputs-is (c .before .before .before .before))) i;
       outputs = o i;
       nexts = o i + 2 * e i;
     }
@@ -69,9 +64,8 @@ read-spec =
     (tie.spec
     read-requires
     power-requires
-    power-requires-2
     head-length-requires
     entries-below-requires
-    mul-t7
-    add-t8
+    mul-t6
+    add-t7
     returns)

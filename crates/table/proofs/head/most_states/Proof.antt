@@ -6,7 +6,6 @@ use mathlib.Core.Logic.{⊎-elim}
 use lib.Dec.{eqb}
 use borrow.Author.Tests.{eq-eqb, ne-eqb}
 use Rattle.table.specs.Limits.{endStates, mostStates}
-use Rattle.verdict.specs.Judgements.{}
 use Rattle.table.proofs.head.most_states.Statement.{statement}
 use Rattle.table.proofs.head.most_states.Tie as tie
 
