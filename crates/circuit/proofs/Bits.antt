@@ -1,13 +1,13 @@
 -- Bits of a word, from the lowest, and the word of its bits. Assumes nothing.
 use mathlib.Core.Path.{_≡_, refl, sym, ap, _∙_}
-use mathlib.Core.Bool.{Bool, true, false, _&&_, cond}
+use mathlib.Core.Bool.{Bool, true, false, _&&_, and-false, cond}
 use mathlib.Core.List.{List, [], _∷_}
 use Prim.Native.Nat.{ℕ, zero, suc, _+_, _*_, _/_, _%_, _^_, _<_}
-use native.Mathlib.Nat.{pow-zero, pow-suc, mul-comm, div-one, div-div-eq-div-mul, mod-lt}
+use native.Mathlib.Nat.{lt-of-le-of-lt, pow-zero, pow-suc, mul-comm, div-one, div-div-eq-div-mul, mod-lt}
 use native.Mathlib.Decide.{ℕ-discrete}
 use native.Mathlib.Omega.{arith}
 use lib.Dec.{eqb, lit<}
-use lib.Bits.{bitAnd, and-shr, and-mod}
+use lib.Bits.{bitAnd, and-le-r, and-shr, and-mod}
 use lib.ListN.{length, getD}
 use borrow.Author.Tests.{eqb-true, eqb-false}
 use Rattle.circuit.specs.Lists.{bit, packed}
@@ -92,3 +92,12 @@ unfolding bit
 bit-and x y j =
     ap (λ k. eqb (k % 2) 1) (and-shr x y j) ∙ ap (λ k. eqb k 1) (and-mod (x / 2 ^ j) (y / 2 ^ j) 1)
     ∙ digit-and (x / 2 ^ j % 2) (y / 2 ^ j % 2) (mod-lt (x / 2 ^ j) (lit< tt)) (mod-lt (y / 2 ^ j) (lit< tt))
+
+-- numbers that agree in the bits of a mask are equal once masked
+pub masked-equal : (m mask x y : ℕ) → mask < 2 ^ m → ((j : ℕ) → j < m → bit mask j ≡ true → bit x j ≡ bit y j) → bitAnd x mask ≡ bitAnd y mask
+masked-equal m mask x y h e =
+    equal-bits m _ _ (lt-of-le-of-lt (and-le-r x mask) h) (lt-of-le-of-lt (and-le-r y mask) h) (λ j l. bit-and x mask j ∙ at j l (bit mask j) refl ∙ sym (bit-and y mask j))
+  where
+    at : (j : ℕ) → j < m → (u : Bool) → bit mask j ≡ u → (bit x j && bit mask j) ≡ (bit y j && bit mask j)
+    at j l true q = ap (λ v. v && bit mask j) (e j l q)
+    at j l false q = ap (λ v. bit x j && v) q ∙ and-false (bit x j) ∙ sym (and-false (bit y j)) ∙ sym (ap (λ v. bit y j && v) q)

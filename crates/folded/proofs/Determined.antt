@@ -23,7 +23,7 @@ use Rattle.layered.specs.Machines.{reached}
 use Rattle.folded.specs.Theorems.{stateOf, Smallest, Matches, Folding}
 use Rattle.layered.proofs.Feeding.{words-length, words-append, words-whole, reached-append, reached-below, feed-then}
 use Rattle.layered.proofs.Histories.{numbered-append, number-words, history-below, outputs-then}
-use Rattle.folded.proofs.Agreement.{Agree, masked-gives}
+use Rattle.layered.proofs.Agreement.{Agree, masked-gives}
 use Rattle.folded.proofs.Checked.{Writable, passed-table}
 use Rattle.folded.proofs.Written.{tableBytes}
 use Rattle.folded.proofs.Read.{bytes-are, agree-bytes}

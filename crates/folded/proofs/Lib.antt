@@ -1,5 +1,4 @@
 -- The proofs of what specs/ states, by subject, lowest first.
-pub mod Agreement
 pub mod Places
 pub mod Checked
 pub mod Written

@@ -1,11 +1,11 @@
 -- Matching a circuit is being equal to it in each connected bit. Assumes nothing.
-use mathlib.Core.Path.{_≡_, refl, sym, ap, _∙_}
-use mathlib.Core.Bool.{Bool, true, false, _&&_, and-true, and-false}
+use mathlib.Core.Path.{_≡_, sym, ap, _∙_}
+use mathlib.Core.Bool.{true, _&&_, and-true}
 use mathlib.Core.List.{List}
 use Prim.Native.Nat.{ℕ, _^_, _<_}
-use native.Mathlib.Nat.{zero-add, lt-of-le-of-lt}
+use native.Mathlib.Nat.{zero-add}
 use native.Mathlib.Omega.{arith}
-use lib.Bits.{bitAnd, and-le-r}
+use lib.Bits.{bitAnd}
 use lib.ListN.{length, getD}
 use lib.Seq.{ext-getD}
 use Rattle.sizes.specs.Sizes.{inputs, outputs, frames}
@@ -16,9 +16,9 @@ use Rattle.circuit.specs.Lists.{bit}
 use Rattle.circuit.specs.Circuit.{connects, connectedOutputs, outputWord, outputWords}
 use Rattle.circuit.specs.WellFormed.{CircuitHeaded}
 use Rattle.circuit.proofs.Accepted.{accepted}
-use Rattle.circuit.proofs.Bits.{bit-and, equal-bits}
+use Rattle.circuit.proofs.Bits.{bit-and, masked-equal}
 use Rattle.circuit.proofs.Lists.{listed-length, listed-at}
-use Rattle.circuit.proofs.Unconnected.{word-below, connected-bit, connected-below, word-clear}
+use Rattle.circuit.proofs.Unconnected.{connected-bit, connected-below, word-clear}
 use Rattle.folded.specs.Theorems.{Matches, MatchesBits}
 
 -- a word masked by the connected outputs of a frame, bit by bit
@@ -28,9 +28,6 @@ module _ (b : List ℕ) (k j x : ℕ) (l : j < outputs b) where
 
   kept : connects b k j ≡ true → bit (bitAnd x (connectedOutputs b k)) j ≡ bit x j
   kept e = masked-bit ∙ ap (λ y. bit x j && y) e ∙ and-true (bit x j)
-
-  lost : connects b k j ≡ false → bit (bitAnd x (connectedOutputs b k)) j ≡ false
-  lost e = masked-bit ∙ ap (λ y. bit x j && y) e ∙ and-false (bit x j)
 
 module _ (b : List ℕ) (H : CircuitHeaded b) (M : Machine) (c : List ℕ) (W : Words (2 ^ inputs b) (frames b) c) where
   -- what M and the circuit give in a frame
@@ -49,12 +46,8 @@ module _ (b : List ℕ) (H : CircuitHeaded b) (M : Machine) (c : List ℕ) (W : 
   words-equal : (k : ℕ) → k < frames b → ((j : ℕ) → j < outputs b → connects b k j ≡ true → bit (word k) j ≡ bit (outputWord b c k) j)
       → bitAnd (word k) (connectedOutputs b k) ≡ outputWord b c k
   words-equal k h e =
-      equal-bits (outputs b) _ (outputWord b c k) (lt-of-le-of-lt (and-le-r (word k) (connectedOutputs b k)) (connected-below b k)) (word-below b c k)
-      (λ j l. at j l (connects b k j) refl)
-    where
-      at : (j : ℕ) → j < outputs b → (u : Bool) → connects b k j ≡ u → bit (bitAnd (word k) (connectedOutputs b k)) j ≡ bit (outputWord b c k) j
-      at j l true q = kept b k j (word k) l q ∙ e j l q
-      at j l false q = lost b k j (word k) l q ∙ sym (ap (λ x. bit x j) (sym (word-clear b H c k h)) ∙ lost b k j (outputWord b c k) l q)
+      masked-equal (outputs b) (connectedOutputs b k) (word k) (outputWord b c k) (connected-below b k) (λ j l q. e j l (sym (connected-bit b k j l) ∙ q))
+      ∙ word-clear b H c k h
 
 pub matches-bits : MatchesBits
 unfolding MatchesBits Matches Gives outputWords word

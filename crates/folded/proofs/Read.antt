@@ -14,7 +14,7 @@ use Rattle.layered.proofs.Lists.{Below, total-each, join-cong, tabulate-cong, t
 use Rattle.layered.proofs.Entries.{entries-cong, entries-counts}
 use Rattle.table.specs.Table.{countAt, states, connectedAt, connected, entryCount, outputsAt, nextsAt, tableLength, entryAt, machine}
 use Rattle.table.proofs.Offsets.{connected-at, head-length}
-use Rattle.folded.proofs.Agreement.{Agree}
+use Rattle.layered.proofs.Agreement.{Agree}
 use Rattle.folded.proofs.Places.{before}
 use Rattle.folded.proofs.Checked.{below-is}
 use Rattle.folded.proofs.Written.{tableBytes}

@@ -25,7 +25,7 @@ use Rattle.circuit.proofs.Causal.{causal}
 use Rattle.layered.proofs.Histories.{number-words, history-below}
 use Rattle.layered.proofs.Feeding.{words-length}
 use Rattle.folded.proofs.Checked.{Writable}
-use Rattle.folded.proofs.Agreement.{Agree, agree-renumberings, agree-reached, agree-gives}
+use Rattle.layered.proofs.Agreement.{Agree, agree-renumberings, agree-reached, agree-gives}
 use Rattle.folded.proofs.Written.{tableBytes, fits, inputs-back, outputs-back, frames-back, connected-back, machine-back, bytes-pass}
 use Rattle.folded.proofs.Response.{comes-to, no-telling, smallest-class}
 use Rattle.folded.proofs.Tables.{table-writable}

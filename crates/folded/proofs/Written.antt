@@ -18,7 +18,7 @@ use Rattle.layered.proofs.Lists.{Below, below-append, below-join, below-tabulat
 use Rattle.layered.proofs.Entries.{entries-length, entries-at}
 use Rattle.table.specs.Table.{countAt, states, connected, statesBelow, entriesBelow, entryCount, outputsAt, nextsAt, tableLength, entryAt, machine, checked}
 use Rattle.table.proofs.Offsets.{head-length, connected-at}
-use Rattle.folded.proofs.Agreement.{Agree, agree-legal}
+use Rattle.layered.proofs.Agreement.{Agree, agree-legal}
 use Rattle.folded.proofs.Places.{before, place-below}
 use Rattle.folded.proofs.Checked.{Writable, passes}
 

@@ -14,6 +14,12 @@ pub words-length : {K k : ℕ} {c : List ℕ} → Words K k c → length c ≡ k
 words-length none = refl
 words-length (more l W) = ap suc (words-length W)
 
+-- each is below K
+pub words-at : {K k : ℕ} {c : List ℕ} → Words K k c → (t : ℕ) → t < k → getD c t 0 < K
+words-at none t h = absurd (omega arith)
+words-at (more l W) zero h = l
+words-at (more l W) (suc t) h = words-at W t (omega arith)
+
 pub words-append : {K j k : ℕ} {c d : List ℕ} → Words K j c → Words K k d → Words K (j + k) (c ++ d)
 words-append {K} {k = k} {d = d} none U = subst (λ r. Words K r d) (omega arith) U
 words-append {K} {k = k} {d = d} (more {k = i} {w = w} {c = c} l W) U = subst (λ r. Words K r (w ∷ (c ++ d))) (omega arith) (more l (words-append W U))

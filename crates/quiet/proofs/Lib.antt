@@ -2,5 +2,4 @@
 pub mod Minutes
 pub mod Stages
 pub mod Timed
-pub mod Walks
 pub mod Cited

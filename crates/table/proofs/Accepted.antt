@@ -1,5 +1,5 @@
 -- What acceptance tells of a table. Assumes nothing.
-use mathlib.Core.Path.{_≡_, refl, sym, ap}
+use mathlib.Core.Path.{_≡_, refl, sym, ap, _∙_}
 use mathlib.Core.Bool.{Bool, true, false, not, _||_, or-true, cond}
 use mathlib.Core.List.{List}
 use Prim.Native.Nat.{ℕ, zero, suc, _+_, _*_, _/_, _^_, _≤_, _<_, zero-le}
@@ -151,3 +151,8 @@ legal-table b p e =
 pub sound : (b : List ℕ) (p : ℕ) → checked b ≡ answer 0 p → Sound b
 unfolding LegalTable
 sound b p e = legal-table b p e .0
+
+-- its place is 0
+pub accepted-at : (b : List ℕ) (p : ℕ) → checked b ≡ answer 0 p → checked b ≡ answer 0 0
+unfolding LegalTable
+accepted-at b p e = e ∙ ap (answer 0) (legal-table b p e .1)

@@ -26,7 +26,7 @@ use Rattle.table.specs.Table.{connected, machine}
 use Rattle.table.specs.Sound.{Sound}
 use Rattle.layered.specs.Machines.{reached}
 use Rattle.folded.specs.Folded.{foldedBytes, scratchNeeded, foldChecked}
-use Rattle.layered.proofs.Feeding.{words-length, feed-length}
+use Rattle.layered.proofs.Feeding.{words-length, feed-length, words-at}
 use Rattle.folded.proofs.Asked.{ask-accepts, fold-accepts}
 use Rattle.folded.proofs.Outcomes.{circuit-sized, accepted as foldAccepted, written-bytes as foldWritten}
 use Rattle.folded.proofs.Theorems.{folding, same-bytes}
@@ -38,7 +38,7 @@ use Rattle.unfolded.proofs.Drawings.{outputLiteral, connected-at, allGa
 use Rattle.unfolded.proofs.Written.{circuitBytes, inputs-back, outputs-back, frames-back, Drawable, fitting, values-run, form-passes, output-at, unconnected-is}
 use Rattle.unfolded.proofs.Bits.{not-not}
 use Rattle.unfolded.proofs.Outcomes.{accepted, written-bytes}
-use Rattle.unfolded.proofs.Values.{feed-at, words-at, stateAfter, state-below, output-value}
+use Rattle.unfolded.proofs.Values.{feed-at, stateAfter, state-below, output-value}
 
 -- ---- the circuit of a legal table
 

@@ -17,12 +17,12 @@ use Rattle.circuit.specs.Lists.{grown, listed, bit}
 use Rattle.circuit.specs.Circuit.{inputValues, literalValue}
 use Rattle.circuit.proofs.Unconnected.{start-length}
 use Rattle.layered.specs.Search.{every}
-use Rattle.layered.specs.States.{Words, none, more}
+use Rattle.layered.specs.States.{Words}
 use Rattle.layered.specs.Machines.{Machine, feed}
 use Rattle.table.specs.Table.{states, connected, machine, badOutput}
 use Rattle.table.specs.Sound.{Sound}
 use Rattle.layered.specs.Machines.{reached}
-use Rattle.layered.proofs.Feeding.{words-length}
+use Rattle.layered.proofs.Feeding.{words-length, words-at}
 use Rattle.unfolded.specs.Unfolded.{ending, inverted, Frame, inputLiteral, matching, edgesAt, invertedEdges, entering, nextLiteral, withBit, outLiteral, frameGates, nextGatesAt, outGatesAt, Drawing, tableFrame, drawing, isConnected}
 use Rattle.circuit.proofs.Lists.{listed-at, listed-cons}
 use Rattle.unfolded.proofs.Gates.{Reads, run, together, together-append}
@@ -123,11 +123,6 @@ module _ (M : Machine) where
   feed-at k s (w ∷ c) (suc t) h =
       let e : suc k + t ≡ k + suc t = omega arith in
       feed-at (suc k) (M .next k s w) c t (omega arith) ∙ ap (λ i. M .out i (reached M (suc k) (M .next k s w) (take t c)) (getD c t 0)) e
-
-pub words-at : {K k : ℕ} {c : List ℕ} → Words K k c → (t : ℕ) → t < k → getD c t 0 < K
-words-at none t h = absurd (omega arith)
-words-at (more l W) zero h = l
-words-at (more l W) (suc t) h = words-at W t (omega arith)
 
 -- ---- frame by frame
 

@@ -1,2 +1,3 @@
 -- The proofs of `verdict`: laws by subject, lowest first.
 pub mod Laws
+pub mod Walks

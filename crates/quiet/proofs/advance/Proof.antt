@@ -42,6 +42,7 @@ use denote.Triple.Spec.{Meets, tripleOf}
 use denote.Triple.Table.{entered, cited}
 use denote.Triple.Walked.{Stays, stay-ref, stay-dropped, walkOf, AllGo, goes-dropped, goes-ref, Walks, ends-at, walked, walk-meets}
 use denote.Exit.{yes}
+use Rattle.verdict.proofs.Walks.{fact-and, tells}
 use Rattle.positions.specs.declared.Position.{Position}
 use Rattle.positions.proofs.Position as T
 use Rattle.positions.proofs.Position.Laws as T′
@@ -55,7 +56,6 @@ use Rattle.steps.proofs.Stepped.position.Symbol.{name as #position}
 use Rattle.steps.proofs.Stepped.position.Met as position-thm
 use Rattle.quiet.specs.Quiet.{quietStepped}
 use Rattle.quiet.proofs.Cited.{Theorems, cited as theorems-hold}
-use Rattle.quiet.proofs.Walks.{fact-and, tells}
 use Rattle.quiet.proofs.step as step
 use Rattle.quiet.proofs.step.Symbol as step-def
 use Rattle.quiet.proofs.step.Symbol.{name as #step}

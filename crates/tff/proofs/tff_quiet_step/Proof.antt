@@ -38,6 +38,7 @@ use denote.Triple.Spec.{Meets, tripleOf}
 use denote.Triple.Table.{entered, cited}
 use denote.Triple.Walked.{says, Stays, gave-ref, gave-slice, stay-dropped, walkOf, AllGo, goes-dropped, goes-gave-ref, goes-gave-slice, Walks, ends-at, walked, walk-meets}
 use denote.Exit.{yes}
+use Rattle.verdict.proofs.Walks.{fact-and, tells, ifs}
 use Rattle.positions.specs.declared.Position.{Position}
 use Rattle.positions.proofs.Position as T
 use Rattle.steps.specs.Steps.{stepFigures, positionOf}
@@ -46,7 +47,6 @@ use Rattle.steps.specs.declared.StepFigures.{StepFigures}
 use Rattle.steps.proofs.Stepped as O
 use Rattle.steps.proofs.Stepped.Laws as O′
 use Rattle.quiet.specs.Quiet.{quietStepped}
-use Rattle.quiet.proofs.Walks.{fact-and, tells, ifs}
 use Rattle.quiet.proofs.Cited.{Theorems}
 use Rattle.quiet.proofs.advance as advance
 use Rattle.quiet.proofs.advance.Symbol as advance-def

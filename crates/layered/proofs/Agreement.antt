@@ -5,10 +5,9 @@ use mathlib.Core.List.{List}
 use Prim.Native.Nat.{ℕ, suc, _+_, _-_, _≤_, _<_}
 use native.Mathlib.Omega.{arith}
 use lib.Bits.{bitAnd}
 use Rattle.layered.specs.States.{Words, none, more}
-use Rattle.layered.specs.Machines.{Machine, Legal, feed, Gives, Renumbered, masked}
+use Rattle.layered.specs.Machines.{Machine, Legal, feed, reached, Gives, Renumbered, masked}
 use Rattle.layered.proofs.Machines.{renumbered-trans, renumbered-feed}
-use Rattle.layered.specs.Machines.{reached}
 
 -- M and N are the same machine: states of layers 0 to T, start, and all entries of layers below T
 pub record Agree (K T : ℕ) (M N : Machine) : Type 0 where
