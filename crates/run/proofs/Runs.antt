@@ -1,8 +1,11 @@
--- Runs: the sequences that are fed, and the outputs stored word by word. Assumes nothing.
-use mathlib.Core.Path.{_≡_, sym, ap, ap₂, _∙_}
+-- Runs: the sequences that are fed, the outputs stored word by word, and a mask of all ones, which shows all of them. Assumes nothing.
+use mathlib.Core.Path.{_≡_, refl, sym, ap, ap₂, _∙_}
 use mathlib.Core.List.{List, [], _++_, append-nil}
-use Prim.Native.Nat.{ℕ, _+_, _^_, _<_}
+use Prim.Native.Nat.{ℕ, _+_, _^_, _≤_, _<_}
+use native.Mathlib.Nat.{mod-eq-of-lt, lt-of-lt-of-le}
 use native.Mathlib.Numerals.{add-one}
+use lib.Bits.{bitAnd, and-mask}
+use lib.Pow.{pow-mono}
 use lib.ListN.{length, getD, set, take, drop, take-append-drop}
 use lib.Seq.{drop-cons, take-suc-set, append-snoc, drop-length}
 use Rattle.verdict.specs.Judgements.{answer, figures}
@@ -10,13 +13,16 @@ use Rattle.verdict.specs.declared.Refusal.{Refusal}
 use Rattle.verdict.specs.declared.Verdict.{Verdict}
 use Rattle.verdict.specs.declared.Verdict.the-variants.{Refused}
 use Rattle.verdict.proofs.Laws.{both-accept, kept, left}
-use Rattle.sizes.specs.Sizes.{inputs, frames, sequenceChecked}
+use Rattle.sizes.specs.Sizes.{inputs, outputs, frames, sequenceChecked}
+use Rattle.sizes.specs.Limits.{mostOutputs}
+use Rattle.sizes.specs.Sized.{Fed}
 use Rattle.sizes.proofs.Laws.{fed}
-use Rattle.layered.specs.Machines.{Machine, feed}
+use Rattle.layered.specs.Machines.{Machine, feed, Gives}
 use Rattle.layered.proofs.Feeding.{sequence, words-length, feed-length}
+use Rattle.layered.proofs.Agreement.{masked-gives}
 use Rattle.table.specs.Table.{machine, checked}
-use Rattle.run.specs.Run.{ran, runResult}
-use Rattle.run.specs.Run.{RunFeeds}
+use Rattle.table.specs.Sound.{Sound}
+use Rattle.run.specs.Run.{shown, ran, runResult, RunFeeds}
 
 -- ---- the theorem
 
@@ -27,6 +33,18 @@ run-feeds b words room p e =
     let f = fed (inputs b) (frames b) words room p (s .2) in
     let r = sequence (2 ^ inputs b) (frames b) words (f .0 .as-many) (f .0 .below) in
     (r, f .2, feed-length (machine b) 0 0 words ∙ words-length r ∙ sym (f .2))
+
+-- ---- a mask of all ones
+
+all-ones : (x m : ℕ) → x < 2 ^ m → m ≤ mostOutputs → bitAnd x 65535 ≡ x
+all-ones x m h l = and-mask x 16 ∙ mod-eq-of-lt (lt-of-lt-of-le h (pow-mono {j = 16} l))
+
+-- it shows what a run gives
+shown-all : (b words : List ℕ) → Sound b → Fed (inputs b) (frames b) words → shown b 65535 words ≡ feed (machine b) 0 0 words
+unfolding Gives
+shown-all b words S f =
+    masked-gives (λ _. 65535) (machine b) (S .legal) (λ t s w h l k. all-ones (machine b .out t s w) (outputs b) (S .legal .out-is t s w h l k) (S .headed .sized .outputs-to))
+    (feed (machine b) 0 0) (λ c W. refl) words (sequence (2 ^ inputs b) (frames b) words (f .as-many) (f .below))
 
 -- ---- a run, word by word
 
@@ -51,6 +69,7 @@ module _ (b words before : List ℕ) where
   unfolding runResult
   run-kept x r e q = kept _ r (feed (machine b) 0 0 words) before (sym (ap figures q) ∙ e)
 
-  pub run-left : (T : ℕ) (after : List ℕ) → answer 0 T ≡ ran b words (length before) → after ≡ feed (machine b) 0 0 words ++ drop T before → after ≡ runResult b words before
+  pub run-left : Sound b → Fed (inputs b) (frames b) words → (after : List ℕ) → answer 0 (frames b) ≡ ran b words (length before)
+      → after ≡ shown b 65535 words ++ drop (frames b) before → after ≡ runResult b words before
   unfolding runResult
-  run-left T after e h = left _ T (feed (machine b) 0 0 words) before after e h
+  run-left S f after e h = left _ (frames b) (feed (machine b) 0 0 words) before after e (h ∙ ap (λ o. o ++ drop (frames b) before) (shown-all b words S f))

@@ -7,8 +7,12 @@ use Rattle.verdict.specs.Judgements.{answer, andThen, resultAfter}
 use Rattle.verdict.specs.declared.Figures.{Figures}
 use Rattle.sizes.specs.Sizes.{inputs, frames, sequenceChecked}
 use Rattle.layered.specs.States.{Words}
-use Rattle.layered.specs.Machines.{feed}
+use Rattle.layered.specs.Machines.{masked, feed}
 use Rattle.table.specs.Table.{machine, checked}
+
+-- the outputs of the table b on a sequence, as they are seen through a mask: of each the bits of the mask, all others 0
+abbrev pub shown : List ℕ → (mask : ℕ) (words : List ℕ) → List ℕ
+shown b mask words = feed (masked (λ _. mask) (machine b)) 0 0 words
 
 -- the verdict on a run: that on the table, then 12, 9, 7
 unfoldable pub ran : List ℕ → (words : List ℕ) (room : ℕ) → Figures
