@@ -21,8 +21,8 @@
  * position is passed as such a pointer too, and shares no memory with a slice.
  *
  * Each call puts a number and a place into answer[0] and answer[1], tff_step three values more,
- * tff_price and tff_quiet_step one, tff_ask 21; the rest of answer stays as it was. Where answer is
- * too short for them, nothing at all is changed.
+ * tff_layer_outputs two, tff_price and tff_quiet_step one, tff_ask 21; the rest of answer stays as
+ * it was. Where answer is too short for them, nothing at all is changed.
  *
  *   number  place                       when
  *   0       bytes or words written,     accepted; what follows the result stays as it was
@@ -42,12 +42,13 @@
  *   8       gates needed                unfolding takes above 4,096 gates
  *   9       index of the word from 0    first input word of 2^n or more
  *   10      T                           step from the last layer
- *   11      layer given                 position that the table does not have
+ *   11      layer given                 layer or position that the table does not have
  *   12      length of the list          list of input words not T long, for tff_simulate count*T
  *   13      count given                 above 32 sequences
  *   14      0                           plan is not what asking returns for this circuit
  *   15      index of the window from 0  first bad window; else 32 where there are above 32
  *   16      0                           minute above 10,079
+ *   17      0                           mask of 2^m or more
  *
  * A refused call changes nothing but answer and, as said here, scratch. tff_fold, tff_ask and
  * tff_commit need 2 * 2^(n*T) numbers of scratch. These end as zeros where the call is accepted, or
@@ -112,6 +113,23 @@ void tff_run(const uint8_t *table, size_t table_len,
              const uint16_t *words, size_t words_len,
              uint16_t *result, size_t result_len,
              uint64_t *answer, size_t answer_len);
+
+/* Puts the table's T output words on the T input words into result as tff_run does, with all bits
+ * outside the mask 0. Bit j-1 of the mask is set where output j may be seen, connected or not.
+ * Refuses as the check, then 17, 12, 9, 7. Accepted: place T. */
+void tff_view(const uint8_t *table, size_t table_len,
+              uint16_t mask,
+              const uint16_t *words, size_t words_len,
+              uint16_t *result, size_t result_len,
+              uint64_t *answer, size_t answer_len);
+
+/* Tells which part of the table is the output words of a layer, by state and word. Answers four
+ * values: number, place, and the part's byte offset and length in bytes, both 0 for layer T, which
+ * has no output words. Refuses as the check, then 11 for a layer above T, with offset and length 0.
+ * Accepted: place 0. */
+void tff_layer_outputs(const uint8_t *table, size_t table_len,
+                       uint16_t layer,
+                       uint64_t *answer, size_t answer_len);
 
 /* One step from a position, a layer and a state, on an input word; the start is layer 0, state 0.
  * Answers five values: number, place, output word, and the layer and state reached. Refuses as the

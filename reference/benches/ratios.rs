@@ -1,6 +1,6 @@
 //! Times of the proved library beside those of the plain implementation, one line a case; then of
-//! asking and committing beside folding, of pricing beside checking, and of steps with quiet hours
-//! beside steps without, all proved.
+//! asking and committing beside folding, of pricing beside checking, of steps with quiet hours beside
+//! steps without, of views beside runs, and of a layer's outputs beside checking, all proved.
 //!
 //! The two take turns in one run; a line gives their median times and the ratio of these.
 
@@ -31,6 +31,10 @@ fn main() {
     price_beside_check();
     heading("quiet step", "step");
     quiet_step_beside_step();
+    heading("view", "run");
+    view_beside_run();
+    heading("layer outputs", "check");
+    layer_outputs_beside_check();
 }
 
 fn heading(first: &str, second: &str) {
@@ -164,6 +168,48 @@ fn quiet_step_beside_step() {
                 }
                 (layer, state)
             },
+        );
+    }
+}
+
+/// What a mask costs beyond the run, in a small table and in a large one.
+fn view_beside_run() {
+    let mut rng = Rng::new(1);
+    let sizes = Sizes::new(1, 16, 16);
+    let counts = tables::any_counts(&mut rng, &sizes, 4);
+    let small = tables::connected(&mut rng, sizes, counts).to_bytes();
+    let words = any_sequence(&mut rng, &sizes);
+    view_line("16 frames", &MANY_CALLS, &small, &words);
+    let often = Runs { runs: 21, calls: 5 };
+    let large = million_entries();
+    view_line("a table of 1000000 entries", &often, &large, &[63, 1]);
+}
+
+fn view_line(case: &str, runs: &Runs, table: &[u8], words: &[u16]) {
+    let mut result = vec![0; words.len()];
+    // Every other one of nine outputs.
+    let mask = 0x155;
+    assert_eq!(reference::view(table, mask, words, &mut result).0, 0);
+    runs.measure(
+        case,
+        &mut result,
+        |result| tff::view(black_box(table), black_box(mask), words, result),
+        |result| tff::run(black_box(table), words, result),
+    );
+}
+
+/// What finding a layer costs beyond the check that it begins with.
+fn layer_outputs_beside_check() {
+    let often = Runs { runs: 21, calls: 5 };
+    for (case, table, layer) in [
+        ("a table of 1000000 entries", million_entries(), 1),
+        ("a table of 491521 states", most_states(), 15),
+    ] {
+        often.measure(
+            case,
+            &mut (),
+            |_| tff::layer_outputs(black_box(&table), layer).map(<[u8]>::len),
+            |_| tff::check_table(black_box(&table)),
         );
     }
 }

@@ -25,7 +25,7 @@ pub const GATES: u64 = 8;
 pub const WORD: u64 = 9;
 /// A step from the last layer; place: the number of frames.
 pub const LAST_LAYER: u64 = 10;
-/// A position that the table does not have; place: the layer given.
+/// A layer or position that the table does not have; place: the layer given.
 pub const POSITION: u64 = 11;
 /// A list of words that is not one word a frame of each sequence; place: its length.
 pub const WORD_COUNT: u64 = 12;
@@ -37,6 +37,8 @@ pub const PLAN: u64 = 14;
 pub const WINDOW: u64 = 15;
 /// A minute that the week does not have; place: 0.
 pub const MINUTE: u64 = 16;
+/// A mask with bits beyond the outputs of a frame; place: 0.
+pub const MASK: u64 = 17;
 
 pub fn accepted(place: usize) -> Answer {
     (0, place as u64)

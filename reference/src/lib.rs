@@ -25,6 +25,7 @@ pub mod sizes;
 pub mod table;
 pub mod unfold;
 pub mod vectors;
+pub mod view;
 pub mod words;
 
 pub use answer::Answer;
@@ -39,3 +40,4 @@ pub use reach::reach;
 pub use sizes::Sizes;
 pub use table::{check_table, run, step, Position, Stepped, Table};
 pub use unfold::unfold;
+pub use view::{layer_outputs, view, LayerOutputs};

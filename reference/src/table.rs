@@ -69,14 +69,7 @@ fn outputs_of_run(table: &[u8], words: &[u16]) -> Result<Vec<u16>, Answer> {
     let head = Head::read(table)?;
     head.judge_entries(table)?;
     head.sizes.judge_words(1, words)?;
-    let mut state = 0;
-    let mut outputs = Vec::new();
-    for (layer, &word) in words.iter().enumerate() {
-        let entry = head.entry(layer, state, word);
-        outputs.push(word_at(table, head.output_at(entry)));
-        state = word_at(table, head.next_at(entry));
-    }
-    Ok(outputs)
+    Ok(head.outputs_on(table, words))
 }
 
 /// One step from the position `layer`, `state` on `word`.
@@ -160,6 +153,18 @@ impl Head {
             }
         }
         Ok(())
+    }
+
+    /// The output words of a legal table on the input words of a sequence.
+    pub fn outputs_on(&self, bytes: &[u8], words: &[u16]) -> Vec<u16> {
+        let mut state = 0;
+        let mut outputs = Vec::new();
+        for (layer, &word) in words.iter().enumerate() {
+            let entry = self.entry(layer, state, word);
+            outputs.push(word_at(bytes, self.output_at(entry)));
+            state = word_at(bytes, self.next_at(entry));
+        }
+        outputs
     }
 
     /// The output word and next state that a step from any position reads, if it has them.

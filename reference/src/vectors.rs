@@ -132,14 +132,42 @@ pub fn quiet_steps() -> Vec<(Vec<u16>, u16, [u64; 3])> {
     steps
 }
 
+/// A mask, input words, numbers of result, and what a view then answers and shows.
+type View = (u16, &'static [u16], usize, Answer, &'static [u16]);
+
+/// Views of parity's table.
+pub const VIEWS: [View; 11] = [
+    (1, &[1, 0], 2, (0, 2), &[1, 1]),
+    (1, &[1, 1], 2, (0, 2), &[1, 0]),
+    (0, &[1, 0], 2, (0, 2), &[0, 0]),
+    (1, &[0, 1], 3, (0, 2), &[0, 1]),
+    (2, &[1, 0], 2, (17, 0), &[]),
+    (3, &[1, 2, 0], 1, (17, 0), &[]),
+    (u16::MAX, &[], 0, (17, 0), &[]),
+    (1, &[1, 2, 0], 1, (12, 3), &[]),
+    (0, &[], 0, (12, 0), &[]),
+    (1, &[1, 2], 1, (9, 1), &[]),
+    (0, &[1, 0], 1, (7, 2), &[]),
+];
+
+/// A layer, and what asking for its output words in parity's table answers: number, place, offset and
+/// length.
+pub const LAYERS: [(u16, [u64; 4]); 5] = [
+    (0, [0, 0, 16, 4]),
+    (1, [0, 0, 20, 8]),
+    (2, [0, 0, 0, 0]),
+    (3, [11, 3, 0, 0]),
+    (u16::MAX, [11, 65_535, 0, 0]),
+];
+
 #[cfg(test)]
 mod tests {
     use super::*;
     use crate::gen::{circuits, Rng};
     use crate::program::printed;
     use crate::{
-        ask, check_circuit, check_table, commit, fold, plain_fold, quiet_step, run, simulate, step,
-        unfold, Position, Sizes, Table,
+        ask, check_circuit, check_table, commit, fold, layer_outputs, plain_fold, quiet_step, run,
+        simulate, step, unfold, view, Position, Sizes, Table,
     };
 
     /// The table that a circuit folds to; both ways to fold must find the same.
@@ -307,6 +335,34 @@ mod tests {
             assert_eq!(<[u64; 3]>::from(stepped), expected);
             let moved = if expected[0] == 0 { 1 } else { 0 };
             assert_eq!((position.layer, position.state), (moved, moved));
+        }
+    }
+
+    #[test]
+    fn parity_is_viewed_as_given() {
+        for table in [PARITY_TABLE, UNCONNECTED_TABLE] {
+            for (mask, words, room, answer, shown) in VIEWS {
+                let mut expected = shown.to_vec();
+                // Without its first output, parity differs in frame 1 alone.
+                if table == UNCONNECTED_TABLE && answer.0 == 0 {
+                    expected[0] = 0;
+                }
+                let mut result = vec![7; room];
+                assert_eq!(view(&to_bytes(&table), mask, words, &mut result), answer);
+                expected.resize(room, 7);
+                assert_eq!(result, expected);
+            }
+        }
+    }
+
+    #[test]
+    fn the_layers_of_parity_stand_as_given() {
+        for table in [PARITY_TABLE, UNCONNECTED_TABLE].map(|words| to_bytes(&words)) {
+            for (layer, expected) in LAYERS {
+                assert_eq!(<[u64; 4]>::from(layer_outputs(&table, layer)), expected);
+            }
+            let cut = layer_outputs(&table[..39], 3);
+            assert_eq!(<[u64; 4]>::from(cut), [1, 39, 0, 0]);
         }
     }
 

@@ -15,8 +15,8 @@ use child::written;
 use reference::vectors::{PARITY_PLAN, PARITY_TABLE};
 use reference::words::{to_bytes, words_at};
 use reference::{
-    ask, check_circuit, check_table, commit, examples, fold, price, quiet_step, reach, run,
-    simulate, step, unfold, Position,
+    ask, check_circuit, check_table, commit, examples, fold, layer_outputs, price, quiet_step,
+    reach, run, simulate, step, unfold, view, Position,
 };
 use root::root;
 
@@ -141,6 +141,19 @@ fn calls_lines() -> String {
         (40, &words[3..], 2),
         (40, &words[..2], 1),
     ];
+    // Accepted, and refused with 1, 17, 17, 12, 9, 7.
+    let views = [
+        (40, 1, &words[..2], 2),
+        (40, 0, &words[..2], 2),
+        (39, 2, &words[..2], 2),
+        (40, 2, &words[..3], 2),
+        (40, u16::MAX, &words[..2], 2),
+        (40, 1, &words[..3], 2),
+        (40, 1, &words[3..], 2),
+        (40, 1, &words[..2], 1),
+    ];
+    // Accepted, and refused with 1, 11, 11.
+    let layers = [(40, 0), (40, 1), (40, 2), (39, 3), (40, 3), (40, u16::MAX)];
     let plan = [&PARITY_PLAN[..], &[0]].concat();
     // Refused with 1, 6, 14, 14, 7, and accepted.
     let commits = [
@@ -220,6 +233,20 @@ fn calls_lines() -> String {
             run(&table[..length], words, &mut numbers[..result]).into()
         });
     }
+    for (length, mask, words, result) in views {
+        text += &line("view", |numbers, _| {
+            view(&table[..length], mask, words, &mut numbers[..result]).into()
+        });
+    }
+    // Its answer is too short.
+    text += &line("view", |_, _| []);
+    for (length, layer) in layers {
+        text += &line("layer_outputs", |_, _| {
+            layer_outputs(&table[..length], layer).into()
+        });
+    }
+    // Its answer is too short.
+    text += &line("layer_outputs", |_, _| []);
     for (length, layer, state, word) in steps {
         text += &line("step", |_, _| {
             step(&table[..length], layer, state, word).into()
@@ -292,6 +319,25 @@ Monday 07:00: output 0, plain 0, layer 12, state 0
 #[test]
 fn the_c_board_counts_on_through_a_quiet_night() {
     assert_eq!(printed("examples/quiet.c"), NIGHT);
+}
+
+/// What `examples/view.c` is to print: the lock, output 2, opens after 1 and then 0, and a mask of 1
+/// does not show it.
+const LOCK: &str = "\
+words 0 0: outputs 0 0, seen 0 0
+words 0 1: outputs 0 1, seen 0 1
+words 1 0: outputs 1 3, seen 1 1
+words 1 1: outputs 1 0, seen 1 0
+mask 4: 17, 0
+layer 0: 0, 0: 4 bytes at 16: 0 1
+layer 1: 0, 0: 8 bytes at 20: 0 1 3 0
+layer 2: 0, 0: 0 bytes at 0:
+layer 3: 11, 3: 0 bytes at 0:
+";
+
+#[test]
+fn the_c_views_hide_a_lock_and_show_every_layer() {
+    assert_eq!(printed("examples/view.c"), LOCK);
 }
 
 #[test]

@@ -141,8 +141,7 @@ fn the_most_states_are_priced() {
 
 #[test]
 fn the_longest_table_is_priced() {
-    let sizes = Sizes::new(8, 7, 2);
-    let table = tables::legal(&mut Rng::new(0), sizes, vec![1, Table::MOST_STATES, 1]);
+    let table = tables::largest(&mut Rng::new(0));
     assert_eq!(cents(0, &table.to_bytes()), 10_686_560);
 }
 

@@ -323,8 +323,7 @@ fn the_most_states_are_counted() {
 
 #[test]
 fn the_longest_table_is_counted() {
-    let sizes = Sizes::new(8, 7, 2);
-    let table = tables::legal(&mut Rng::new(0), sizes, vec![1, Table::MOST_STATES, 1]);
+    let table = tables::largest(&mut Rng::new(0));
     let (file, needed) = (table.to_bytes(), 262_168);
     assert_eq!(file.len(), 33_555_472);
     assert_eq!(reach(0, &file, needed - 1), [7, needed as u64]);

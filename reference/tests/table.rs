@@ -9,8 +9,10 @@ mod evaluator;
 mod faults;
 #[path = "common/places.rs"]
 mod places;
+#[path = "common/three_frames.rs"]
+mod three_frames;
 
-use combinations::{length, with_faults, Fault};
+use combinations::with_faults;
 use common::{compare, seeds, short_answers_change_nothing, Case, Room, Seen};
 use evaluator::Evaluator;
 use faults::sizes_around_the_limits;
@@ -20,6 +22,7 @@ use reference::table::Head;
 use reference::vectors::{tables_checked, PARITY_TABLE};
 use reference::words::{set_word, to_bytes};
 use reference::{Sizes, Table};
+use three_frames::{three_frames, ENTRY_FAULTS, HEAD_FAULTS};
 
 const TABLE: Evaluator = Evaluator {
     plain_check: reference::check_table,
@@ -108,12 +111,6 @@ fn zeros(sizes: Sizes, layer: usize, count: u16) -> Vec<u8> {
     to_bytes(&words)
 }
 
-/// The largest legal table.
-fn largest(seed: u64) -> Table {
-    let sizes = Sizes::new(8, 7, 2);
-    tables::legal(&mut Rng::new(seed), sizes, vec![1, Table::MOST_STATES, 1])
-}
-
 #[test]
 fn the_given_vectors_hold() {
     for (table, expected) in tables_checked() {
@@ -164,7 +161,7 @@ fn tables_with_many_states_are_run() {
 
 #[test]
 fn the_largest_table_is_checked_run_and_stepped() {
-    let table = largest(0);
+    let table = tables::largest(&mut Rng::new(0));
     let mut file = table.to_bytes();
     assert_eq!(file.len(), 33_555_472);
     TABLE.accepts(0, &file, &table.head.sizes, 1);
@@ -323,40 +320,6 @@ fn all_output_words_are_judged_before_all_next_states() {
         TABLE.finds(seed, &file, Some([5, output as u64]));
     }
 }
-
-/// A table of three frames, which have one, both and the other of two outputs connected: 20 bytes of
-/// head, then ten output words and ten next states.
-fn three_frames() -> Vec<u8> {
-    let head = [1, 2, 3, 1, 2, 2, 1, 1, 3, 2];
-    let output_words = [1, 0, 1, 2, 3, 0, 2, 2, 0, 2];
-    let next_states = [0, 1, 1, 0, 0, 1, 0, 0, 0, 0];
-    to_bytes(&[head, output_words, next_states].concat())
-}
-
-/// Faults of that table before its entries, in the order in which they are judged.
-const HEAD_FAULTS: [Fault<Vec<u8>>; 11] = [
-    (|file| file.truncate(5), length),
-    (|file| set_word(file, 0, 0), |_| [2, 0]),
-    (|file| set_word(file, 2, 17), |_| [2, 2]),
-    (|file| set_word(file, 4, 17), |_| [2, 4]),
-    (|file| file.truncate(19), length),
-    (|file| set_word(file, 6, 2), |_| [2, 6]),
-    (|file| set_word(file, 8, 0), |_| [2, 8]),
-    (|file| set_word(file, 12, 0), |_| [2, 12]),
-    (|file| set_word(file, 14, 4), |_| [2, 14]),
-    (|file| set_word(file, 18, u16::MAX), |_| [2, 18]),
-    (|file| file.push(0), length),
-];
-
-/// Faults of its entries likewise: unconnected outputs that are set, in the first entry and in the last,
-/// a word of 2^m between them, and next states.
-const ENTRY_FAULTS: [Fault<Vec<u8>>; 5] = [
-    (|file| set_word(file, 20, 2), |_| [5, 20]),
-    (|file| set_word(file, 24, 4), |_| [5, 24]),
-    (|file| set_word(file, 38, 3), |_| [5, 38]),
-    (|file| set_word(file, 40, 2), |_| [5, 40]),
-    (|file| set_word(file, 58, 1), |_| [5, 58]),
-];
 
 #[test]
 fn every_combination_of_faults_is_refused_for_the_first() {

@@ -567,17 +567,22 @@ fn with_every_output_unconnected_one_state_a_layer_is_left() {
 }
 
 /// What the calls that judge a whole table answer.
-fn answers(table: &[u8]) -> [(u64, u64); 5] {
+fn answers(table: &[u8]) -> [(u64, u64); 7] {
     let mut result = vec![0; 1 << 16];
     let priced = tff::price(table);
     let answers = [
         tff::check_table(table),
         tff::run(table, &[0; 16], &mut [0; 16]),
+        tff::view(table, u16::MAX, &[0; 16], &mut [0; 16]),
+        tff::layer_outputs(table, u16::MAX).expect_err("no such layer"),
         tff::reach(table, &mut result),
         tff::unfold(table, &mut result),
+        tff::Answer {
+            number: priced.number,
+            place: priced.place,
+        },
     ];
-    let [checked, run, reached, drawn] = answers.map(|answer| (answer.number, answer.place));
-    [checked, run, reached, drawn, (priced.number, priced.place)]
+    answers.map(|answer| (answer.number, answer.place))
 }
 
 /// What a plain step and one with quiet hours answer, both from the start on the word 0.
@@ -607,7 +612,7 @@ fn no_call_reads_a_table_that_sets_an_unconnected_output() {
             let at = table.head.output_at(entry);
             set_word(&mut file, at, table.output_words[entry] | bit);
             let refusal = (5, at as u64);
-            assert_eq!(answers(&file), [refusal; 5]);
+            assert_eq!(answers(&file), [refusal; 7]);
             let of_steps = if entry == 0 { refusal } else { (0, 0) };
             assert_eq!(first_steps(&file), [of_steps; 2]);
         }
@@ -624,10 +629,10 @@ fn tables_of_the_former_layout_are_not_read() {
         let former = [&file[..counts], &file[counts + connected..]].concat();
         // Its first output words pass for words of connected outputs, but it is too short.
         let refusal = (1, former.len() as u64);
-        assert_eq!(answers(&former), [refusal; 5]);
+        assert_eq!(answers(&former), [refusal; 7]);
         assert_eq!(first_steps(&former), [refusal; 2]);
     }
     let parity = to_bytes(&PARITY_TABLE);
     let former = [&parity[..12], &parity[16..]].concat();
-    assert_eq!(answers(&former), [(1, 36); 5]);
+    assert_eq!(answers(&former), [(1, 36); 7]);
 }

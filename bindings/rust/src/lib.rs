@@ -2,8 +2,9 @@
 //!
 //! Safe calls of the proved library. Every call takes its memory from the caller, but for the list
 //! that `simulate` joins its sequences into, and answers with a number, 0 where it accepts and
-//! otherwise the reason of its refusal, and a place; `ask` gives a plan where it accepts, and a `Board`
-//! an output. The meaning of all of them, and of every byte written, is that of `include/tff.h`.
+//! otherwise the reason of its refusal, and a place; `ask` gives a plan where it accepts, a `Board` an
+//! output, and `layer_outputs` a part of the caller's table. The meaning of all of them, and of every
+//! byte written, is that of `include/tff.h`.
 
 mod circuit;
 mod fold;
@@ -13,6 +14,7 @@ mod quiet;
 mod reach;
 mod table;
 mod unfold;
+mod view;
 
 pub mod raw;
 
@@ -25,6 +27,7 @@ pub use raw::Position;
 pub use reach::reach;
 pub use table::{check_table, run, step, Stepped};
 pub use unfold::unfold;
+pub use view::{layer_outputs, view};
 
 /// What a call answers: 0 or the reason of its refusal, and a place.
 #[derive(Clone, Copy, Debug, PartialEq, Eq)]

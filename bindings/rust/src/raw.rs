@@ -80,6 +80,26 @@ extern "C" {
         answer_len: usize,
     );
 
+    pub fn tff_view(
+        table: *const u8,
+        table_len: usize,
+        mask: u16,
+        words: *const u16,
+        words_len: usize,
+        result: *mut u16,
+        result_len: usize,
+        answer: *mut u64,
+        answer_len: usize,
+    );
+
+    pub fn tff_layer_outputs(
+        table: *const u8,
+        table_len: usize,
+        layer: u16,
+        answer: *mut u64,
+        answer_len: usize,
+    );
+
     pub fn tff_step(
         table: *const u8,
         table_len: usize,

@@ -8,6 +8,7 @@ use Rattle.verdict.specs.declared.Figures.{Figures}
 use Rattle.steps.specs.declared.StepFigures.{StepFigures}
 use Rattle.price.specs.declared.PriceFigures.{PriceFigures}
 use Rattle.folded.specs.Planned.{planLength}
+use Rattle.view.specs.declared.layers.LayerFigures.{LayerFigures}
 
 -- the numbers that a call answers: number and place
 abbrev pub verdictNumbers : Figures → List ℕ
@@ -21,9 +22,13 @@ stepNumbers f = f .number ∷ f .place ∷ f .output ∷ f .layer ∷ f .state �
 abbrev pub quietNumbers : StepFigures → List ℕ
 quietNumbers f = f .number ∷ f .place ∷ f .output ∷ []
 
--- and pricing the cents
+-- pricing the cents
 abbrev pub priceNumbers : PriceFigures → List ℕ
 priceNumbers f = f .number ∷ f .place ∷ f .cents ∷ []
+
+-- and a layer's outputs where they stand in the table: offset and length in bytes
+abbrev pub layerNumbers : LayerFigures → List ℕ
+layerNumbers f = f .number ∷ f .place ∷ f .offset ∷ f .length ∷ []
 
 -- an `answer` that begins with these numbers, the rest as before
 abbrev pub filled : (numbers answer : List ℕ) → List ℕ

@@ -1,20 +1,21 @@
-// What a call of the C interface leaves in `answer`: number and place, and the further values of a step, of a step of the board, of a price
-// and of asking.
+// What a call of the C interface leaves in `answer`: number and place, and the further values of a step, of a step of the board, of a price,
+// of asking and of a layer's outputs.
 use ask::plan::Asked;
 use price::PriceFigures;
 use steps::StepFigures;
 use steps::Stepped;
 use verdict::Verdict;
+use view::layers::LayerFigures;
 ghost use mathlib.Core.Path.{_≡_};
 ghost use Prim.Native.Nat.{_≤_};
 ghost use lib.ListN.{length};
 ghost use Rattle.verdict.specs.Judgements.{figures};
 ghost use Rattle.steps.specs.Steps.{stepFigures};
 ghost use Rattle.ask.specs.Plan.{askNumbers};
-ghost use Rattle.answers.specs.Answer.{verdictNumbers, stepNumbers, quietNumbers, priceNumbers, filled};
+ghost use Rattle.answers.specs.Answer.{verdictNumbers, stepNumbers, quietNumbers, priceNumbers, layerNumbers, filled};
 
 // How many numbers a call answers: number and place; a step also output, layer and state; a step of the board also the output; pricing also
-// the cents; asking also the plan.
+// the cents; asking also the plan; a layer's outputs also offset and length.
 pub struct Limits;
 
 impl Limits {
@@ -27,6 +28,8 @@ impl Limits {
     pub const PRICE: usize = 3;
 
     pub const ASK: usize = Limits::VERDICT + ask::plan::Limits::NUMBERS;
+
+    pub const LAYER: usize = 4;
 }
 
 // Puts the figures of a verdict into `answer`, which has room for them.
@@ -82,4 +85,15 @@ pub fn put_ask(asked: Asked, answer: &mut [u64])
     for i in 0..ask::plan::Limits::NUMBERS {
         answer[Limits::VERDICT + i] = plan[i];
     }
+}
+
+// Puts all figures of a layer's outputs into `answer`, which has room for them.
+pub fn put_layer(layer: LayerFigures, answer: &mut [u64])
+    requires { ⌜ length (layerNumbers layer) ≤ length (now answer) ⌝ }
+    ensures { λ _. ⌜ now (answer .exit) ≡ filled (layerNumbers layer) (now (answer .entry)) ⌝ }
+{
+    answer[0] = layer.number as u64;
+    answer[1] = layer.place as u64;
+    answer[2] = layer.offset as u64;
+    answer[3] = layer.length as u64;
 }

@@ -3,6 +3,7 @@
 use answers::Limits;
 use answers::put;
 use answers::put_ask;
+use answers::put_layer;
 use answers::put_price;
 use answers::put_quiet;
 use answers::put_step;
@@ -16,12 +17,14 @@ ghost use Rattle.table.specs.Table.{checked as tableChecked};
 ghost use Rattle.steps.specs.Steps.{stepped, positionOf};
 ghost use Rattle.quiet.specs.Quiet.{quietStepped};
 ghost use Rattle.run.specs.Run.{ran, runResult};
+ghost use Rattle.view.specs.View.{viewed, viewResult};
+ghost use Rattle.view.specs.Layers.{located};
 ghost use Rattle.folded.specs.Folded.{foldChecked, foldResult, scratchAfter};
 ghost use Rattle.folded.specs.Planned.{asked, commitChecked, commitResult};
 ghost use Rattle.price.specs.Price.{priced};
 ghost use Rattle.reach.specs.Reach.{reachChecked, reachResult};
 ghost use Rattle.unfolded.specs.Unfolded.{unfoldChecked, unfoldResult};
-ghost use Rattle.answers.specs.Answer.{verdictNumbers, stepNumbers, quietNumbers, priceNumbers, answerAfter, verdictLength, quietLength, askLength, lentAfter};
+ghost use Rattle.answers.specs.Answer.{verdictNumbers, stepNumbers, quietNumbers, priceNumbers, layerNumbers, answerAfter, verdictLength, quietLength, askLength, lentAfter};
 
 #[no_mangle]
 pub extern "C" fn tff_check_circuit(circuit: &[u8], answer: &mut [u64])
@@ -73,6 +76,35 @@ pub extern "C" fn tff_run(table: &[u8], words: &[u16], result: &mut [u16], answe
     }
     let verdict: Verdict = run::run(table, words, result);
     put(verdict, answer);
+}
+
+#[no_mangle]
+pub extern "C" fn tff_view(
+    table: &[u8],
+    mask: u16,
+    words: &[u16],
+    result: &mut [u16],
+    answer: &mut [u64],
+)
+    ensures answer { λ _. ⌜ now (answer .exit) ≡ answerAfter (verdictNumbers (viewed (now (table .entry)) mask (now (words .entry)) (length (now (result .entry))))) (now (answer .entry)) ⌝ }
+    ensures result { λ _. ⌜ now (result .exit) ≡ lentAfter verdictLength (now (answer .entry)) (viewResult (now (table .entry)) mask (now (words .entry)) (now (result .entry))) (now (result .entry)) ⌝ }
+{
+    if answer.len() < Limits::VERDICT {
+        return;
+    }
+    let verdict: Verdict = view::view(table, mask, words, result);
+    put(verdict, answer);
+}
+
+#[no_mangle]
+pub extern "C" fn tff_layer_outputs(table: &[u8], layer: u16, answer: &mut [u64])
+    ensures { λ _. ⌜ now (answer .exit) ≡ answerAfter (layerNumbers (located (now (table .entry)) layer)) (now (answer .entry)) ⌝ }
+{
+    if answer.len() < Limits::LAYER {
+        return;
+    }
+    let found = view::layers::locate(table, layer as usize);
+    put_layer(found.figures(), answer);
 }
 
 #[no_mangle]

@@ -15,7 +15,7 @@ use Rattle.verdict.specs.declared.Figures.{Figures}
 use Rattle.verdict.specs.declared.Verdict.{Verdict}
 use Rattle.verdict.specs.declared.Verdict.the-variants.{Accepted, Refused}
 use Rattle.verdict.specs.declared.Refusal.{Refusal}
-use Rattle.verdict.specs.declared.Refusal.the-variants.{Length, Size, Literal, LookAhead, Entry, Scratch, Room, Gates, Word, End, Position, Count, Sequences, Plan, Window, Minute}
+use Rattle.verdict.specs.declared.Refusal.the-variants.{Length, Size, Literal, LookAhead, Entry, Scratch, Room, Gates, Word, End, Position, Count, Sequences, Plan, Window, Minute, Mask}
 
 -- ---- stages one after the other
 
@@ -37,6 +37,7 @@ refusal-number (Sequences p) = refl
 refusal-number (Plan p) = refl
 refusal-number (Window p) = refl
 refusal-number (Minute p) = refl
+refusal-number (Mask p) = refl
 
 -- no refusal is an acceptance
 pub never : (r : Refusal) (p : ℕ) → refusalFigures r ≡ answer 0 p → ⊥

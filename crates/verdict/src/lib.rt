@@ -26,6 +26,7 @@ pub enum Refusal {
     Plan(usize),
     Window(usize),
     Minute(usize),
+    Mask(usize),
 }
 
 // Document 01's number and place.
@@ -55,6 +56,7 @@ impl Refusal {
             Refusal::Plan(place) => Figures { number: 14, place },
             Refusal::Window(place) => Figures { number: 15, place },
             Refusal::Minute(place) => Figures { number: 16, place },
+            Refusal::Mask(place) => Figures { number: 17, place },
         }
     }
 }

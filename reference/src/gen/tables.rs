@@ -17,6 +17,11 @@ pub fn legal(rng: &mut Rng, sizes: Sizes, counts: Vec<u16>) -> Table {
     }
 }
 
+/// A random legal table of the largest size: 33,555,472 bytes.
+pub fn largest(rng: &mut Rng) -> Table {
+    legal(rng, Sizes::new(8, 7, 2), vec![1, Table::MOST_STATES, 1])
+}
+
 /// The table with the outputs connected that `connected` has, by frame, and all others never set.
 pub fn with_connected(table: &Table, connected: &[u16]) -> Table {
     let mut made = table.clone();

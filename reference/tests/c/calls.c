@@ -89,6 +89,24 @@ int main(void) {
     CALL(run, table, 40, words + 3, 2, numbers, 2);
     CALL(run, table, 40, words, 2, numbers, 1);
 
+    CALL(view, table, 40, 1, words, 2, numbers, 2);
+    CALL(view, table, 40, 0, words, 2, numbers, 2);
+    CALL(view, table, 39, 2, words, 2, numbers, 2);
+    CALL(view, table, 40, 2, words, 3, numbers, 2);
+    CALL(view, table, 40, 65535, words, 2, numbers, 2);
+    CALL(view, table, 40, 1, words, 3, numbers, 2);
+    CALL(view, table, 40, 1, words + 3, 2, numbers, 2);
+    CALL(view, table, 40, 1, words, 2, numbers, 1);
+    CALL_FOR(1, view, table, 40, 1, words, 2, numbers, 2);
+
+    CALL(layer_outputs, table, 40, 0);
+    CALL(layer_outputs, table, 40, 1);
+    CALL(layer_outputs, table, 40, 2);
+    CALL(layer_outputs, table, 39, 3);
+    CALL(layer_outputs, table, 40, 3);
+    CALL(layer_outputs, table, 40, 65535);
+    CALL_FOR(3, layer_outputs, table, 40, 1);
+
     CALL(step, table, 40, 0, 0, 1);
     CALL(step, table, 40, 1, 0, 1);
     CALL(step, table, 39, 1, 0, 1);

@@ -1,5 +1,5 @@
-//! Checking a file and evaluating it on the words of one sequence: simulating a circuit and running a
-//! table take and answer alike, so both are tried alike.
+//! Checking a file and evaluating it on the words of one sequence: simulating a circuit, and running or
+//! viewing a table, take and answer alike, so all are tried alike.
 
 use crate::common::{compare, seeds, short_answers_change_nothing, Case, Room, Seen};
 use reference::gen::{any_sequence, Rng};

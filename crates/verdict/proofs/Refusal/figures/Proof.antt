@@ -54,6 +54,9 @@ enum-known-self-15 c = search needs
 enum-known-self-16 : tie.Need-enum-known-self-16
 enum-known-self-16 c = search needs
 
+enum-known-self-17 : tie.Need-enum-known-self-17
+enum-known-self-17 c = search needs
+
 returns : tie.Need-returns
 returns c = sym (ap refusalFigures (c .before .self .given .1))
 
@@ -102,6 +105,9 @@ returns-15 c = sym (ap refusalFigures (c .before .self15 .given .1))
 returns-16 : tie.Need-returns-16
 returns-16 c = sym (ap refusalFigures (c .before .self16 .given .1))
 
+returns-17 : tie.Need-returns-17
+returns-17 c = sym (ap refusalFigures (c .before .self17 .given .1))
+
 pub figures-spec : {M : Type 1} → statement M
 figures-spec =
     tie.close
@@ -122,6 +128,7 @@ figures-spec =
     enum-known-self-14
     enum-known-self-15
     enum-known-self-16
+    enum-known-self-17
     returns
     returns-2
     returns-3
@@ -137,4 +144,5 @@ figures-spec =
     returns-13
     returns-14
     returns-15
-    returns-16)
+    returns-16
+    returns-17)

@@ -1,0 +1,3 @@
+-- The proofs of `view`.
+pub mod Views
+pub mod LayerParts
