@@ -25,7 +25,7 @@ use Rattle.circuit.proofs.Ahead.{none-depends}
 -- ---- an output word depends on no later word
 
 module _ (b : List ℕ) (A : Accepted b) where
-  word-agrees : (c d : List ℕ) (t : ℕ) → t < frames b → Words (2 ^ inputs b) (frames b) c → Words (2 ^ inputs b) (frames b) d → take (suc t) c ≡ take (suc t) d
+  pub word-agrees : (c d : List ℕ) (t : ℕ) → t < frames b → Words (2 ^ inputs b) (frames b) c → Words (2 ^ inputs b) (frames b) d → take (suc t) c ≡ take (suc t) d
       → outputWord b c t ≡ outputWord b d t
   unfolding outputBit frameOf allOutputs
   word-agrees c d t h W U e = equal-bits (outputs b) (outputWord b c t) (outputWord b d t) (word-below b c t) (word-below b d t) at

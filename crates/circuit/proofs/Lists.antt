@@ -2,9 +2,10 @@
 use mathlib.Core.Path.{_≡_, refl, sym, ap, ap₂, _∙_}
 use mathlib.Core.Logic.{⊎-elim}
 use mathlib.Core.List.{List, [], _∷_, _++_, append-nil, append-assoc}
-use Prim.Native.Nat.{ℕ, zero, suc, _+_, _<_}
+use Prim.Native.Nat.{ℕ, zero, suc, _+_, _≤_, _<_}
 use native.Mathlib.Nat.{le-of-suc-le-suc, eq-or-lt-of-le, le-suc, le-trans, le-refl, zero-add, add-zero}
 use native.Mathlib.Numerals.{add-one}
+use native.Mathlib.Decide.{le-ind}
 use native.Mathlib.Omega.{arith}
 use lib.ListN.{length, getD, List·getD-append}
 use lib.Seq.{getD-at}
@@ -36,6 +37,10 @@ module _ {A : Type 0} (start : List A) (next : List A → ℕ → A) (d : A) whe
       (λ (e : i ≡ k). rw e (grown-new k))
       (λ (l : i < k). grown-old k (length start + i) (omega arith) ∙ grown-at k i l)
       (eq-or-lt-of-le (le-of-suc-le-suc h))
+
+  -- what is there after j elements stays
+  pub grown-kept : (j k i : ℕ) → j ≤ k → i < length start + j → getD (grown start next k) i d ≡ getD (grown start next j) i d
+  grown-kept j k i h l = le-ind (λ k. getD (grown start next k) i d ≡ getD (grown start next j) i d) refl (λ k b e. grown-old k i (omega arith) ∙ e) k h
 
 module _ {A : Type 0} (start : List A) (f : ℕ → A) (d : A) where
   pub listed-start : (k i : ℕ) → i < length start → getD (listed start f k) i d ≡ getD start i d
