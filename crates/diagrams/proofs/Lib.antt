@@ -1,0 +1,20 @@
+-- The proofs of what specs/ states, by subject, lowest first.
+pub mod Laws
+pub mod Canonical
+pub mod Tallies
+pub mod Blocks
+pub mod Counted
+pub mod Bound
+pub mod Growth
+pub mod Making
+pub mod Probing
+pub mod Conjoining
+pub mod Building
+pub mod Cut
+pub mod Caching
+pub mod Frames
+pub mod Reading
+pub mod Forward
+pub mod Numbering
+pub mod Paths
+pub mod Classes
