@@ -1,0 +1,2 @@
+-- What a reader of `nodes` must believe.
+pub mod Nodes
