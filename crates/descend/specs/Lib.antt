@@ -1,0 +1,2 @@
+-- What a reader of `descend` must believe.
+pub mod Descend

@@ -1,0 +1,9 @@
+-- The proofs of `write`: laws by subject, lowest first.
+pub mod Heads
+mod Nexts
+mod Rows
+mod FirstRowCall
+mod RowJobCall
+mod PutRowCall
+mod NextRowCall
+pub mod PutOutputsCall

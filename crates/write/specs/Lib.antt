@@ -1,0 +1,2 @@
+-- What a reader of `write` must believe.
+pub mod Write

@@ -1,0 +1,191 @@
+// Writes the table of a circuit whose states are explored: head, outputs and next states, word after word, so that the rest of the result stays as it was.
+use circuit::Head;
+use circuit::connected_outputs;
+use descend::Job;
+use descend::trace;
+use explore::Layout;
+use nodes::Node;
+use table::Limits;
+use table::head::connected_at;
+use words::store;
+use words::store_all;
+ghost use mathlib.Core.Path.{_≡_};
+ghost use Prim.Native.Nat.{_+_, _*_, _-_, _≤_, _<_};
+ghost use lib.ListN.{length, replicate};
+ghost use Rattle.words.specs.Words.{stored};
+ghost use Rattle.sizes.specs.Sizes.{inputs, outputs, frames};
+ghost use Rattle.layered.specs.Search.{tabulate};
+ghost use Rattle.circuit.specs.Circuit.{connectedOutputs};
+ghost use Rattle.circuit.specs.WellFormed.{WellFormed};
+ghost use Rattle.circuit.specs.Theorems.{response};
+ghost use Rattle.table.specs.Table.{connectedAt, headLength};
+ghost use Rattle.explore.specs.Explore.{Laid, CountsTo};
+ghost use Rattle.write.specs.Write.{headWords, NextsFit, NextsPut, wordIn, rowIn, firstRow, nextRow, rowJob, AtRow, Writable, Wrote};
+
+// The next row to be written: that of a state of a layer, of which there are so many, their paths from `at` on in the scratch; it goes to byte offset `to`.
+pub struct Writing {
+    pub layer: usize,
+    pub states: usize,
+    pub at: usize,
+    pub state: usize,
+    pub to: usize,
+}
+
+// Stores the connected outputs of all frames, behind the counts.
+fn put_connected(circuit: &[u8], head: Head, result: &mut [u8])
+    requires { ⌜ WellFormed (now circuit) head ⌝ }
+    requires { ⌜ headLength (frames (now circuit)) ≤ length (now result) ⌝ }
+    ensures { λ _. ⌜ now (result .exit) ≡ stored 2 (now (result .entry)) (connectedAt (frames (now (circuit .entry))) 0) (tabulate (frames (now (circuit .entry))) (connectedOutputs (now (circuit .entry)))) ⌝ }
+{
+    let last = head.frames;
+    for t in 0..last {
+        let word = connected_outputs(circuit, head, t);
+        store(result, connected_at(last, t), word as u16);
+    }
+}
+
+// Stores the head: the sizes, the counts and the connected outputs.
+pub fn put_head(circuit: &[u8], head: Head, counts: &[u16], result: &mut [u8])
+    requires { ⌜ WellFormed (now circuit) head ⌝ }
+    requires { ⌜ CountsTo (inputs (now circuit)) (outputs (now circuit)) (frames (now circuit)) (response (now circuit)) (now counts) (frames (now circuit) - 1) ⌝ }
+    requires { ⌜ headLength (frames (now circuit)) ≤ length (now result) ⌝ }
+    ensures { λ _. ⌜ now (result .exit) ≡ stored 2 (now (result .entry)) 0 (headWords (now (circuit .entry))) ⌝ }
+{
+    let sizes = [head.inputs as u16, head.outputs as u16, head.frames as u16];
+    store_all(&sizes, 3, result, 0);
+    let layers = head.frames + 1;
+    store_all(counts, layers, result, Limits::SIZES);
+    put_connected(circuit, head, result);
+}
+
+// Stores so many zeros.
+fn put_zeros(result: &mut [u8], at: usize, count: usize)
+    requires { ⌜ at + 2 * count ≤ length (now result) ⌝ }
+    ensures { λ _. ⌜ now (result .exit) ≡ stored 2 (now (result .entry)) at (replicate count 0) ⌝ }
+{
+    for i in 0..count {
+        store(result, at + 2 * i, 0);
+    }
+}
+
+// Stores all next states, layer by layer. Those of the last frame are all state 0, and stand nowhere in the scratch.
+pub fn put_nexts(scratch: &[u16], layout: Layout, counts: &[u16], result: &mut [u8], at: usize)
+    requires { ⌜ NextsFit layout (now scratch) (now counts) (now result) at ⌝ }
+    ensures { λ _. ⌜ NextsPut layout (now (scratch .entry)) (now (counts .entry)) (now (result .entry)) at (now (result .exit)) ⌝ }
+{
+    let half = layout.half;
+    let last = layout.frames - 1;
+    let mut from = 1;
+    let mut end = at;
+    for t in 0..last {
+        let count = counts[t] as usize * layout.fan;
+        store_all(&scratch[half + from..], count, result, end);
+        from = from * layout.fan + 1;
+        end += 2 * count;
+    }
+    put_zeros(result, end, counts[last] as usize * layout.fan);
+}
+
+// The word of the outputs whose ids stand from `from` on: bit j is set where id j is the constant 1.
+fn word_of(work: &[u32], from: usize, outputs: usize) -> u16
+    requires { ⌜ (outputs ≤ 16) × (from + outputs ≤ length (now work)) ⌝ }
+    ensures { λ r. ⌜ r ≡ wordIn (now (work .entry)) from outputs ⌝ }
+{
+    let mut word: u16 = 0;
+    let mut k = outputs;
+    while 0 < k {
+        k -= 1;
+        word = 2 * word + (work[from + k] == 1) as u16;
+    }
+    word
+}
+
+// Stores the row whose ids were traced: for each word its outputs.
+fn put_row(work: &[u32], result: &mut [u8], layout: Layout, to: usize)
+    requires { ⌜ Laid layout × (layout .columns + layout .fan * layout .outputs ≤ length (now work)) × (to + 2 * layout .fan ≤ length (now result)) ⌝ }
+    ensures { λ _. ⌜ now (result .exit) ≡ stored 2 (now (result .entry)) to (rowIn layout (now (work .entry))) ⌝ }
+{
+    let fan = layout.fan;
+    for w in 0..fan {
+        let from = layout.columns + w * layout.outputs;
+        store(result, to + 2 * w, word_of(work, from, layout.outputs));
+    }
+}
+
+// The first row: that of layer 0's one state.
+fn first_row(to: usize) -> Writing
+    ensures { λ r. ⌜ r ≡ firstRow to ⌝ }
+{
+    Writing {
+        layer: 0,
+        states: 1,
+        at: 0,
+        state: 0,
+        to,
+    }
+}
+
+// What is to be followed for a row: the outputs of the layer's frame, by the state's path and then by each word.
+fn row_job(scratch: &[u16], layout: Layout, writing: Writing) -> Job
+    requires { ⌜ AtRow layout writing × (layout .half ≤ length (now scratch)) ⌝ }
+    ensures { λ r. ⌜ r ≡ rowJob (now (scratch .entry)) layout writing ⌝ }
+{
+    let at = writing.at + writing.state;
+    Job {
+        from: layout.roots + layout.outputs * writing.layer,
+        count: layout.outputs,
+        path: scratch[at] as u32,
+        top: (layout.bits * writing.layer) as u32,
+        fan: layout.fan,
+        at: layout.columns,
+    }
+}
+
+// The row after: of the layer's next state, or of the next layer's first.
+fn next_row(counts: &[u16], layout: Layout, writing: Writing) -> Writing
+    requires { ⌜ AtRow layout writing × (length (now counts) ≡ 17) × (writing .to + 2 * layout .fan < 18446744073709551616) ⌝ }
+    ensures { λ r. ⌜ r ≡ nextRow layout (now (counts .entry)) writing ⌝ }
+{
+    let state = writing.state + 1;
+    let to = writing.to + 2 * layout.fan;
+    if state < writing.states {
+        return Writing {
+            layer: writing.layer,
+            states: writing.states,
+            at: writing.at,
+            state,
+            to,
+        };
+    }
+    let layer = writing.layer + 1;
+    Writing {
+        layer,
+        states: counts[layer] as usize,
+        at: writing.at * layout.fan + 1,
+        state: 0,
+        to,
+    }
+}
+
+// Stores all outputs, state by state: each state's outputs are followed down by its path and each word, and read where they lead.
+pub fn put_outputs(
+    nodes: &[Node],
+    scratch: &[u16],
+    work: &mut [u32],
+    counts: &[u16],
+    layout: Layout,
+    result: &mut [u8],
+    to: usize,
+)
+    requires { ⌜ Writable layout (now nodes) (now scratch) (now work) (now counts) (now result) to ⌝ }
+    ensures { λ _. ⌜ Wrote layout (now (nodes .entry)) (now (scratch .entry)) (now (work .entry)) (now (counts .entry)) (now (result .entry)) to (now (work .exit)) (now (result .exit)) ⌝ }
+{
+    let mut writing = first_row(to);
+    while writing.layer < layout.frames {
+        let job = row_job(scratch, layout, writing);
+        trace(nodes, work, job);
+        put_row(work, result, layout, writing.to);
+        let next = next_row(counts, layout, writing);
+        writing = next;
+    }
+}
