@@ -1,8 +1,8 @@
 -- Laws of the head of a table, and that head, outputs and next states are the table's words. Assumes nothing.
-use mathlib.Core.Path.{_≡_, refl, sym, ap, ap₂, _∙_}
+use mathlib.Core.Path.{_≡_, refl, sym, ap, _∙_}
 use mathlib.Core.List.{List, [], _∷_, _++_, append-assoc}
 use mathlib.Core.Logic.{⊎-elim}
-use Prim.Native.Nat.{ℕ, suc, _+_, _*_, _-_, _^_, _≤_, _<_}
+use Prim.Native.Nat.{ℕ, suc, _+_, _*_, _-_, _/_, _^_, _≤_, _<_}
 use native.Mathlib.Nat.{eq-or-lt-of-le}
 use native.Mathlib.Omega.{arith}
 use lib.Pow.{pow-pos}
@@ -13,8 +13,9 @@ use Rattle.words.proofs.Laws.{stored-behind}
 use Rattle.sizes.specs.Sizes.{inputs, outputs, frames}
 use Rattle.layered.specs.Search.{tabulate}
 use Rattle.layered.specs.States.{count}
-use Rattle.layered.specs.Machines.{entries, tableWords, folded}
+use Rattle.layered.specs.Machines.{tableWords, folded}
 use Rattle.layered.proofs.Lists.{tabulate-length, tabulated}
+use Rattle.layered.proofs.Entries.{entries-length}
 use Rattle.layered.proofs.States.{count-last}
 use Rattle.circuit.specs.Circuit.{connectedOutputs}
 use Rattle.circuit.specs.Theorems.{response}
@@ -80,6 +81,20 @@ module _ (b : List ℕ) where
 
   pub table-length : length wholeTable ≡ 4 + 2 * frames b + (length outputsOf + length nextsOf)
   table-length = ap length (sym words-are) ∙ length-append (headWords b) _ ∙ omega (arith, head-words, length-append outputsOf nextsOf)
+
+  -- there is room for both arrays
+  pub outputs-room : (r : List ℕ) (at : ℕ) → 2 * length wholeTable ≤ length r → at ≡ 8 + 4 * frames b → at + 2 * length outputsOf ≤ length r
+  outputs-room r at room e = omega (arith, table-length)
+
+  pub nexts-room : (r : List ℕ) (at end : ℕ) → 2 * length wholeTable ≤ length r → at ≡ 8 + 4 * frames b → end ≡ at + 2 * length outputsOf → end + 2 * length nextsOf ≤ length r
+  nexts-room r at end room e f = omega (arith, table-length)
+
+  -- they are as long, so that the second begins in the middle
+  pub nexts-at : (bytes : ℕ) → bytes ≡ 2 * length wholeTable → (8 + 4 * frames b + bytes) / 2 ≡ 8 + 4 * frames b + 2 * length outputsOf
+  nexts-at bytes e =
+      let K : ℕ = 2 ^ inputs b in
+      let M = folded K (frames b) (response b) in
+      omega (arith, table-length, entries-length K (frames b) (M .states) (M .out), entries-length K (frames b) (M .states) (M .next))
 
   -- head, outputs and next states, stored one behind the other
   pub table-stored : (r r₁ r₂ r₃ : List ℕ) (at end : ℕ) → 2 * length wholeTable ≤ length r → at ≡ 8 + 4 * frames b → end ≡ at + 2 * length outputsOf

@@ -1,8 +1,8 @@
 -- Next states as they stand in the scratch: each layer's in one part, and those of the last frame nowhere. Assumes nothing.
 use mathlib.Core.Path.{_≡_, refl, sym, ap, ap₂, _∙_}
 use mathlib.Core.List.{List, [], _∷_, _++_}
-use Prim.Native.Nat.{ℕ, zero, suc, _+_, _*_, _-_, _/_, _%_, _^_, _≤_, _<_}
-use native.Mathlib.Nat.{pow-zero, pow-suc, mul-le-mul, mul-le-mul-right, one-le-pow, le-refl}
+use Prim.Native.Nat.{ℕ, zero, suc, _+_, _*_, _^_, _≤_, _<_}
+use native.Mathlib.Nat.{pow-zero, pow-suc, mul-le-mul, mul-le-mul-right, one-le-pow}
 use native.Mathlib.Numerals.{add-one}
 use native.Mathlib.Omega.{arith}
 use lib.Arith.{digits-div, digits-mod}
@@ -14,7 +14,7 @@ use Rattle.words.proofs.Laws.{stored-behind}
 use Rattle.layered.specs.Search.{join, tabulate, total}
 use Rattle.layered.specs.States.{count, number, history}
 use Rattle.layered.specs.Machines.{entries, folded}
-use Rattle.layered.proofs.Lists.{join-cong, join-tabulate, tabulate-cong, tabulated, tabulate-length, total-each, total-le, total-next}
+use Rattle.layered.proofs.Lists.{join-cong, join-tabulate, tabulate-cong, tabulated, total-each, total-le, total-next}
 use Rattle.layered.proofs.Entries.{entries-length}
 use Rattle.layered.proofs.States.{count-at-most, count-last, number-decides, number-below, equivalent-last}
 use Rattle.diagrams.specs.Forward.{candidate}

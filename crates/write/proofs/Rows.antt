@@ -1,16 +1,15 @@
 -- Rows of outputs: their numbers fit, what is followed for a row is its outputs, and one row is stored behind the other. Assumes nothing.
 use mathlib.Core.Path.{_≡_, refl, sym, ap, ap₂, _∙_, subst}
 use mathlib.Core.Bool.{Bool, true, false, cond}
-use mathlib.Core.List.{List, [], _∷_, _++_, append-assoc, append-nil}
-use mathlib.Core.Logic.{⊎-elim}
-use Prim.Native.Nat.{ℕ, zero, suc, _+_, _*_, _-_, _^_, _≤_, _<_}
+use mathlib.Core.List.{List, _++_, append-assoc, append-nil}
+use Prim.Native.Nat.{ℕ, suc, _+_, _*_, _^_, _≤_, _<_}
 use native.Mathlib.Nat.{le-refl, mul-suc, suc-mul, mul-le-mul-left, mul-le-mul-right, one-le-pow}
 use native.Mathlib.Numerals.{add-one}
 use native.Mathlib.Omega.{arith}
 use borrow.Author.Tests.{ltb-true, ltb-false, lt-ltb, le-ltb}
 use lib.Pow.{pow-pos}
 use lib.Dec.{eqb, ltb}
-use lib.ListN.{length, getD, replicate, length-append}
+use lib.ListN.{length, getD, length-append}
 use Rattle.words.specs.Words.{stored}
 use Rattle.words.proofs.Laws.{stored-none, stored-behind}
 use Rattle.layered.specs.Search.{join, tabulate, total}
@@ -19,7 +18,7 @@ use Rattle.layered.specs.Machines.{entries, folded}
 use Rattle.layered.proofs.Lists.{tabulate-cong, tabulate-length, join-length, total-each, total-le, total-next}
 use Rattle.layered.proofs.Entries.{entries-length}
 use Rattle.layered.proofs.States.{count-at-most, count-first, count-last, number-below}
-use Rattle.circuit.specs.Lists.{listed, packed}
+use Rattle.circuit.specs.Lists.{packed}
 use Rattle.circuit.proofs.Lists.{listed-cong}
 use Rattle.diagrams.specs.Diagrams.{Nodes, follow, Reduced}
 use Rattle.diagrams.specs.Theorems.{Holds}

@@ -1,6 +1,6 @@
 -- `write::put_row` meets its contract. The invariant: the words so far are stored.
 -- Assumes nothing.
-use mathlib.Core.Path.{_≡_, refl, sym, ap, _∙_}
+use mathlib.Core.Path.{_≡_, sym, ap, _∙_}
 use mathlib.Core.List.{List, [], _∷_, _++_}
 use Prim.Native.Nat.{ℕ, _+_, _*_, _-_, _≤_}
 use native.Mathlib.Numerals.{add-one}
@@ -12,7 +12,6 @@ use Rattle.words.proofs.Laws.{stored-none, stored-length, stored-behind}
 use Rattle.layered.specs.Search.{join, tabulate}
 use Rattle.layered.proofs.Lists.{tabulate-length}
 use Rattle.explore.specs.declared.Layout.{Layout}
-use Rattle.explore.proofs.Layers.{words-few}
 use Rattle.write.specs.Write.{wordIn, rowIn}
 use Rattle.write.proofs.Rows.{columns-in}
 use Rattle.write.proofs.put_row.Statement.{statement}

@@ -9,7 +9,7 @@ use denote.Ref.{now}
 use lib.Dec.{eqb}
 use package.mir.Val.{boolByte}
 use lib.Seq.{take-all}
-use lib.ListN.{getD, take, drop, length, length-take}
+use lib.ListN.{getD, take, drop, length-take}
 use Rattle.circuit.specs.Lists.{packed, listed}
 use Rattle.circuit.proofs.Lists.{listed-length, listed-at}
 use Rattle.circuit.proofs.Laws.{packed-below, packed-more}
