@@ -22,7 +22,7 @@ use Rattle.explore.proofs.Turns.{group-starts, same-none}
 -- ---- the start
 
 -- where nothing was stored there is zero
-zeros : (n i : ℕ) → _≡_ {A = ℕ} (getD (replicate n 0) i 0) 0
+pub zeros : (n i : ℕ) → _≡_ {A = ℕ} (getD (replicate n 0) i 0) 0
 zeros zero i = refl
 zeros (suc n) zero = refl
 zeros (suc n) (suc i) = zeros n i

@@ -1,10 +1,10 @@
 -- The proofs of `survey`: what is explored of a circuit whose signals are built, the stages of a survey, a module for each callee, and a call of it.
 pub mod Subject
-mod Surveying
+pub mod Surveying
 mod HeadCall
 mod ShapeCall
 mod LayoutCall
 mod NoneCall
 mod FoundCall
-pub mod LocalArray
+pub mod NoWorkCall
 pub mod SurveyCall

@@ -36,9 +36,8 @@ use denote.Triple.Statement.{Contract, Triple}
 use denote.Triple.Clauses.{ensured, lasts}
 use denote.Triple.Walked.{says}
 use Rattle.verdict.proofs.Again.{LentAgain}
-use Rattle.verdict.proofs.Pass.{own-at, shr-at}
+use Rattle.verdict.proofs.Pass.{own-at, shr-at, lends-array, comes-array}
 use Rattle.verdict.proofs.Lending.{lends, comes}
-use Rattle.survey.proofs.LocalArray.{lends-array, comes-array}
 use Rattle.nodes.specs.declared.Node.{Node}
 use Rattle.nodes.proofs.Node as T
 use Rattle.survey.specs.Survey.{Surveyable, Surveyed}

@@ -3,12 +3,11 @@ use mathlib.Core.Path.{_≡_, refl, sym, ap, ap₂, _∙_, subst}
 use mathlib.Core.List.{List}
 use Prim.Native.Nat.{ℕ, suc, _+_, _*_, _-_, _^_, _≤_, _<_, min}
 use native.Mathlib.Omega.{arith}
-use lib.ListN.{length, getD, replicate}
+use lib.ListN.{length, getD, replicate, length-replicate}
 use Rattle.layered.proofs.Search.{least-le}
 use Rattle.verdict.specs.Judgements.{answer}
 use Rattle.sizes.specs.Sizes.{inputs, outputs, frames}
-use Rattle.circuit.specs.Limits.{mostSignals}
-use Rattle.circuit.specs.Circuit.{gates, allInputs, allOutputs, checked}
+use Rattle.circuit.specs.Circuit.{gates, allInputs, checked}
 use Rattle.circuit.specs.WellFormed.{CircuitHeaded, HeadOf, WellFormed}
 use Rattle.circuit.specs.Theorems.{response}
 use Rattle.circuit.specs.declared.Head.{Head}
@@ -21,6 +20,7 @@ use Rattle.conjoin.specs.declared.Shape.{Shape}
 use Rattle.build.specs.Build.{Signals, Buildable, Building}
 use Rattle.build.proofs.Turn.{same-built}
 use Rattle.explore.specs.Explore.{Explored, CountsTo, Explorable, Ended, Ends}
+use Rattle.explore.proofs.Begin.{zeros}
 use Rattle.explore.specs.declared.Layout.{Layout}
 use Rattle.explore.specs.declared.Cursor.{Cursor}
 use Rattle.survey.specs.Survey.{workLength, mostRecords, ShapeOf, LayoutOf, subjectOf, Surveyable, Known, Surveyed}
@@ -31,14 +31,25 @@ use Rattle.survey.proofs.Subject.{bits, frames-are, outputs-are, laid, 
 moved : (P : ℕ → ℕ → ℕ → ℕ → Type 0) (n m T k n′ m′ T′ k′ : ℕ) → n ≡ n′ → m ≡ m′ → T ≡ T′ → k ≡ k′ → P n m T k → P n′ m′ T′ k′
 moved P n m T k n′ m′ T′ k′ e f g h p = subst (λ x. P x m′ T′ k′) e (subst (λ x. P n x T′ k′) f (subst (λ x. P n m x k′) g (subst (P n m T) h p)))
 
+-- what a survey works in before it begins is clean, and long enough
+pub clean-work : (ws : List ℕ) → ws ≡ replicate workLength 0 → ((i : ℕ) → getD ws i 0 ≡ 0) × (workLength ≤ length ws)
+clean-work ws e = (λ i. ap (λ ws. getD ws i 0) e ∙ zeros workLength i, omega (arith, ap length e, length-replicate {A = ℕ} workLength 0))
+
 -- the place is no more than one more than there are gates
 place-most : (b : List ℕ) (R : ℕ) → firstOver (allInputs b) R (gates b) (signalOn b) ≤ suc (gates b)
 unfolding firstOver
 place-most b R = least-le (suc (gates b)) _
 
 module _ (b s ws : List ℕ) (P : Surveyable b s ws) where
+  place : ℕ
+  place = checked b .place
+
+  passed : checked b ≡ answer 0 place
+  unfolding place
+  passed = ap (λ n. answer n (checked b .place)) (P .accepted)
+
   formed : Formed b
-  formed = accepted b (P .accepted .0) (P .accepted .1) .form
+  formed = accepted b place passed .form
 
   pub headed : CircuitHeaded b
   headed = formed .head
@@ -92,9 +103,9 @@ module _ (b s ws : List ℕ) (P : Surveyable b s ws) where
             pub explorable : Explorable y zs s us
             explorable = record {
               subject = subjectOf b zs us;
-              startable = startable b h well y L (P .accepted .0) (P .accepted .1) (m .room) zs us (signals .built) s (omega (arith, half-is, P .room)) (omega (arith, long, P .space)) (λ j i. P .clean j (omega (arith, i, half-is)));
+              startable = startable b h well y L place passed (m .room) zs us (signals .built) s (omega (arith, half-is, P .room)) (omega (arith, long, P .space)) (λ j i. P .clean j (omega (arith, i, half-is)));
               diagrams = refl;
-              standing = standing b h well y L (P .accepted .0) (P .accepted .1) (m .room) zs us (signals .built) (signals .within) (signals .room);
+              standing = standing b h well y L place passed (m .room) zs us (signals .built) (signals .within) (signals .room);
             }
 
             module _ (t vs : List ℕ) (c : Cursor) (E : Ends y zs s t us vs c) where

@@ -11,11 +11,8 @@ use nodes::Node;
 use records::clear;
 use sizes::power;
 ghost use mathlib.Core.Path.{_≡_};
-ghost use Prim.Native.Nat.{_+_, _*_, _≤_, _<_, min};
+ghost use Prim.Native.Nat.{_*_, _≤_, min};
 ghost use lib.ListN.{length, replicate};
-ghost use Rattle.sizes.specs.Sizes.{inputs, outputs, frames};
-ghost use Rattle.circuit.specs.Circuit.{allInputs};
-ghost use Rattle.circuit.specs.WellFormed.{CircuitHeaded, HeadOf};
 ghost use Rattle.survey.specs.Survey.{workLength, mostRecords, ShapeOf, LayoutOf, Surveyable, Surveyed};
 
 // How many numbers the work of a survey takes: the ids of all signals, and room for those of candidates; and how many records any circuit can need.

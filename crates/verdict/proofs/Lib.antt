@@ -3,5 +3,6 @@ pub mod Laws
 pub mod Walks
 pub mod Again
 pub mod Pass
+pub mod LocalArray
 pub mod Lending
 pub mod Copied

@@ -5,6 +5,7 @@
 --     calls-again      the walk's step: the slice is lent again for a lifetime that is made for the call, and comes back at the last list
 --     calls-shared     the same where the callee takes a `&[T]`: the slice is opened and lent as `&` for the call, and is as it was after it
 --     calls-plain      a callee that is lent nothing
+--     lends-array, comes-array    a local array in memory is lent as a `&mut [T]` for a lifetime that is made for a call, and comes back at the last list: for calls that are lent others too
 --     calls-array      a local array (what lies in its cell, as `partAt` of an array) is lent to a callee that takes a `&mut [T]`, and is back at the last list
 -- n is the count in the slice's machine value: it stays, and the list's length is it.
 -- Assumes `Given`.
@@ -23,12 +24,11 @@ use base.Fml.{Lft, GName, Share, Fml, fsep, flft, fobs, fauth, flent, fobor}
 use prog.Wp.{Heap, Env, Calls, Loops, Wp, afterSeq, exits}
 use ghost.Atoms.{Atoms, sem}
 use sound.WpLaws.{FmC}
-use types.Kit.{Given, Item, ‵, raw, given, _⊛_, some, later, Post, post, anyQ, prop, runs, lands, Seq, Step, step, _$_, move, use0, use1, use2, use3, split, learn, rewrite, drop, fsplit, fjoin, feqI, pick, await}
+use types.Kit.{Given, Item, ‵, raw, given, _⊛_, some, later, Post, post, Goal, Soaks, anyQ, prop, runs, lands, Seq, Step, step, _$_, move, use0, use1, use2, use3, split, learn, rewrite, drop, fsplit, fjoin, feqI, pick, await}
 use types.Run.{Opd, Opds, first, branches, skips, jumps}
 use types.Tokens.{lft-new, lft-end, lent-back}
 use types.Share.{arr-parts}
 use denote.RattleType.{RattleType}
-use denote.Ref.{RefT}
 use denote.Memory.{shares, mem, partAt}
 use denote.Array.{Array}
 use denote.ArrayMemory.{Single, array-apart, array-whole}
@@ -75,6 +75,24 @@ module _ {M : Type 1} (𝓤 : URA M) (H : Heap 𝓤) (A : Atoms 𝓤) (R Q : Rat
 -- what a callee that is lent nothing gives back
 abbrev pub GivesPlain : {M : Type 1} (𝓤 : URA M) (H : Heap 𝓤) (A : Atoms 𝓤) (Q : RattleType) (Φ : Q .Denot → Type 0) → Val → SProp 𝓤
 GivesPlain 𝓤 H A Q Φ w = H .⇛ (ex 𝓤 (λ (r : Q .Denot). guard 𝓤 (Φ r) (sem 𝓤 H A (Q .own r (w ∷ [])))))
+
+module _ {M : Type 1} {𝓤 : URA M} {H : Heap 𝓤} {A : Atoms 𝓤} {K : Type 0} {W : Given 𝓤 H A} {Γ : List (Item 𝓤)} {G : Goal 𝓤 H} where
+  pub lends-array : K → Soaks G → (R : RattleType) → Single (R .mir) → (b n : ℕ) (ys : List (R .Denot)) → Room R n → length ys ≡ n
+      → ((ν : ℕ) (δ : GName) → Seq K W (‵ (flft (ν ∷ []) fullShare) ∷ ‵ (own-at R b 0 n (ν ∷ []) δ ys) ∷ ‵ (flent (ν ∷ []) (Held R (length ys) b 0 δ)) ∷ Γ) G)
+      → Seq K W (‵ (partAt (Array R n) fullShare ys b 0) ∷ Γ) G
+  lends-array t s R single b n ys room e k =
+      use1 W (‵ (arr-parts (shares R) n .part fullShare ys b 0)) (array-apart 𝓤 H A W R fullShare single n ys b 0) $ fsplit t $ drop t $ use1 W (‵ (cells (mem R) ys b 0)) (whole-in 𝓤 H A W R ys b 0) $
+      lft-new t s (λ ν. move t (1 ∷ []) $
+      use1 W (later (some (λ (δ : GName). ‵ (own-at R b 0 (length ys) (ν ∷ []) δ ys) ⊛ ‵ (flent (ν ∷ []) (Held R (length ys) b 0 δ))))) (lends-slice 𝓤 H A W R (named 0) (ν ∷ []) ys b 0 (subst (Room R) (sym e) room)) $ await t s $ pick t (λ δ. split t $
+      rewrite t 0 (λ (m : ℕ). ‵ (own-at R b 0 m (ν ∷ []) δ ys)) e refl $ move t (2 ∷ 0 ∷ []) $ k ν δ))
+
+  pub comes-array : K → Soaks G → (R : RattleType) (b n : ℕ) (ys zs : List (R .Denot)) (ν : ℕ) (δ : GName) → length ys ≡ n → length zs ≡ length ys
+      → Seq K W (‵ (partAt (Array R n) fullShare zs b 0) ∷ Γ) G
+      → Seq K W (‵ (flft (ν ∷ []) fullShare) ∷ ‵ (finally R δ zs) ∷ ‵ (flent (ν ∷ []) (Held R (length ys) b 0 δ)) ∷ Γ) G
+  comes-array t s R b n ys zs ν δ e h k =
+      lft-end t s $ move t (0 ∷ 2 ∷ 1 ∷ []) $
+      use3 W (later (‵ (Arr (mem R) (length ys) .lies zs b 0))) (slice-back 𝓤 H A W R (ν ∷ []) δ zs (length ys) b 0) $ await t s $ fsplit t $ drop t $ use1 W (‵ (row R fullShare zs b 0)) (whole-out 𝓤 H A W R zs b 0) $
+      feqI t ℕ (length zs) n (h ∙ e) $ fjoin t $ use1 W (‵ (partAt (Array R n) fullShare zs b 0)) (array-whole 𝓤 H A W R fullShare n zs b 0) $ k
 
 module _ {M : Type 1} {𝓤 : URA M} {H : Heap 𝓤} {A : Atoms 𝓤} {K : Type 0} {W : Given 𝓤 H A} {Γ : List (Item 𝓤)} {E : Env 𝓤 H} {C : Calls 𝓤 H} {f : Name} {xs : List Operand} {Λ : Loops 𝓤 H} {q : Post 𝓤 H} {d : Place} where
   pub calls-again : K → FmC 𝓤 H (W .laws) C → {rest : Body} (R Q : RattleType) (b o n : ℕ) (κ : Lft) (p : Share) (γ : GName) (ys : List (R .Denot)) (vs : List Val) (Φ : Q .Denot → List (R .Denot) → Type 0) → Room R n → length ys ≡ n
@@ -131,16 +149,12 @@ module _ {M : Type 1} {𝓤 : URA M} {H : Heap 𝓤} {A : Atoms 𝓤} {K : Type 
       → ((w : Val) (r : Q .Denot) (zs : List (R .Denot)) → length zs ≡ n → Φ r zs → Seq K W (‵ (partAt (Array R n) fullShare zs b 0) ∷ ‵ (Q .own r (w ∷ [])) ∷ Γ) (lands C Λ E d w rest q))
       → Seq K W (‵ (partAt (Array R n) fullShare ys b 0) ∷ Γ) (runs C Λ E (seq (call f xs d) rest) q)
   calls-array t fm R Q single b n ys vs Φ room e met os k =
-      use1 W (‵ (arr-parts (shares R) n .part fullShare ys b 0)) (array-apart 𝓤 H A W R fullShare single n ys b 0) $ fsplit t $ drop t $ use1 W (‵ (cells (mem R) ys b 0)) (whole-in 𝓤 H A W R ys b 0) $
-      lft-new t tt (λ ν. move t (1 ∷ []) $
-      use1 W (later (some (λ (δ : GName). ‵ (own-at R b 0 (length ys) (ν ∷ []) δ ys) ⊛ ‵ (flent (ν ∷ []) (Held R (length ys) b 0 δ))))) (lends-slice 𝓤 H A W R (named 0) (ν ∷ []) ys b 0 (subst (Room R) (sym e) room)) $ await t tt $ pick t (λ δ. split t $
-      rewrite t 0 (λ (m : ℕ). ‵ (own-at R b 0 m (ν ∷ []) δ ys)) e refl $
-      move t (2 ∷ 0 ∷ []) $ use2 W (raw (Lends 𝓤 H A R Q b 0 n ys Φ ν δ)) (id⊢ 𝓤 _) $
+      lends-array t tt R single b n ys room e (λ ν δ.
+      use2 W (raw (Lends 𝓤 H A R Q b 0 n ys Φ ν δ)) (id⊢ 𝓤 _) $
       calls-from t fm (raw (Lends 𝓤 H A R Q b 0 n ys Φ ν δ)) (sliceVal (b, 0) n ∷ vs) (Gives 𝓤 H A R Q b 0 n ys Φ ν δ) (met ν δ) (os ν δ) (λ w.
       use1 W (later (some (λ (r : Q .Denot). some (λ (zs : List (R .Denot)). given ((length zs ≡ length ys) × Φ r zs) (‵ (flft (ν ∷ []) fullShare) ⊛ ‵ (Q .own r (w ∷ [])) ⊛ ‵ (finally R δ zs)))))) (id⊢ 𝓤 _) $ await t tt $ pick t (λ r. pick t (λ zs. learn t (λ h. split t $ move t (1 ∷ []) $ split t $
-      move t (2 ∷ []) $ lft-end t tt $ move t (0 ∷ 3 ∷ 2 ∷ []) $
-      use3 W (later (‵ (Arr (mem R) (length ys) .lies zs b 0))) (slice-back 𝓤 H A W R (ν ∷ []) δ zs (length ys) b 0) $ await t tt $ fsplit t $ drop t $ use1 W (‵ (row R fullShare zs b 0)) (whole-out 𝓤 H A W R zs b 0) $
-      feqI t ℕ (length zs) n (h .0 ∙ e) $ fjoin t $ use1 W (‵ (partAt (Array R n) fullShare zs b 0)) (array-whole 𝓤 H A W R fullShare n zs b 0) $ k w r zs (h .0 ∙ e) (h .1)))))))
+      -- [what r owns; the last list; the lifetime's token; what the lender keeps; …]
+      move t (2 ∷ 1 ∷ 3 ∷ []) $ comes-array t tt R b n ys zs ν δ e (h .0) (k w r zs (h .0 ∙ e) (h .1)))))))
 
 module _ {M : Type 1} {𝓤 : URA M} {H : Heap 𝓤} {A : Atoms 𝓤} {K : Type 0} {W : Given 𝓤 H A} {Γ : List (Item 𝓤)} {E : Env 𝓤 H} {C : Calls 𝓤 H} {Λ : Loops 𝓤 H} {q : Post 𝓤 H} where
   pub falls : K → {c : Operand} {a b : Body} → Opd K W Γ E c (vbool false) → Step K W Γ (runs C Λ E b q) Γ (runs C Λ E (seq (cond c a skip) b) q)
