@@ -1,3 +1,9 @@
--- The proofs of `ask`: laws by subject, lowest first.
+-- The proofs of `ask`: laws by subject, lowest first, then a module for each callee, and a call of it.
 pub mod Plans
 pub mod Answered
+pub mod JudgeCall
+pub mod AcceptsCall
+mod RefusedCall
+pub mod ClearNeededCall
+mod AskedOfCall
+pub mod AskCall

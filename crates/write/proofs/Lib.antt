@@ -2,8 +2,15 @@
 pub mod Heads
 mod Nexts
 mod Rows
+mod Tables
 mod FirstRowCall
 mod RowJobCall
 mod PutRowCall
 mod NextRowCall
 pub mod PutOutputsCall
+mod SharedArray
+mod PutFrontCall
+mod LayoutForCall
+mod CountsOfCall
+mod PutBackCall
+pub mod WriteTableCall

@@ -4,9 +4,10 @@ use Rattle.folded.proofs.proved.Tie as tie
 use Rattle.folded.proofs.Matching.{matches-bits}
 use Rattle.folded.proofs.Theorems.{foldings}
 use Rattle.folded.proofs.Plans.{askings, committing}
+use Rattle.folded.proofs.Nodes.{too-many-nodes, more-nodes}
 
 returns : tie.Need-returns
-returns c = (matches-bits, (foldings, (askings, committing)))
+returns c = (matches-bits, (foldings, (askings, (committing, (too-many-nodes, more-nodes)))))
 
 pub proved-spec : {M : Type 1} → statement M
 proved-spec = tie.close (tie.spec returns)

@@ -1,0 +1,2 @@
+-- The proofs of `tff`: a module for each callee of a walk.
+mod PutAskCall
