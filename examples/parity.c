@@ -21,17 +21,21 @@ int main(void) {
                                2, 0, 3, 0, 7, 0, 2, 0, 11, 0,   /* left literals */
                                5, 0, 4, 0, 9, 0, 1, 0, 1, 0};   /* right literals */
     uint16_t scratch[8];
+    tff_node nodes[7];                                          /* parity has seven distinct nodes */
     uint8_t table[40], reached[40], drawn[76];
     uint64_t asked[23], answer[5];
     const uint64_t *plan = asked + 2;                           /* n, m, T, states of layers 0 to 16, bytes */
 
-    tff_ask(circuit, sizeof circuit, scratch, 8, asked, 23);
+    tff_ask(circuit, sizeof circuit, scratch, 8, nodes, 6, asked, 23);
+    printf("ask with 6 records: %d, %d\n", (int)asked[0], (int)asked[1]);
+
+    tff_ask(circuit, sizeof circuit, scratch, 8, nodes, 7, asked, 23);
     printf("ask: %d, %d: n %d, m %d, T %d, states", (int)asked[0], (int)asked[1], (int)plan[0], (int)plan[1],
            (int)plan[2]);
     for (unsigned t = 0; t <= plan[2]; t++) printf(" %d", (int)plan[3 + t]);
     printf(", %d bytes\n", (int)plan[20]);
 
-    tff_commit(circuit, sizeof circuit, plan, 21, scratch, 8, table, sizeof table, answer, 2);
+    tff_commit(circuit, sizeof circuit, plan, 21, scratch, 8, nodes, 7, table, sizeof table, answer, 2);
     printf("commit: %d, %d\n", (int)answer[0], (int)answer[1]);
 
     unsigned frames = word(table, 2), connected = 4 + frames, entry = connected + frames, entries = 0;

@@ -20,10 +20,11 @@ int main(void) {
                                2, 0, 3, 0, 7, 0, 2, 0, 255, 255, 11, 0, 6, 0,   /* left literals */
                                5, 0, 4, 0, 9, 0, 1, 0, 255, 255, 1, 0, 1, 0};   /* right literals */
     uint16_t scratch[8], words[2], outputs[2], seen[2];
+    tff_node nodes[7];
     uint8_t table[40];
     uint64_t answer[4];
 
-    tff_fold(circuit, sizeof circuit, scratch, 8, table, sizeof table, answer, 2);
+    tff_fold(circuit, sizeof circuit, scratch, 8, nodes, 7, table, sizeof table, answer, 2);
     if (answer[0]) return 1;
 
     for (unsigned sequence = 0; sequence < 4; sequence++) {

@@ -49,10 +49,13 @@
  *   15      index of the window from 0  first bad window; else 32 where there are above 32
  *   16      0                           minute above 10,079
  *   17      0                           mask of 2^m or more
+ *   18      g                           inputs and gates 1 to g have more distinct nodes than there
+ *                                       are records, and g is the smallest such; 0: inputs alone
  *
- * A refused call changes nothing but answer and, as said here, scratch. tff_fold, tff_ask and
- * tff_commit need 2 * 2^(n*T) numbers of scratch. These end as zeros where the call is accepted, or
- * refused with 14 or 7; scratch beyond them is never changed.
+ * A refused call changes nothing but answer and, as said here, scratch and nodes. tff_fold, tff_ask
+ * and tff_commit need 2 * 2^(n*T) numbers of scratch. These end as zeros where the call is accepted,
+ * or refused with 18, 14 or 7, and so does every record of nodes, used or not; scratch beyond them is
+ * never changed.
  */
 
 #ifndef TFF_H
@@ -78,27 +81,43 @@ void tff_simulate(const uint8_t *circuit, size_t circuit_len,
                   uint16_t *result, size_t result_len,
                   uint64_t *answer, size_t answer_len);
 
+/* A record of the list that tff_fold, tff_ask and tff_commit are lent for decision diagrams: room for
+ * one node, which is an input and two branches. Records may hold anything before a call.
+ *
+ * The nodes of signals are the distinct functions, not constant, that remain of them when the first k
+ * inputs are fixed, in the order of signals, and that depend on input k+1. All n*T inputs are counted,
+ * read or not, and dead gates too; a function and its inverse are two; an unconnected output is
+ * constant. So n*T records are the fewest that serve any circuit, and 16,838,670 serve all. */
+typedef struct tff_node {
+    uint32_t level;
+    uint32_t low;
+    uint32_t high;
+} tff_node;
+
 /* Puts into result the table of the circuit, with the fewest states at every layer and the same
- * outputs connected. Refuses as the check, then 6, 7. Accepted: place is the bytes written. */
+ * outputs connected. Refuses as the check, then 6, 18, 7. Accepted: place is the bytes written. */
 void tff_fold(const uint8_t *circuit, size_t circuit_len,
               uint16_t *scratch, size_t scratch_len,
+              tff_node *nodes, size_t nodes_len,
               uint8_t *result, size_t result_len,
               uint64_t *answer, size_t answer_len);
 
 /* The plan of a circuit: what its table takes, without writing it. Answers 23 values: number, place
  * and the 21 numbers of the plan, which are n, m, T, the state counts of layers 0 to 16, 0 beyond T,
  * and the bytes of the table; which outputs are connected is no part of it. Refuses as the check,
- * then 6, with a plan of zeros. Accepted: place 0. */
+ * then 6, 18, with a plan of zeros. Accepted: place 0. */
 void tff_ask(const uint8_t *circuit, size_t circuit_len,
              uint16_t *scratch, size_t scratch_len,
+             tff_node *nodes, size_t nodes_len,
              uint64_t *answer, size_t answer_len);
 
 /* Puts into result the table of the circuit as tff_fold does, but only where plan is just the 21
- * numbers that tff_ask returns for it. Refuses as the check, then 6, 14 (a plan of another length as
- * well), 7. Accepted: place is the bytes written. */
+ * numbers that tff_ask returns for it. Refuses as the check, then 6, 18, 14 (a plan of another length
+ * as well), 7. Accepted: place is the bytes written. */
 void tff_commit(const uint8_t *circuit, size_t circuit_len,
                 const uint64_t *plan, size_t plan_len,
                 uint16_t *scratch, size_t scratch_len,
+                tff_node *nodes, size_t nodes_len,
                 uint8_t *result, size_t result_len,
                 uint64_t *answer, size_t answer_len);
 

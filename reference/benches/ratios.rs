@@ -2,14 +2,20 @@
 //! asking and committing beside folding, of pricing beside checking, of steps with quiet hours beside
 //! steps without, of views beside runs, and of a layer's outputs beside checking, all proved.
 //!
-//! The two take turns in one run; a line gives their median times and the ratio of these.
+//! The two take turns in one run; a line gives their median times and the ratio of these. Folding is
+//! measured beside plain Rust of the same algorithm, with the circuit's nodes and states behind the
+//! ratio, and then beside a linear search for states without nodes.
 
 use std::hint::black_box;
 use std::time::Instant;
 
-use reference::gen::{any_sequence, any_sequences, any_windows, circuits, look_ahead, tables, Rng};
+use reference::diagrams::nodes_made;
+use reference::gen::{
+    any_sequence, any_sequences, any_windows, circuits, look_ahead, machines, tables, Rng,
+};
+use reference::program::NODE_RECORDS as LENT;
 use reference::quiet::MOST_WINDOWS;
-use reference::{examples, Circuit, Sizes, Table};
+use reference::{examples, Circuit, Node, Sizes, Table};
 
 /// For calls of which one is too short to be measured alone.
 const MANY_CALLS: Runs = Runs {
@@ -21,8 +27,12 @@ fn main() {
     heading("proved", "plain");
     circuit_level();
     table_level();
-    fold_level();
     unfold_level();
+    heading("fold, proved", "plain");
+    fold_with_few_patterns();
+    fold_without_patterns();
+    heading("fold, proved", "by search");
+    fold_beside_search();
     heading("ask", "fold");
     each_planned(ask_beside_fold);
     heading("commit", "fold");
@@ -229,19 +239,64 @@ fn most_states() -> Vec<u8> {
     tables::connected(&mut Rng::new(1), sizes, counts).to_bytes()
 }
 
-/// Folding with the most sequences, to few and to many states.
-fn fold_level() {
-    for (inputs, frames) in [(1, 16), (2, 8), (4, 4), (8, 2)] {
-        for (kind, circuit) in few_and_many_states(inputs, frames) {
-            fold_line(kind, &circuit);
+/// Folding circuits that have few distinct nodes, with the most sequences.
+fn fold_with_few_patterns() {
+    for (kind, circuit) in [
+        ("counter", machines::counter(1, 16)),
+        ("counter", machines::counter(2, 8)),
+        ("adder", machines::adder(8)),
+        ("comparator", machines::comparator(8)),
+        ("s27", examples::s27_over(4)),
+        ("b01", machines::b01(8)),
+        ("b02", machines::b02(16)),
+        ("repeats", machines::repeats(16)),
+    ] {
+        fold_line(kind, &circuit);
+        fold_full_line(kind, &circuit);
+        fold_line(kind, &machines::padded(&circuit, Circuit::MOST_GATES));
+    }
+    for (kind, circuit) in fold_cases() {
+        fold_line(kind, &circuit);
+    }
+}
+
+/// Folding circuits of which nearly every function is another.
+fn fold_without_patterns() {
+    for (inputs, frames, gates) in [(2, 8, 500), (4, 4, 500), (8, 2, 500), (2, 8, 4_096)] {
+        let sizes = Sizes::new(inputs, 2, frames);
+        let circuit = circuits::scrambled(&mut Rng::new(1), sizes, gates);
+        fold_line("no pattern", &circuit);
+        if gates == 500 {
+            fold_full_line("no pattern", &circuit);
         }
     }
-    // Most gates of those above depend on no late input, so they seldom have to be evaluated again.
+}
+
+/// Circuits with the most sequences, that fold to few and to many states.
+fn fold_cases() -> Vec<(&'static str, Circuit)> {
+    let mut all = Vec::new();
+    for (inputs, frames) in [(1, 16), (2, 8), (4, 4), (8, 2)] {
+        all.extend(few_and_many_states(inputs, frames));
+    }
     let mut rng = Rng::new(1);
     let sizes = Sizes::new(2, 2, 8);
-    fold_line("frame by frame", &circuits::unrolled(&mut rng, sizes, 150));
+    all.push(("frame by frame", circuits::unrolled(&mut rng, sizes, 150)));
     let any_order = circuits::connected(&mut rng, sizes, Circuit::MOST_GATES);
-    fold_line("any order", &any_order);
+    all.push(("any order", any_order));
+    all
+}
+
+fn fold_beside_search() {
+    for (kind, circuit) in fold_cases() {
+        let file = circuit.to_bytes();
+        let few = Runs { runs: 3, calls: 1 };
+        few.measure(
+            &named(kind, &circuit),
+            &mut fold_memory(LENT.max(nodes_made(&circuit))),
+            |(scratch, nodes, result)| tff::fold(black_box(&file), scratch, nodes, result),
+            |(scratch, _, result)| reference::plain_fold(black_box(&file), scratch, result),
+        );
+    }
 }
 
 /// Circuits that fold to few and to many states, with 200 gates and with the most.
@@ -277,15 +332,38 @@ fn unfold_level() {
     );
 }
 
+/// Folding with as many records as the folding program lends, or twice the nodes where that is too
+/// few.
 fn fold_line(kind: &str, circuit: &Circuit) {
-    let case = format!("fold {}", named(kind, circuit));
-    let circuit = circuit.to_bytes();
-    let few = Runs { runs: 3, calls: 1 };
-    few.measure(
-        &case,
-        &mut fold_memory(),
-        |(scratch, result)| tff::fold(black_box(&circuit), scratch, result),
-        |(scratch, result)| reference::plain_fold(black_box(&circuit), scratch, result),
+    let nodes = nodes_made(circuit);
+    let records = if nodes > LENT { 2 * nodes } else { LENT };
+    fold_in(kind, circuit, nodes, records);
+}
+
+/// Folding with just as many records as there are nodes.
+fn fold_full_line(kind: &str, circuit: &Circuit) {
+    let nodes = nodes_made(circuit);
+    fold_in(&format!("{kind}, full"), circuit, nodes, nodes);
+}
+
+fn fold_in(kind: &str, circuit: &Circuit, nodes: usize, records: usize) {
+    let file = circuit.to_bytes();
+    let mut memory = fold_memory(records);
+    let (scratch, list, result) = &mut memory;
+    let answer = tff::fold(&file, scratch, list, result);
+    assert_eq!(answer.number, 0);
+    let table = Table::read(&result[..answer.place as usize]).expect("a legal table");
+    let states: usize = table.head.counts.into_iter().map(usize::from).sum();
+    // Long ones are measured less often.
+    let runs = if nodes > 50_000 { 3 } else { 15 };
+    Runs { runs, calls: 1 }.measure_noted(
+        &named(kind, circuit),
+        &format!("{nodes} nodes, {states} states"),
+        &mut (memory, vec![[0; 3]; records]),
+        |((scratch, nodes, result), _)| tff::fold(black_box(&file), scratch, nodes, result),
+        |((scratch, _, result), nodes): &mut (FoldMemory, Vec<Node>)| {
+            reference::fold_diagrams(black_box(&file), scratch, nodes, result)
+        },
     );
 }
 
@@ -294,9 +372,12 @@ fn named(kind: &str, circuit: &Circuit) -> String {
     format!("{inputs}x{frames}, {} gates, {kind}", circuit.gates())
 }
 
-/// Scratch and result that suffice for every circuit.
-fn fold_memory() -> (Vec<u16>, Vec<u8>) {
-    (vec![0; 1 << 17], vec![0; 1 << 20])
+type FoldMemory = (Vec<u16>, Vec<tff::Node>, Vec<u8>);
+
+/// Scratch and result that suffice for every circuit, and so many records.
+fn fold_memory(records: usize) -> FoldMemory {
+    let nodes = vec![tff::Node::default(); records];
+    (vec![0; 1 << 17], nodes, vec![0; 1 << 20])
 }
 
 /// A line for each circuit whose plan is asked for and committed to: a small one, and some with the
@@ -316,21 +397,21 @@ fn each_planned(line: fn(&str, &Runs, &[u8])) {
 fn ask_beside_fold(case: &str, runs: &Runs, circuit: &[u8]) {
     runs.measure(
         case,
-        &mut fold_memory(),
-        |(scratch, _)| tff::ask(black_box(circuit), scratch),
-        |(scratch, result)| tff::fold(black_box(circuit), scratch, result),
+        &mut fold_memory(LENT),
+        |(scratch, nodes, _)| tff::ask(black_box(circuit), scratch, nodes),
+        |(scratch, nodes, result)| tff::fold(black_box(circuit), scratch, nodes, result),
     );
 }
 
 /// What it costs to judge a plan, here the right one, before the table is written.
 fn commit_beside_fold(case: &str, runs: &Runs, circuit: &[u8]) {
-    let mut memory = fold_memory();
-    let plan = tff::ask(circuit, &mut memory.0).expect("a legal circuit");
+    let mut memory = fold_memory(LENT);
+    let plan = tff::ask(circuit, &mut memory.0, &mut memory.1).expect("few nodes");
     runs.measure(
         case,
         &mut memory,
-        |(scratch, result)| tff::commit(black_box(circuit), &plan, scratch, result),
-        |(scratch, result)| tff::fold(black_box(circuit), scratch, result),
+        |(scratch, nodes, result)| tff::commit(black_box(circuit), &plan, scratch, nodes, result),
+        |(scratch, nodes, result)| tff::fold(black_box(circuit), scratch, nodes, result),
     );
 }
 
@@ -349,6 +430,18 @@ impl Runs {
         first: impl Fn(&mut Memory) -> A,
         second: impl Fn(&mut Memory) -> B,
     ) {
+        self.measure_noted(case, "", memory, first, second);
+    }
+
+    /// The same with a note behind it.
+    fn measure_noted<Memory, A, B>(
+        &self,
+        case: &str,
+        note: &str,
+        memory: &mut Memory,
+        first: impl Fn(&mut Memory) -> A,
+        second: impl Fn(&mut Memory) -> B,
+    ) {
         let (mut first_times, mut second_times) = (Vec::new(), Vec::new());
         for _ in 0..self.runs {
             first_times.push(self.time(memory, &first));
@@ -356,7 +449,8 @@ impl Runs {
         }
         let [first, second] = [first_times, second_times].map(median);
         let ratio = first / second;
-        println!("{case:<42} {first:>10.4} ms {second:>10.4} ms {ratio:>7.3}");
+        let line = format!("{case:<42} {first:>10.4} ms {second:>10.4} ms {ratio:>7.3}  {note}");
+        println!("{}", line.trim_end());
     }
 
     /// Milliseconds that a call takes.

@@ -39,6 +39,9 @@ pub const WINDOW: u64 = 15;
 pub const MINUTE: u64 = 16;
 /// A mask with bits beyond the outputs of a frame; place: 0.
 pub const MASK: u64 = 17;
+/// Too few records for the nodes; place: the first gate whose nodes are too many with all before it,
+/// from 1, or 0 for those of the inputs alone.
+pub const NODES: u64 = 18;
 
 pub fn accepted(place: usize) -> Answer {
     (0, place as u64)

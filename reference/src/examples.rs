@@ -78,12 +78,17 @@ fn adder_with_empty(empty: u16) -> Circuit {
     gates.finish(&outputs)
 }
 
-/// ISCAS-89 circuit s27 over three frames, its flip-flops false at first. Signals are named as there.
+/// ISCAS-89 circuit s27 over three frames.
 pub fn s27() -> Circuit {
-    let mut gates = Gates::new(Sizes::new(4, 1, 3));
+    s27_over(3)
+}
+
+/// ISCAS-89 circuit s27, its flip-flops false at first. Signals are named as there.
+pub fn s27_over(frames: usize) -> Circuit {
+    let mut gates = Gates::new(Sizes::new(4, 1, frames));
     let [mut g5, mut g6, mut g7] = [FALSE; 3];
     let mut outputs = Vec::new();
-    for frame in 0..3 {
+    for frame in 0..frames {
         let [g0, g1, g2, g3] = [0, 1, 2, 3].map(|input| gates.input(frame, input));
         let g14 = not(g0);
         let g8 = gates.and(g14, g6);

@@ -5,41 +5,38 @@ use std::ops::Range;
 
 use crate::answer::{deliver, refused, Answer, SCRATCH};
 use crate::circuit::Circuit;
+use crate::nodes::{judge_nodes, Node};
 use crate::sizes::Sizes;
 use crate::table::{Head, Table};
 
 /// Puts the circuit's table at the front of `result`.
-pub fn fold(circuit: &[u8], scratch: &mut [u16], result: &mut [u8]) -> Answer {
-    fold_by(table_by_definition, circuit, scratch, result)
-}
-
-/// Folding with any way to find the table: what is judged, and what becomes of the slices.
-pub fn fold_by(
-    table_of: fn(&Circuit) -> Table,
-    circuit: &[u8],
-    scratch: &mut [u16],
-    result: &mut [u8],
-) -> Answer {
-    match table_in(table_of, circuit, scratch) {
+pub fn fold(circuit: &[u8], scratch: &mut [u16], nodes: &mut [Node], result: &mut [u8]) -> Answer {
+    match table_in(circuit, scratch, nodes) {
         Ok(table) => deliver(&table.to_bytes(), result),
         Err(refusal) => refusal,
     }
 }
 
-/// The circuit's table, if the circuit passes every check and `scratch` is long enough. The part of
-/// `scratch` that is needed ends as zeros.
-pub fn table_in(
-    table_of: fn(&Circuit) -> Table,
-    circuit: &[u8],
-    scratch: &mut [u16],
-) -> Result<Table, Answer> {
+/// The circuit's table, if the circuit passes every check, `scratch` is long enough and there are as
+/// many records as distinct nodes. Once `scratch` is long enough, the part of it that is needed and all
+/// records end as zeros.
+pub fn table_in(circuit: &[u8], scratch: &mut [u16], nodes: &mut [Node]) -> Result<Table, Answer> {
+    let circuit = circuit_for(circuit, scratch)?;
+    nodes.fill([0; 3]);
+    judge_nodes(&circuit, nodes.len())?;
+    Ok(table_by_definition(&circuit))
+}
+
+/// The circuit, if it passes every check and `scratch` is long enough, which is then cleared as far as
+/// it is needed.
+pub fn circuit_for(circuit: &[u8], scratch: &mut [u16]) -> Result<Circuit, Answer> {
     let circuit = Circuit::read(circuit)?;
     let needed = 2 * circuit.sizes.histories(circuit.sizes.frames);
     if scratch.len() < needed {
         return Err(refused(SCRATCH, needed));
     }
     scratch[..needed].fill(0);
-    Ok(table_of(&circuit))
+    Ok(circuit)
 }
 
 /// The histories one word longer than `history`, by that word.
@@ -48,7 +45,7 @@ pub fn successors(sizes: &Sizes, history: usize) -> Range<usize> {
 }
 
 /// The table whose states are the classes of equivalent histories.
-pub fn table_by_definition(circuit: &Circuit) -> Table {
+fn table_by_definition(circuit: &Circuit) -> Table {
     let sizes = circuit.sizes;
     let sequences = circuit.outputs_on_all_sequences();
     let states: Vec<Vec<u16>> = (0..=sizes.frames)

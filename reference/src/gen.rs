@@ -2,6 +2,7 @@
 
 pub mod circuits;
 pub mod look_ahead;
+pub mod machines;
 pub mod tables;
 
 use crate::quiet::WEEK;

@@ -11,10 +11,12 @@
 
 pub mod answer;
 pub mod circuit;
+pub mod diagrams;
 pub mod examples;
 pub mod fold;
 pub mod gates;
 pub mod gen;
+pub mod nodes;
 pub mod plain_fold;
 pub mod plan;
 pub mod price;
@@ -30,8 +32,10 @@ pub mod words;
 
 pub use answer::Answer;
 pub use circuit::{check_circuit, simulate, Circuit};
+pub use diagrams::fold_diagrams;
 pub use fold::fold;
 pub use gates::Gates;
+pub use nodes::{node_counts, nodes_needed, Node};
 pub use plain_fold::plain_fold;
 pub use plan::{ask, commit, Asked, Plan};
 pub use price::{price, Priced};

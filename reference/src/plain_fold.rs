@@ -1,14 +1,18 @@
-//! Folding one sequence at a time and by linear search: what the benchmarks measure against.
+//! Folding one sequence at a time and by linear search, without nodes: one of two ways that the
+//! benchmarks measure against.
 
-use crate::answer::Answer;
+use crate::answer::{deliver, Answer};
 use crate::circuit::Circuit;
-use crate::fold::{fold_by, successors};
+use crate::fold::{circuit_for, successors};
 use crate::sizes::Sizes;
 use crate::table::{Head, Table};
 
-/// Answers and changes the slices as `fold` does.
+/// Answers and changes the slices as `fold` does with enough records.
 pub fn plain_fold(circuit: &[u8], scratch: &mut [u16], result: &mut [u8]) -> Answer {
-    fold_by(table_by_search, circuit, scratch, result)
+    match circuit_for(circuit, scratch) {
+        Ok(circuit) => deliver(&table_by_search(&circuit).to_bytes(), result),
+        Err(refusal) => refusal,
+    }
 }
 
 /// What the entries of a layer are found from, by histories one word longer.

@@ -1,7 +1,8 @@
 //! Asking for the plan of a circuit, and folding the circuit only as planned.
 
 use crate::answer::{deliver, refused, Answer, PLAN};
-use crate::fold::{table_by_definition, table_in};
+use crate::fold::table_in;
+use crate::nodes::Node;
 use crate::table::Table;
 
 /// n, m, T, the counts of states of layers 0 to 16, 0 beyond T, and the bytes of the table.
@@ -26,8 +27,13 @@ impl From<Asked> for [u64; 23] {
 }
 
 /// The plan of the circuit, place 0 where it is accepted.
-pub fn ask(circuit: &[u8], scratch: &mut [u16]) -> Asked {
-    match table_in(table_by_definition, circuit, scratch) {
+pub fn ask(circuit: &[u8], scratch: &mut [u16], nodes: &mut [Node]) -> Asked {
+    asked(table_in(circuit, scratch, nodes))
+}
+
+/// What asking answers for the table that folding finds, or for its refusal.
+pub fn asked(found: Result<Table, Answer>) -> Asked {
+    match found {
         Ok(table) => Asked {
             number: 0,
             place: 0,
@@ -42,8 +48,19 @@ pub fn ask(circuit: &[u8], scratch: &mut [u16]) -> Asked {
 }
 
 /// Puts the circuit's table at the front of `result`, if `plan` is the circuit's.
-pub fn commit(circuit: &[u8], plan: &[u64], scratch: &mut [u16], result: &mut [u8]) -> Answer {
-    match table_in(table_by_definition, circuit, scratch) {
+pub fn commit(
+    circuit: &[u8],
+    plan: &[u64],
+    scratch: &mut [u16],
+    nodes: &mut [Node],
+    result: &mut [u8],
+) -> Answer {
+    committed(table_in(circuit, scratch, nodes), plan, result)
+}
+
+/// What committing to `plan` answers and writes for the table that folding finds, or for its refusal.
+pub fn committed(found: Result<Table, Answer>, plan: &[u64], result: &mut [u8]) -> Answer {
+    match found {
         Ok(table) if plan == plan_of(&table) => deliver(&table.to_bytes(), result),
         Ok(_) => refused(PLAN, 0),
         Err(refusal) => refusal,

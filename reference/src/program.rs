@@ -7,13 +7,16 @@ use crate::table::Table;
 pub const MOST_READ: usize = 16_393;
 /// Lengths of the slices that the program gives to folding.
 pub const SCRATCH_NUMBERS: usize = 8_192;
+pub const NODE_RECORDS: usize = 16_384;
 pub const RESULT_BYTES: usize = 24_576;
 
 /// The lines printed for `input` on standard input.
 pub fn printed(input: &[u8]) -> String {
     let circuit = &input[..input.len().min(MOST_READ)];
+    let mut scratch = vec![0; SCRATCH_NUMBERS];
+    let mut nodes = vec![[0; 3]; NODE_RECORDS];
     let mut result = vec![0; RESULT_BYTES];
-    match fold(circuit, &mut vec![0; SCRATCH_NUMBERS], &mut result) {
+    match fold(circuit, &mut scratch, &mut nodes, &mut result) {
         (0, bytes) => {
             let table = Table::read(&result[..bytes as usize]).expect("folding writes a table");
             counts_printed(&table.head.counts)

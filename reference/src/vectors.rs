@@ -31,9 +31,24 @@ pub const UNCONNECTED_UNFOLDED: [[u16; 16]; 2] = [
     [3, 2, 6, 8, 11, 13, 5, 4, 18, 20, 18, 20, 25, 27, 65_535, 1],
 ];
 
-/// Folding parity: numbers of scratch, bytes of result, answer.
-pub const PARITY_FOLDED: [(usize, usize, Answer); 3] =
-    [(7, 40, (6, 8)), (8, 39, (7, 40)), (8, 40, (0, 40))];
+/// Nodes of parity's inputs, then with gates 1 to 5.
+pub const PARITY_NODES: [usize; 6] = [2, 4, 5, 6, 6, 7];
+
+/// Folding parity: numbers of scratch, records, bytes of result, answer.
+pub const PARITY_FOLDED: [(usize, usize, usize, Answer); 12] = [
+    (7, 7, 40, (6, 8)),
+    (7, 0, 0, (6, 8)),
+    (8, 0, 40, (18, 0)),
+    (8, 1, 40, (18, 0)),
+    (8, 2, 40, (18, 1)),
+    (8, 3, 40, (18, 1)),
+    (8, 4, 40, (18, 2)),
+    (8, 5, 40, (18, 3)),
+    (8, 6, 40, (18, 5)),
+    (8, 6, 39, (18, 5)),
+    (8, 7, 39, (7, 40)),
+    (8, 7, 40, (0, 40)),
+];
 
 /// Circuits and what checking them answers.
 pub fn checked() -> Vec<(Vec<u8>, Answer)> {
@@ -166,21 +181,31 @@ mod tests {
     use crate::gen::{circuits, Rng};
     use crate::program::printed;
     use crate::{
-        ask, check_circuit, check_table, commit, fold, layer_outputs, plain_fold, quiet_step, run,
-        simulate, step, unfold, view, Position, Sizes, Table,
+        ask, check_circuit, check_table, commit, fold, fold_diagrams, layer_outputs, node_counts,
+        nodes_needed, plain_fold, quiet_step, run, simulate, step, unfold, view, Node, Position,
+        Sizes, Table,
     };
 
-    /// The table that a circuit folds to; both ways to fold must find the same.
+    /// The table that a circuit folds to, with just enough records; all three ways to fold must find
+    /// the same.
     fn folded(circuit: &Circuit) -> Vec<u8> {
+        let records = nodes_needed(circuit);
         let circuit = circuit.to_bytes();
-        let [by_definition, by_search] = [fold, plain_fold].map(|fold| {
-            let mut result = vec![0xee; 1 << 14];
-            let (number, length) = fold(&circuit, &mut vec![7; 1 << 13], &mut result);
-            assert_eq!(number, 0);
-            assert!(result[length as usize..].iter().all(|&byte| byte == 0xee));
-            result.truncate(length as usize);
-            result
-        });
+        let by_search = |circuit: &[u8], scratch: &mut [u16], _: &mut [Node], result: &mut [u8]| {
+            plain_fold(circuit, scratch, result)
+        };
+        let [by_definition, by_diagrams, by_search] =
+            [fold, fold_diagrams, by_search].map(|fold| {
+                let mut nodes = vec![[7; 3]; records];
+                let mut result = vec![0xee; 1 << 14];
+                let (number, length) =
+                    fold(&circuit, &mut vec![7; 1 << 13], &mut nodes, &mut result);
+                assert_eq!(number, 0);
+                assert!(result[length as usize..].iter().all(|&byte| byte == 0xee));
+                result.truncate(length as usize);
+                result
+            });
+        assert!(by_definition == by_diagrams);
         assert!(by_definition == by_search);
         by_definition
     }
@@ -272,39 +297,64 @@ mod tests {
 
     /// A call with so much room gives this answer and leaves what belongs to it.
     fn assert_left(
-        (numbers, bytes): (usize, usize),
+        (numbers, records, bytes): (usize, usize, usize),
         answer: Answer,
-        call: impl FnOnce(&mut [u16], &mut [u8]) -> Answer,
+        call: impl FnOnce(&mut [u16], &mut [Node], &mut [u8]) -> Answer,
     ) {
         let (mut scratch, mut result) = (vec![7; numbers + 1], vec![0xee; bytes]);
-        assert_eq!(call(&mut scratch[..numbers], &mut result), answer);
-        // Enough scratch is cleared and no more of it; a refusal leaves the result.
-        let cleared = if answer.0 == 6 { 0 } else { 8 };
+        let mut nodes = vec![[7; 3]; records];
+        let found = call(&mut scratch[..numbers], &mut nodes, &mut result);
+        assert_eq!(found, answer);
+        // Enough scratch is cleared and no more of it, and so are all records; a refusal leaves the
+        // result.
+        let (cleared, left) = if answer.0 == 6 {
+            (0, [7; 3])
+        } else {
+            (8, [0; 3])
+        };
         assert!(scratch[..cleared].iter().all(|&number| number == 0));
         assert!(scratch[cleared..].iter().all(|&number| number == 7));
+        assert!(nodes.iter().all(|&node| node == left));
         assert_eq!(answer.0 != 0, result.iter().all(|&byte| byte == 0xee));
     }
 
     #[test]
-    fn scratch_and_result_are_judged_as_given() {
+    fn lent_slices_are_judged_as_given() {
         let circuit = examples::parity().to_bytes();
-        for (numbers, bytes, answer) in PARITY_FOLDED {
-            assert_left((numbers, bytes), answer, |scratch, result| {
-                fold(&circuit, scratch, result)
-            });
+        for (numbers, records, bytes, answer) in PARITY_FOLDED {
+            for fold in [fold, fold_diagrams] {
+                assert_left(
+                    (numbers, records, bytes),
+                    answer,
+                    |scratch, nodes, result| fold(&circuit, scratch, nodes, result),
+                );
+            }
         }
     }
 
     #[test]
-    fn a_plan_is_judged_after_scratch_and_before_result() {
+    fn a_plan_is_judged_after_scratch_and_nodes_and_before_result() {
         let circuit = examples::parity().to_bytes();
-        for (numbers, bytes, answer) in PARITY_FOLDED {
-            let refusal = if answer.0 == 6 { answer } else { (14, 0) };
+        for (numbers, records, bytes, answer) in PARITY_FOLDED {
+            let refusal = if matches!(answer.0, 6 | 18) {
+                answer
+            } else {
+                (14, 0)
+            };
             for (plan, answer) in [(&PARITY_PLAN[..], answer), (&PARITY_PLAN[..20], refusal)] {
-                assert_left((numbers, bytes), answer, |scratch, result| {
-                    commit(&circuit, plan, scratch, result)
-                });
+                assert_left(
+                    (numbers, records, bytes),
+                    answer,
+                    |scratch, nodes, result| commit(&circuit, plan, scratch, nodes, result),
+                );
             }
+        }
+    }
+
+    #[test]
+    fn parity_has_the_given_nodes() {
+        for circuit in [examples::parity(), examples::unconnected()] {
+            assert!(node_counts(&circuit).eq(PARITY_NODES));
         }
     }
 
@@ -312,10 +362,12 @@ mod tests {
     fn parity_has_the_given_plan() {
         for circuit in [examples::parity(), examples::unconnected()] {
             let mut scratch = [7; 9];
-            let asked = ask(&circuit.to_bytes(), &mut scratch);
+            let mut nodes = [[7; 3]; 8];
+            let asked = ask(&circuit.to_bytes(), &mut scratch, &mut nodes);
             assert_eq!((asked.number, asked.place), (0, 0));
             assert_eq!(asked.plan, PARITY_PLAN);
             assert_eq!(scratch, [0, 0, 0, 0, 0, 0, 0, 0, 7]);
+            assert_eq!(nodes, [[0; 3]; 8]);
         }
     }
 
@@ -381,7 +433,7 @@ mod tests {
     }
 
     #[test]
-    fn both_ways_to_fold_agree() {
+    fn all_ways_to_fold_agree() {
         let mut rng = Rng::new(1);
         for _ in 0..300 {
             folded(&circuits::any_legal(&mut rng, 8, 60));
@@ -412,7 +464,8 @@ mod tests {
         let sizes = Sizes::new(1, 11, 16);
         let circuit = circuits::many_states(sizes, 200).to_bytes();
         let mut result = vec![0; 1 << 20];
-        assert_eq!(fold(&circuit, &mut vec![0; 1 << 17], &mut result).0, 0);
+        let (mut scratch, mut nodes) = (vec![0; 1 << 17], vec![[0; 3]; 1 << 10]);
+        assert_eq!(fold(&circuit, &mut scratch, &mut nodes, &mut result).0, 0);
         let mut counts: Vec<u16> = (0..16).map(|layer| 1 << layer).collect();
         counts.push(1);
         assert_eq!(result[6..40], to_bytes(&counts));

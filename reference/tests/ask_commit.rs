@@ -6,89 +6,30 @@ mod common;
 mod folded;
 #[path = "common/folding.rs"]
 mod folding;
+#[path = "common/planning.rs"]
+mod planning;
 #[path = "common/to_fold.rs"]
 mod to_fold;
 
 use std::collections::BTreeSet;
 
-use common::{compare, seeds, short_answers_change_nothing, Case, Room, Seen};
+use common::{seeds, short_answers_change_nothing, Room, Seen};
 use folded::folded;
 use folding::{ample, call_fold, fold, longest_table, scratch_needed};
+use planning::{ask, ask_case, call_ask, call_commit, commit, commit_case, committed};
 use reference::gates::{FALSE, UNCONNECTED};
 use reference::gen::{all_sizes, any_sizes, circuits, look_ahead, sizes_with, Rng};
 use reference::vectors::{self, PARITY_FOLDED, PARITY_PLAN, PARITY_TABLE};
 use reference::words::{set_word, to_bytes, word_at, words_at};
-use reference::{examples, Circuit, Plan, Sizes};
+use reference::{examples, node_counts, nodes_needed, Circuit, Plan, Sizes};
 
-fn call_ask(circuit: &[u8], scratch: &mut [u16], answer: &mut [u64]) {
-    // SAFETY: each pointer and length is that of one slice.
-    unsafe {
-        tff::raw::tff_ask(
-            circuit.as_ptr(),
-            circuit.len(),
-            scratch.as_mut_ptr(),
-            scratch.len(),
-            answer.as_mut_ptr(),
-            answer.len(),
-        )
+/// Scratch and records, and no result.
+fn without_result(numbers: usize, records: usize) -> Room {
+    Room {
+        numbers,
+        records,
+        bytes: 0,
     }
-}
-
-fn call_commit(
-    circuit: &[u8],
-    plan: &[u64],
-    scratch: &mut [u16],
-    result: &mut [u8],
-    answer: &mut [u64],
-) {
-    // SAFETY: each pointer and length is that of one slice.
-    unsafe {
-        tff::raw::tff_commit(
-            circuit.as_ptr(),
-            circuit.len(),
-            plan.as_ptr(),
-            plan.len(),
-            scratch.as_mut_ptr(),
-            scratch.len(),
-            result.as_mut_ptr(),
-            result.len(),
-            answer.as_mut_ptr(),
-            answer.len(),
-        )
-    }
-}
-
-fn ask_case(seed: u64, file: &[u8]) -> Case<'_> {
-    Case {
-        call: "ask",
-        seed,
-        file,
-        ..Case::default()
-    }
-}
-
-fn commit_case<'a>(seed: u64, file: &'a [u8], plan: &'a [u64]) -> Case<'a> {
-    Case {
-        call: "commit",
-        seed,
-        file,
-        plan,
-        ..Case::default()
-    }
-}
-
-fn scratch_of(numbers: usize) -> Room {
-    Room { numbers, bytes: 0 }
-}
-
-/// Asks with both implementations, with so many numbers of scratch.
-fn ask(seed: u64, file: &[u8], numbers: usize) -> [u64; 23] {
-    compare(
-        &ask_case(seed, file),
-        scratch_of(numbers),
-        |scratch, _| reference::ask(file, scratch).into(),
-        |scratch, _, answer| call_ask(file, scratch, answer),
-    )
 }
 
 /// What asking must answer for a refusal: no plan.
@@ -98,45 +39,23 @@ fn without_plan(number: u64, place: usize) -> [u64; 23] {
     answer
 }
 
-/// Commits with both implementations.
-fn commit(seed: u64, file: &[u8], plan: &[u64], room: Room) -> [u64; 2] {
-    committed(seed, file, plan, room, |scratch, result| {
-        reference::commit(file, plan, scratch, result).into()
-    })
-}
-
-/// Commits with the proved library, which must answer and leave what `expected` does.
-fn committed(
-    seed: u64,
-    file: &[u8],
-    plan: &[u64],
-    room: Room,
-    expected: impl FnOnce(&mut [u16], &mut [u8]) -> [u64; 2],
-) -> [u64; 2] {
-    compare(
-        &commit_case(seed, file, plan),
-        room,
-        expected,
-        |scratch, result, answer| call_commit(file, plan, scratch, result, answer),
-    )
-}
-
 /// Commits to a plan with the proved library, which must answer and leave what its fold does.
 fn commit_as_fold(seed: u64, file: &[u8], plan: &Plan, room: Room) -> [u64; 2] {
-    committed(seed, file, plan, room, |scratch, result| {
+    committed(seed, file, plan, room, |lent| {
         let mut answer = [0; 2];
-        call_fold(file, scratch, result, &mut answer);
+        call_fold(file, lent, &mut answer);
         answer
     })
 }
 
-/// A list that is not the circuit's plan is refused with ample room, of which the needed scratch is
-/// cleared and nothing else changed.
+/// A list that is not the circuit's plan is refused with ample room, of which the needed scratch and
+/// all records are cleared and nothing else changed.
 fn refuses(seed: u64, circuit: &Circuit, list: &[u64]) {
     let needed = scratch_needed(&circuit.sizes);
-    let room = ample(&circuit.sizes);
-    committed(seed, &circuit.to_bytes(), list, room, |scratch, _| {
-        scratch[..needed].fill(0);
+    let room = ample(circuit);
+    committed(seed, &circuit.to_bytes(), list, room, |lent| {
+        lent.numbers[..needed].fill(0);
+        lent.nodes.fill([0; 3]);
         [14, 0]
     });
 }
@@ -144,9 +63,16 @@ fn refuses(seed: u64, circuit: &Circuit, list: &[u64]) {
 /// The proved plan of a legal circuit.
 fn asked(circuit: &Circuit) -> Plan {
     let mut scratch = vec![1; scratch_needed(&circuit.sizes)];
-    let plan = tff::ask(&circuit.to_bytes(), &mut scratch);
+    let plan = tff::Nodes::up_to(tff::Nodes::ENOUGH).ask(&circuit.to_bytes(), &mut scratch);
     plan.expect("a legal circuit").numbers()
 }
+
+/// What no record is left as.
+const DIRTY: tff::Node = tff::Node {
+    level: 1,
+    low: 0,
+    high: 1,
+};
 
 /// The plan that a table shows: the words of its head, and its length.
 fn shown(table: &[u8]) -> Plan {
@@ -162,8 +88,8 @@ fn shown(table: &[u8]) -> Plan {
 /// A legal circuit has the plan that its folded table shows, and is folded where that is committed
 /// to. Gives the plan.
 fn accepts(seed: u64, circuit: &Circuit) -> Plan {
-    let (file, room) = (circuit.to_bytes(), ample(&circuit.sizes));
-    let [number, place, plan @ ..] = ask(seed, &file, room.numbers);
+    let (file, room) = (circuit.to_bytes(), ample(circuit));
+    let [number, place, plan @ ..] = ask(seed, &file, room);
     assert_eq!([number, place], [0, 0]);
     assert_eq!(plan, shown(&folded(&file)));
     assert_eq!(commit_as_fold(seed, &file, &plan, room), [0, plan[20]]);
@@ -233,8 +159,10 @@ fn parity_has_the_given_plan() {
         counts: [1, 2, 1, 0, 0, 0, 0, 0, 0, 0, 0, 0, 0, 0, 0, 0, 0],
         bytes: 40,
     };
-    assert_eq!(tff::ask(&file, &mut scratch), Ok(plan));
+    let mut nodes = [DIRTY; 9];
+    assert_eq!(tff::ask(&file, &mut scratch, &mut nodes), Ok(plan));
     assert_eq!(scratch, [0, 0, 0, 0, 0, 0, 0, 0, 7, 7, 7]);
+    assert_eq!(nodes, [tff::Node::default(); 9]);
     assert_eq!(accepts(0, &examples::parity()), PARITY_PLAN);
 }
 
@@ -251,13 +179,26 @@ fn numbers_of_a_plan_keep_their_order() {
 #[test]
 fn parity_is_refused_a_plan_as_given() {
     let file = examples::parity().to_bytes();
-    for (file, numbers, number, place) in [(&file[..27], 8, 1, 27), (&file[..], 7, 6, 8)] {
-        let mut scratch = vec![7; numbers];
+    for (file, numbers, records, number, place) in [
+        (&file[..27], 8, 0, 1, 27),
+        (&file[..27], 8, 7, 1, 27),
+        (&file[..], 7, 0, 6, 8),
+        (&file[..], 7, 7, 6, 8),
+        (&file[..], 8, 0, 18, 0),
+        (&file[..], 8, 6, 18, 5),
+    ] {
+        let (mut scratch, mut nodes) = (vec![7; numbers], vec![DIRTY; records]);
         let refusal = tff::Answer { number, place };
-        assert_eq!(tff::ask(file, &mut scratch), Err(refusal));
-        assert_eq!(scratch, vec![7; numbers]);
+        assert_eq!(tff::ask(file, &mut scratch, &mut nodes), Err(refusal));
+        let (number_left, node_left) = if number == 18 {
+            (0, tff::Node::default())
+        } else {
+            (7, DIRTY)
+        };
+        assert_eq!(scratch, vec![number_left; numbers]);
+        assert_eq!(nodes, vec![node_left; records]);
         let expected = without_plan(number, place as usize);
-        assert_eq!(ask(0, file, numbers), expected);
+        assert_eq!(ask(0, file, without_result(numbers, records)), expected);
     }
 }
 
@@ -265,20 +206,35 @@ fn parity_is_refused_a_plan_as_given() {
 fn parity_is_folded_only_with_its_plan_and_the_given_room() {
     let file = examples::parity().to_bytes();
     let other = with(&PARITY_PLAN, 4, 1);
-    for (numbers, bytes, folded) in PARITY_FOLDED {
-        let refused = if numbers < 8 { folded } else { (14, 0) };
+    for (numbers, records, bytes, folded) in PARITY_FOLDED {
+        let refused = if matches!(folded.0, 6 | 18) {
+            folded
+        } else {
+            (14, 0)
+        };
         for (plan, expected) in [(PARITY_PLAN, folded), (other, refused)] {
             let (mut scratch, mut result) = (vec![7; numbers], vec![0xee; bytes]);
-            let answer = tff::commit(&file, &plan.into(), &mut scratch, &mut result);
+            let mut nodes = vec![DIRTY; records];
+            let answer = tff::commit(&file, &plan.into(), &mut scratch, &mut nodes, &mut result);
             assert_eq!((answer.number, answer.place), expected);
-            let left = if numbers < 8 { 7 } else { 0 };
-            assert_eq!(scratch, vec![left; numbers]);
+            let (number_left, node_left) = if numbers < 8 {
+                (7, DIRTY)
+            } else {
+                (0, tff::Node::default())
+            };
+            assert_eq!(scratch, vec![number_left; numbers]);
+            assert_eq!(nodes, vec![node_left; records]);
             let written = match expected.0 {
                 0 => to_bytes(&PARITY_TABLE),
                 _ => vec![0xee; bytes],
             };
             assert_eq!(result, written);
-            let answer = commit(0, &file, &plan, Room { numbers, bytes });
+            let room = Room {
+                numbers,
+                records,
+                bytes,
+            };
+            let answer = commit(0, &file, &plan, room);
             assert_eq!(answer, [expected.0, expected.1]);
         }
     }
@@ -372,23 +328,32 @@ fn committing_to_the_asked_plan_is_folding_in_every_room() {
     for seed in seeds(100) {
         let circuit = circuits::any_legal(&mut Rng::new(seed), 8, 40);
         let file = circuit.to_bytes();
-        let needed = scratch_needed(&circuit.sizes);
+        let scratch = scratch_needed(&circuit.sizes);
+        let needed = nodes_needed(&circuit);
         let plan = asked(&circuit);
         let length = plan[20] as usize;
-        for numbers in [0, 1, needed - 1, needed, needed + 1, needed + 100] {
-            let answer = ask(seed, &file, numbers);
-            if numbers < needed {
-                assert_eq!(answer, without_plan(6, needed));
-            } else {
-                assert_eq!(answer[..2], [0, 0]);
-                assert_eq!(answer[2..], plan);
-            }
-            for bytes in [0, 1, length - 1, length, length + 1, length + 100] {
-                let room = Room { numbers, bytes };
-                // Each compares two calls in all that they answer and leave: so all four agree.
-                fold(seed, &file, room);
-                commit_as_fold(seed, &file, &plan, room);
-                commit(seed, &file, &plan, room);
+        for numbers in [0, scratch - 1, scratch, scratch + 1, scratch + 100] {
+            for records in [0, needed - 1, needed, needed + 50] {
+                let answer = ask(seed, &file, without_result(numbers, records));
+                if numbers < scratch {
+                    assert_eq!(answer, without_plan(6, scratch));
+                } else if records < needed {
+                    assert_eq!(answer, without_plan(18, answer[1] as usize));
+                } else {
+                    assert_eq!(answer[..2], [0, 0]);
+                    assert_eq!(answer[2..], plan);
+                }
+                for bytes in [0, length - 1, length, length + 100] {
+                    let room = Room {
+                        numbers,
+                        records,
+                        bytes,
+                    };
+                    // Each compares two calls in all that they answer and leave: so all four agree.
+                    fold(seed, &file, room);
+                    commit_as_fold(seed, &file, &plan, room);
+                    commit(seed, &file, &plan, room);
+                }
             }
         }
     }
@@ -401,7 +366,7 @@ fn every_bit_of_a_plan_matters() {
         let circuit = circuits::any_legal(&mut Rng::new(seed), 6, 30);
         let file = circuit.to_bytes();
         for list in with_one_changed(&asked(&circuit), &bits) {
-            let answer = commit(seed, &file, &list, ample(&circuit.sizes));
+            let answer = commit(seed, &file, &list, ample(&circuit));
             assert_eq!(answer, [14, 0]);
         }
     }
@@ -463,7 +428,7 @@ fn the_plan_of_another_circuit_serves_only_where_it_is_the_same() {
             circuits::legal(&mut rng, sizes, gates)
         });
         let [plan, list] = [&circuit, &other].map(asked);
-        let answer = commit(seed, &circuit.to_bytes(), &list, ample(&sizes));
+        let answer = commit(seed, &circuit.to_bytes(), &list, ample(&circuit));
         let expected = if list == plan { [0, plan[20]] } else { [14, 0] };
         assert_eq!(answer, expected);
         // Other sizes alone make another plan, and the same circuit has the same.
@@ -536,7 +501,10 @@ fn of_several_reasons_the_first_in_order_is_given() {
         let mut rng = Rng::new(seed);
         let sizes = Sizes::new(rng.between(1, 3), rng.between(1, 16), rng.between(2, 3));
         let circuit = circuits::legal(&mut rng, sizes, sizes.output_gates() + 20);
-        let needed = scratch_needed(&sizes);
+        let scratch = scratch_needed(&sizes);
+        let counts: Vec<usize> = node_counts(&circuit).collect();
+        let needed = counts[counts.len() - 1];
+        let too_many = |records: usize| counts.iter().position(|&count| count > records);
         let plan = asked(&circuit);
         let length = plan[20] as usize;
         let wrong = [0, 2, 3, 20].map(|index| with(&plan, index, plan[index] + 1));
@@ -544,12 +512,20 @@ fn of_several_reasons_the_first_in_order_is_given() {
         lists.extend(wrong.iter().map(|list| &list[..]));
         let sequence = rng.below(sizes.histories(sizes.frames));
         for (checked, file) in with_each_fault(&circuit, sequence) {
-            for numbers in [0, needed - 1, needed] {
-                let refusal = match checked {
-                    [0, _] if numbers < needed => [6, needed as u64],
+            for (numbers, records) in [
+                (0, 0),
+                (scratch - 1, needed),
+                (scratch, 0),
+                (scratch, needed - 1),
+                (scratch, needed),
+            ] {
+                let refusal = match (checked, too_many(records)) {
+                    ([0, _], _) if numbers < scratch => [6, scratch as u64],
+                    ([0, _], Some(gate)) => [18, gate as u64],
                     _ => checked,
                 };
-                assert_eq!(ask(seed, &file, numbers)[..2], refusal);
+                let answer = ask(seed, &file, without_result(numbers, records));
+                assert_eq!(answer[..2], refusal);
                 for list in &lists {
                     for bytes in [0, length - 1, length] {
                         let expected = match refusal {
@@ -558,8 +534,12 @@ fn of_several_reasons_the_first_in_order_is_given() {
                             [0, _] => [0, plan[20]],
                             _ => refusal,
                         };
-                        let answer = commit(seed, &file, list, Room { numbers, bytes });
-                        assert_eq!(answer, expected);
+                        let room = Room {
+                            numbers,
+                            records,
+                            bytes,
+                        };
+                        assert_eq!(commit(seed, &file, list, room), expected);
                     }
                 }
             }
@@ -571,7 +551,7 @@ fn of_several_reasons_the_first_in_order_is_given() {
 fn circuits_with_faults_are_refused_and_change_nothing() {
     let mut seen = Seen::default();
     for (seed, file, room) in to_fold::with_faults() {
-        let answer = ask(seed, &file, room.numbers);
+        let answer = ask(seed, &file, room);
         let [number, place, plan @ ..] = answer;
         let expected = match number {
             0 => [0, plan[20]],
@@ -580,7 +560,7 @@ fn circuits_with_faults_are_refused_and_change_nothing() {
         assert_eq!(commit(seed, &file, &plan, room), expected);
         seen.note(answer);
     }
-    seen.expect(&[0, 1, 2, 3, 4, 6]);
+    seen.expect(&[0, 1, 2, 3, 4, 6, 18]);
 }
 
 #[test]
@@ -589,17 +569,20 @@ fn scratch_is_judged_from_the_sizes_alone() {
         let (file, plan) = (circuit.to_bytes(), asked(&circuit));
         let needed = scratch_needed(&circuit.sizes);
         for numbers in too_short {
-            assert_eq!(ask(0, &file, numbers), without_plan(6, needed));
-            for list in [&plan[..], &plan[..0]] {
-                let answer = commit(0, &file, list, scratch_of(numbers));
-                assert_eq!(answer, [6, needed as u64]);
+            for records in [0, 100] {
+                let room = without_result(numbers, records);
+                assert_eq!(ask(0, &file, room), without_plan(6, needed));
+                for list in [&plan[..], &plan[..0]] {
+                    let answer = commit(0, &file, list, room);
+                    assert_eq!(answer, [6, needed as u64]);
+                }
             }
         }
     }
 }
 
 #[test]
-fn asking_and_committing_again_in_the_same_scratch_give_the_same() {
+fn asking_and_committing_again_in_the_same_memory_give_the_same() {
     for seed in seeds(300) {
         let mut rng = Rng::new(seed);
         let circuit = circuits::any_legal(&mut rng, 10, 40);
@@ -607,25 +590,27 @@ fn asking_and_committing_again_in_the_same_scratch_give_the_same() {
         let needed = scratch_needed(&circuit.sizes);
         let old = rng.pick(&[1, 0x8000, u16::MAX]);
         let mut scratch = vec![old; needed + 3];
-        let assert_left = |scratch: &[u16]| {
+        let mut nodes = vec![DIRTY; nodes_needed(&circuit) + 3];
+        let assert_left = |scratch: &[u16], nodes: &[tff::Node]| {
             assert!(scratch[..needed].iter().all(|&number| number == 0));
             assert_eq!(scratch[needed..], [old; 3]);
+            assert!(nodes.iter().all(|node| *node == tff::Node::default()));
         };
-        let plan = tff::ask(&file, &mut scratch).expect("a legal circuit");
-        assert_left(&scratch);
-        assert_eq!(tff::ask(&file, &mut scratch), Ok(plan));
-        assert_left(&scratch);
+        let plan = tff::ask(&file, &mut scratch, &mut nodes).expect("a legal circuit");
+        assert_left(&scratch, &nodes);
+        assert_eq!(tff::ask(&file, &mut scratch, &mut nodes), Ok(plan));
+        assert_left(&scratch, &nodes);
         let table = folded(&file);
         for _ in 0..2 {
             let mut other = plan;
             other.bytes += 1;
             let mut result = vec![0xee; table.len()];
-            let answer = tff::commit(&file, &other, &mut scratch, &mut result);
+            let answer = tff::commit(&file, &other, &mut scratch, &mut nodes, &mut result);
             assert_eq!((answer.number, answer.place), (14, 0));
-            assert_left(&scratch);
-            let answer = tff::commit(&file, &plan, &mut scratch, &mut result);
+            assert_left(&scratch, &nodes);
+            let answer = tff::commit(&file, &plan, &mut scratch, &mut nodes, &mut result);
             assert_eq!((answer.number, answer.place), (0, plan.bytes));
-            assert_left(&scratch);
+            assert_left(&scratch, &nodes);
             assert_eq!(result, table);
         }
     }
@@ -633,13 +618,17 @@ fn asking_and_committing_again_in_the_same_scratch_give_the_same() {
 
 #[test]
 fn empty_slices_are_ordinary() {
-    assert_eq!(ask(0, &[], 0), without_plan(1, 0));
+    assert_eq!(ask(0, &[], Room::default()), without_plan(1, 0));
     assert_eq!(commit(0, &[], &[], Room::default()), [1, 0]);
     let file = examples::parity().to_bytes();
-    assert_eq!(ask(0, &file, 0), without_plan(6, 8));
+    assert_eq!(ask(0, &file, Room::default()), without_plan(6, 8));
+    assert_eq!(ask(0, &file, without_result(8, 0)), without_plan(18, 0));
     assert_eq!(commit(0, &file, &[], Room::default()), [6, 8]);
-    assert_eq!(commit(0, &file, &[], scratch_of(8)), [14, 0]);
-    assert_eq!(commit(0, &file, &PARITY_PLAN, scratch_of(8)), [7, 40]);
+    for (records, expected) in [(0, [[18, 0]; 2]), (7, [[14, 0], [7, 40]])] {
+        let room = without_result(8, records);
+        let plans = [&[], &PARITY_PLAN[..]];
+        assert_eq!(plans.map(|plan| commit(0, &file, plan, room)), expected);
+    }
 }
 
 #[test]
@@ -649,15 +638,15 @@ fn a_short_answer_changes_nothing() {
         let file = circuit.to_bytes();
         let plan = asked(&circuit);
         for file in [&file[..], &file[1..]] {
-            for room in [Room::default(), ample(&circuit.sizes)] {
+            for room in [Room::default(), ample(&circuit)] {
                 let case = ask_case(seed, file);
-                short_answers_change_nothing(&case, room, 23, |scratch, _, answer| {
-                    call_ask(file, scratch, answer)
+                short_answers_change_nothing(&case, room, 23, |lent, answer| {
+                    call_ask(file, lent, answer)
                 });
                 for list in [&plan[..], &plan[..20]] {
                     let case = commit_case(seed, file, list);
-                    short_answers_change_nothing(&case, room, 2, |scratch, result, answer| {
-                        call_commit(file, list, scratch, result, answer)
+                    short_answers_change_nothing(&case, room, 2, |lent, answer| {
+                        call_commit(file, list, lent, answer)
                     });
                 }
             }

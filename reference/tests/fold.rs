@@ -17,11 +17,18 @@ use outputs::assert_same_outputs;
 use reference::gen::{any_sizes, circuits, damaged, sizes_with, Rng};
 use reference::vectors::{self, PARITY_FOLDED, PARITY_TABLE};
 use reference::words::to_bytes;
-use reference::{examples, Circuit, Sizes, Table};
+use reference::{examples, nodes_needed, Circuit, Sizes, Table};
+
+/// What no record is left as.
+const DIRTY: tff::Node = tff::Node {
+    level: 1,
+    low: 0,
+    high: 1,
+};
 
 /// A legal circuit is folded with ample room; gives the bytes written.
 fn accepts(seed: u64, circuit: &Circuit) -> usize {
-    let [number, place] = fold(seed, &circuit.to_bytes(), ample(&circuit.sizes));
+    let [number, place] = fold(seed, &circuit.to_bytes(), ample(circuit));
     assert_eq!(number, 0);
     place as usize
 }
@@ -36,13 +43,23 @@ fn parity_folds_to_the_given_bytes() {
 #[test]
 fn parity_is_folded_only_with_the_given_room() {
     let file = examples::parity().to_bytes();
-    for (numbers, bytes, expected) in PARITY_FOLDED {
-        let answer = tff::fold(&file, &mut vec![1; numbers], &mut vec![1; bytes]);
+    for (numbers, records, bytes, expected) in PARITY_FOLDED {
+        let mut nodes = vec![DIRTY; records];
+        let (mut scratch, mut result) = (vec![1; numbers], vec![1; bytes]);
+        let answer = tff::fold(&file, &mut scratch, &mut nodes, &mut result);
         assert_eq!((answer.number, answer.place), expected);
-        assert_eq!(
-            fold(0, &file, Room { numbers, bytes }),
-            [expected.0, expected.1]
-        );
+        let left = if expected.0 == 6 {
+            DIRTY
+        } else {
+            tff::Node::default()
+        };
+        assert_eq!(nodes, vec![left; records]);
+        let room = Room {
+            numbers,
+            records,
+            bytes,
+        };
+        assert_eq!(fold(0, &file, room), [expected.0, expected.1]);
     }
 }
 
@@ -148,7 +165,7 @@ fn circuits_with_faults_are_refused_and_change_nothing() {
     for (seed, file, room) in to_fold::with_faults() {
         seen.note(fold(seed, &file, room));
     }
-    seen.expect(&[0, 1, 2, 3, 4, 6]);
+    seen.expect(&[0, 1, 2, 3, 4, 6, 18]);
 }
 
 #[test]
@@ -157,38 +174,52 @@ fn scratch_is_judged_from_the_sizes_alone() {
         let file = circuit.to_bytes();
         let needed = scratch_needed(&circuit.sizes);
         for numbers in too_short {
-            for bytes in [0, 100] {
-                let answer = fold(0, &file, Room { numbers, bytes });
-                assert_eq!(answer, [6, needed as u64]);
+            for (records, bytes) in [(0, 0), (0, 100), (100, 0), (100, 100)] {
+                let room = Room {
+                    numbers,
+                    records,
+                    bytes,
+                };
+                assert_eq!(fold(0, &file, room), [6, needed as u64]);
             }
         }
     }
 }
 
 #[test]
-fn scratch_and_result_are_judged_at_the_needed_lengths() {
+fn what_is_lent_is_judged_at_the_needed_lengths() {
     for seed in seeds(150) {
         let circuit = circuits::any_legal(&mut Rng::new(seed), 8, 40);
         let file = circuit.to_bytes();
         let scratch = scratch_needed(&circuit.sizes);
         let length = accepts(seed, &circuit);
+        let needed = nodes_needed(&circuit);
         for numbers in [0, scratch - 1, scratch, scratch + 1, scratch + 100] {
-            for bytes in [0, 7, 8, length - 1, length, length + 1, length + 100] {
-                let expected = if numbers < scratch {
-                    [6, scratch as u64]
-                } else if bytes < length {
-                    [7, length as u64]
-                } else {
-                    [0, length as u64]
-                };
-                assert_eq!(fold(seed, &file, Room { numbers, bytes }), expected);
+            for records in [0, needed - 1, needed, needed + 1, needed + 100] {
+                for bytes in [0, 7, 8, length - 1, length, length + 1, length + 100] {
+                    let room = Room {
+                        numbers,
+                        records,
+                        bytes,
+                    };
+                    let [number, place] = fold(seed, &file, room);
+                    if numbers < scratch {
+                        assert_eq!([number, place], [6, scratch as u64]);
+                    } else if records < needed {
+                        assert_eq!(number, 18);
+                    } else if bytes < length {
+                        assert_eq!([number, place], [7, length as u64]);
+                    } else {
+                        assert_eq!([number, place], [0, length as u64]);
+                    }
+                }
             }
         }
     }
 }
 
 #[test]
-fn the_circuit_is_judged_before_scratch_and_result() {
+fn the_circuit_is_judged_before_what_is_lent() {
     let mut seen = Seen::default();
     for seed in seeds(2_000) {
         let mut rng = Rng::new(seed);
@@ -206,9 +237,14 @@ fn empty_slices_are_ordinary() {
     assert_eq!(fold(0, &file, Room::default()), [6, 8]);
     let scratch_alone = Room {
         numbers: 8,
-        bytes: 0,
+        ..Room::default()
     };
-    assert_eq!(fold(0, &file, scratch_alone), [7, 40]);
+    assert_eq!(fold(0, &file, scratch_alone), [18, 0]);
+    let without_result = Room {
+        records: 7,
+        ..scratch_alone
+    };
+    assert_eq!(fold(0, &file, without_result), [7, 40]);
 }
 
 #[test]
@@ -216,10 +252,10 @@ fn a_short_answer_changes_nothing() {
     for seed in seeds(300) {
         let circuit = circuits::any_legal(&mut Rng::new(seed), 8, 20);
         let file = circuit.to_bytes();
-        for room in [Room::default(), ample(&circuit.sizes)] {
+        for room in [Room::default(), ample(&circuit)] {
             let case = fold_case(seed, &file);
-            short_answers_change_nothing(&case, room, 2, |scratch, result, answer| {
-                call_fold(&file, scratch, result, answer)
+            short_answers_change_nothing(&case, room, 2, |lent, answer| {
+                call_fold(&file, lent, answer)
             });
         }
     }

@@ -16,7 +16,7 @@ use reference::vectors::{PARITY_PLAN, PARITY_TABLE};
 use reference::words::{to_bytes, words_at};
 use reference::{
     ask, check_circuit, check_table, commit, examples, fold, layer_outputs, price, quiet_step,
-    reach, run, simulate, step, unfold, view, Position,
+    reach, run, simulate, step, unfold, view, Node, Position,
 };
 use root::root;
 
@@ -47,7 +47,9 @@ fn example_lines() -> String {
     let circuit = examples::parity().to_bytes();
     let (mut table, mut reached, mut drawn) = ([0; 40], [0; 40], [0; 76]);
     let mut text = String::new();
-    let asked = ask(&circuit, &mut [0; 8]);
+    let few = ask(&circuit, &mut [0; 8], &mut [[0; 3]; 6]);
+    writeln!(text, "ask with 6 records: {}, {}", few.number, few.place).unwrap();
+    let asked = ask(&circuit, &mut [0; 8], &mut [[0; 3]; 7]);
     let [inputs, outputs, frames, counts @ .., bytes] = asked.plan;
     writeln!(
         text,
@@ -57,7 +59,8 @@ fn example_lines() -> String {
         listed(&counts[..=frames as usize])
     )
     .unwrap();
-    let (number, place) = commit(&circuit, &asked.plan, &mut [0; 8], &mut table);
+    let (mut scratch, mut nodes) = ([0; 8], [[0; 3]; 7]);
+    let (number, place) = commit(&circuit, &asked.plan, &mut scratch, &mut nodes, &mut table);
     writeln!(text, "commit: {number}, {place}").unwrap();
 
     // Parity has states 1 2 1, so six entries behind the eight words of the head; the last two of these
@@ -155,14 +158,26 @@ fn calls_lines() -> String {
     // Accepted, and refused with 1, 11, 11.
     let layers = [(40, 0), (40, 1), (40, 2), (39, 3), (40, 3), (40, u16::MAX)];
     let plan = [&PARITY_PLAN[..], &[0]].concat();
-    // Refused with 1, 6, 14, 14, 7, and accepted.
+    // Refused with 1, 6, 18, 18, 7, and accepted.
+    let folds = [
+        (27, 8, 7, 40),
+        (28, 7, 7, 40),
+        (28, 8, 0, 40),
+        (28, 8, 6, 40),
+        (28, 8, 7, 39),
+        (28, 8, 7, 40),
+    ];
+    // Refused with 1, 6, 18, and accepted.
+    let asks = [(27, 8, 7), (28, 7, 7), (28, 8, 4), (28, 8, 7)];
+    // Refused with 1, 6, 18, 14, 14, 7, and accepted.
     let commits = [
-        (27, 21, 8, 40),
-        (28, 21, 7, 40),
-        (28, 20, 8, 40),
-        (28, 22, 8, 40),
-        (28, 21, 8, 39),
-        (28, 21, 8, 40),
+        (27, 21, 8, 7, 40),
+        (28, 21, 7, 7, 40),
+        (28, 20, 8, 5, 40),
+        (28, 20, 8, 7, 40),
+        (28, 22, 8, 7, 40),
+        (28, 21, 8, 7, 39),
+        (28, 21, 8, 7, 40),
     ];
     let steps = [
         (40, 0, 0, 1),
@@ -188,107 +203,131 @@ fn calls_lines() -> String {
     ];
     let mut text = String::new();
     for length in [28, 27] {
-        text += &line("check_circuit", |_, _| {
+        text += &line("check_circuit", |_| {
             check_circuit(&circuit[..length]).into()
         });
     }
     for (length, count, words, result) in simulations {
-        text += &line("simulate", |numbers, _| {
-            simulate(&circuit[..length], count, words, &mut numbers[..result]).into()
+        text += &line("simulate", |lent| {
+            simulate(
+                &circuit[..length],
+                count,
+                words,
+                &mut lent.numbers[..result],
+            )
+            .into()
         });
     }
-    for (length, scratch, result) in [(27, 8, 40), (28, 7, 40), (28, 8, 39), (28, 8, 40)] {
-        text += &line("fold", |numbers, bytes| {
+    for (length, scratch, records, result) in folds {
+        text += &line("fold", |lent| {
             fold(
                 &circuit[..length],
-                &mut numbers[..scratch],
-                &mut bytes[..result],
+                &mut lent.numbers[..scratch],
+                &mut lent.nodes[..records],
+                &mut lent.bytes[..result],
             )
             .into()
         });
     }
     // Its answer is too short.
-    text += &line("ask", |_, _| []);
-    for (length, scratch) in [(27, 8), (28, 7), (28, 8)] {
-        text += &line("ask", |numbers, _| {
-            ask(&circuit[..length], &mut numbers[..scratch]).into()
+    text += &line("ask", |_| []);
+    for (length, scratch, records) in asks {
+        text += &line("ask", |lent| {
+            ask(
+                &circuit[..length],
+                &mut lent.numbers[..scratch],
+                &mut lent.nodes[..records],
+            )
+            .into()
         });
     }
-    for (length, planned, scratch, result) in commits {
-        text += &line("commit", |numbers, bytes| {
+    for (length, planned, scratch, records, result) in commits {
+        text += &line("commit", |lent| {
             commit(
                 &circuit[..length],
                 &plan[..planned],
-                &mut numbers[..scratch],
-                &mut bytes[..result],
+                &mut lent.numbers[..scratch],
+                &mut lent.nodes[..records],
+                &mut lent.bytes[..result],
             )
             .into()
         });
     }
     for length in [40, 39] {
-        text += &line("check_table", |_, _| check_table(&table[..length]).into());
+        text += &line("check_table", |_| check_table(&table[..length]).into());
     }
     for (length, words, result) in runs {
-        text += &line("run", |numbers, _| {
-            run(&table[..length], words, &mut numbers[..result]).into()
+        text += &line("run", |lent| {
+            run(&table[..length], words, &mut lent.numbers[..result]).into()
         });
     }
     for (length, mask, words, result) in views {
-        text += &line("view", |numbers, _| {
-            view(&table[..length], mask, words, &mut numbers[..result]).into()
+        text += &line("view", |lent| {
+            view(&table[..length], mask, words, &mut lent.numbers[..result]).into()
         });
     }
     // Its answer is too short.
-    text += &line("view", |_, _| []);
+    text += &line("view", |_| []);
     for (length, layer) in layers {
-        text += &line("layer_outputs", |_, _| {
+        text += &line("layer_outputs", |_| {
             layer_outputs(&table[..length], layer).into()
         });
     }
     // Its answer is too short.
-    text += &line("layer_outputs", |_, _| []);
+    text += &line("layer_outputs", |_| []);
     for (length, layer, state, word) in steps {
-        text += &line("step", |_, _| {
+        text += &line("step", |_| {
             step(&table[..length], layer, state, word).into()
         });
     }
     for (layer, state, length, numbers, minute, word) in quiet_steps {
         let (table, windows) = (&table[..length], &windows[..numbers]);
         let mut position = Position { layer, state };
-        text += &line("quiet_step", |_, _| {
+        text += &line("quiet_step", |_| {
             quiet_step(table, windows, minute, &mut position, word).into()
         });
         writeln!(text, "position {} {}", position.layer, position.state).unwrap();
     }
     // Its answer is too short.
-    text += &line("quiet_step", |_, _| []);
+    text += &line("quiet_step", |_| []);
     text += "position 1 1\n";
     for length in [40, 39] {
-        text += &line("price", |_, _| price(&table[..length]).into());
+        text += &line("price", |_| price(&table[..length]).into());
     }
     for (length, result) in [(40, 40), (39, 40), (40, 39)] {
-        text += &line("reach", |_, bytes| {
-            reach(&table[..length], &mut bytes[..result]).into()
+        text += &line("reach", |lent| {
+            reach(&table[..length], &mut lent.bytes[..result]).into()
         });
     }
     for (length, result) in [(40, 76), (39, 76), (40, 75)] {
-        text += &line("unfold", |_, bytes| {
-            unfold(&table[..length], &mut bytes[..result]).into()
+        text += &line("unfold", |lent| {
+            unfold(&table[..length], &mut lent.bytes[..result]).into()
         });
     }
     text
 }
 
-/// A line of `calls.c`: what a call answers and leaves in memory that is all 99 before.
-fn line<const N: usize>(
-    name: &str,
-    call: impl FnOnce(&mut [u16], &mut [u8]) -> [u64; N],
-) -> String {
-    let (mut answer, mut numbers, mut bytes) = ([99; 24], [99; 9], [99; 77]);
-    let values = call(&mut numbers, &mut bytes);
+/// What `calls.c` lends, but for the answer.
+struct Lent {
+    numbers: [u16; 9],
+    nodes: [Node; 8],
+    bytes: [u8; 77],
+}
+
+/// A line of `calls.c`: what a call answers and leaves in memory that is all 99 before, and 98 and 97
+/// in the branches of records.
+fn line<const N: usize>(name: &str, call: impl FnOnce(&mut Lent) -> [u64; N]) -> String {
+    let mut answer = [99; 24];
+    let mut lent = Lent {
+        numbers: [99; 9],
+        nodes: [[99, 98, 97]; 8],
+        bytes: [99; 77],
+    };
+    let values = call(&mut lent);
     answer[..N].copy_from_slice(&values);
-    let [answer, numbers, bytes] = [listed(&answer), listed(&numbers), listed(&bytes)];
-    format!("{name}: answer{answer}, numbers{numbers}, bytes{bytes}\n")
+    let [answer, numbers] = [listed(&answer), listed(&lent.numbers)];
+    let [nodes, bytes] = [listed(lent.nodes.as_flattened()), listed(&lent.bytes)];
+    format!("{name}: answer{answer}, numbers{numbers}, nodes{nodes}, bytes{bytes}\n")
 }
 
 fn listed(values: &[impl Display]) -> String {

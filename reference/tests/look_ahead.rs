@@ -66,9 +66,10 @@ struct Found {
 fn found(seed: u64, circuit: &Circuit) -> Found {
     let file = circuit.to_bytes();
     let sizes = circuit.sizes;
-    let room = ample(&sizes);
+    let room = ample(circuit);
     let (mut scratch, mut table) = (vec![7; room.numbers], vec![7; room.bytes]);
-    let answer = tff::fold(&file, &mut scratch, &mut table);
+    let mut nodes = vec![tff::Node::default(); room.records];
+    let answer = tff::fold(&file, &mut scratch, &mut nodes, &mut table);
     assert_eq!(fold(seed, &file, room), [answer.number, answer.place]);
     let mut rng = Rng::new(seed);
     let simulated = (0..3).map(|_| {
@@ -290,11 +291,11 @@ fn one_sequence_shows_a_look_ahead_among_the_most_gates_and_sequences() {
 fn the_most_gates_and_sequences_are_folded_without_effect() {
     let circuit = circuits::few_states(2, 8, 200);
     let crossed = crossed_out(&mut Rng::new(4), &circuit, Circuit::MOST_GATES);
-    let room = ample(&circuit.sizes);
     let [folded, crossed_folded] = [circuit, crossed].map(|circuit| {
-        let file = circuit.to_bytes();
+        let (file, room) = (circuit.to_bytes(), ample(&circuit));
         let (mut scratch, mut table) = (vec![7; room.numbers], vec![7; room.bytes]);
-        let answer = tff::fold(&file, &mut scratch, &mut table);
+        let mut nodes = vec![tff::Node::default(); room.records];
+        let answer = tff::fold(&file, &mut scratch, &mut nodes, &mut table);
         assert_eq!(fold(4, &file, room), [0, answer.place]);
         (answer, scratch, table)
     });

@@ -43,8 +43,8 @@ fn price(seed: u64, file: &[u8]) -> [u64; 3] {
     let answer = compare(
         &price_case(seed, file),
         Room::default(),
-        |_, _| reference::price(file).into(),
-        |_, _, answer| call_price(file, answer),
+        |_| reference::price(file).into(),
+        |_, answer| call_price(file, answer),
     );
     let [number, place, cents] = answer;
     assert_eq!((number, place), reference::check_table(file));
@@ -249,7 +249,7 @@ fn a_short_answer_changes_nothing() {
                 &price_case(seed, file),
                 Room::default(),
                 3,
-                |_, _, answer| call_price(file, answer),
+                |_, answer| call_price(file, answer),
             );
         }
     }

@@ -9,10 +9,10 @@ use std::fs;
 use std::process::Command;
 
 use child::written;
-use reference::gates::FALSE;
+use reference::gates::{FALSE, TRUE};
 use reference::gen::{circuits, Rng};
-use reference::program::{printed, MOST_READ};
-use reference::{examples, Circuit, Gates, Sizes};
+use reference::program::{printed, MOST_READ, NODE_RECORDS};
+use reference::{examples, node_counts, nodes_needed, Circuit, Gates, Sizes};
 use root::root;
 
 /// What the built program writes for `input`.
@@ -107,5 +107,77 @@ fn generated_circuits_print_their_counts() {
     for _ in 0..60 {
         let circuit = circuits::any_legal(&mut rng, 16, 60);
         compare(&circuit.to_bytes());
+    }
+}
+
+/// The first `gates` gates of a circuit, which then has one output, the last of them.
+fn cut(circuit: &Circuit, gates: usize) -> Circuit {
+    let mut made = Circuit {
+        sizes: circuit.sizes,
+        left: circuit.left[..gates].to_vec(),
+        right: circuit.right[..gates].to_vec(),
+    };
+    let last = made.literal(gates - 1);
+    let empty = made.sizes.output_gates() - 1;
+    made.left.extend(vec![FALSE; empty]);
+    made.left.push(last);
+    made.right.extend(vec![TRUE; empty + 1]);
+    made
+}
+
+/// A circuit of twelve inputs with nodes around the number of records; behind its first gates, which
+/// have fewer, each has at most a node more.
+fn around_the_records() -> (Circuit, Vec<usize>) {
+    let sizes = Sizes::new(1, 1, 12);
+    let many = circuits::scrambled(&mut Rng::new(1), sizes, 900);
+    let fewer = node_counts(&many)
+        .position(|count| count > NODE_RECORDS - 500)
+        .expect("many nodes");
+    let (mut gates, _) = Gates::reopened(&cut(&many, fewer - 1));
+    // Products of inputs, each of the first of them and a product of the others.
+    let mut products = vec![TRUE];
+    for frame in (0..sizes.frames).rev() {
+        for product in products.clone() {
+            let input = gates.input(frame, 0);
+            products.push(gates.and(input, product));
+        }
+        if products.len() > 2_000 {
+            break;
+        }
+    }
+    let circuit = gates.finish(&vec![FALSE; sizes.output_gates()]);
+    let counts = node_counts(&circuit).collect();
+    (circuit, counts)
+}
+
+#[test]
+fn a_circuit_with_more_nodes_than_records_is_refused() {
+    let (circuit, counts) = around_the_records();
+    let gate = counts
+        .iter()
+        .position(|&count| count > NODE_RECORDS)
+        .expect("many nodes");
+    let [enough, too_many] = [gate - 1, gate].map(|gates| cut(&circuit, gates));
+    assert_eq!(nodes_needed(&enough), NODE_RECORDS);
+    assert_eq!(nodes_needed(&too_many), NODE_RECORDS + 1);
+    assert!(printed(&enough.to_bytes()).starts_with("layer states\n0 1\n"));
+    assert_eq!(
+        printed(&too_many.to_bytes()),
+        format!("refused 18 {gate}\n")
+    );
+    for circuit in [enough, too_many, circuit] {
+        compare(&circuit.to_bytes());
+    }
+}
+
+#[test]
+fn records_are_judged_after_scratch_and_before_the_result() {
+    // Thirteen inputs are too many for the scratch.
+    for (inputs, expected) in [(13, "refused 6 "), (12, "refused 18 ")] {
+        let sizes = Sizes::new(1, 16, inputs);
+        let circuit = circuits::scrambled(&mut Rng::new(2), sizes, 2_000);
+        let input = circuit.to_bytes();
+        assert!(printed(&input).starts_with(expected));
+        compare(&input);
     }
 }

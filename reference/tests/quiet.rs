@@ -117,8 +117,8 @@ impl Call {
         compare(
             &self.case(seed, &named),
             Room::default(),
-            |_, _| answer,
-            |_, _, answer| found = self.proved(answer),
+            |_| answer,
+            |_, answer| found = self.proved(answer),
         );
         assert_eq!(found, after, "{self:?}");
         if answer[0] != 0 {
@@ -496,12 +496,9 @@ fn a_short_answer_changes_nothing() {
         let call = any_call(&mut Rng::new(seed));
         seen.note(call.plain().0);
         let named = call.named();
-        short_answers_change_nothing(
-            &call.case(seed, &named),
-            Room::default(),
-            3,
-            |_, _, answer| assert_eq!(call.proved(answer), call.position),
-        );
+        short_answers_change_nothing(&call.case(seed, &named), Room::default(), 3, |_, answer| {
+            assert_eq!(call.proved(answer), call.position)
+        });
     }
     seen.expect(&[0, 1, 15, 16]);
 }

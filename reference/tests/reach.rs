@@ -38,7 +38,10 @@ fn reach_case(seed: u64, file: &[u8]) -> Case<'_> {
 }
 
 fn result_of(bytes: usize) -> Room {
-    Room { numbers: 0, bytes }
+    Room {
+        bytes,
+        ..Room::default()
+    }
 }
 
 /// Counts with both implementations, with a result of `length` bytes.
@@ -46,8 +49,8 @@ fn reach(seed: u64, file: &[u8], length: usize) -> [u64; 2] {
     compare(
         &reach_case(seed, file),
         result_of(length),
-        |_, result| reference::reach(file, result).into(),
-        |_, result, answer| call_reach(file, result, answer),
+        |lent| reference::reach(file, lent.bytes).into(),
+        |lent, answer| call_reach(file, lent.bytes, answer),
     )
 }
 
@@ -524,7 +527,7 @@ fn a_short_answer_changes_nothing() {
                     &reach_case(seed, file),
                     result_of(length),
                     2,
-                    |_, result, answer| call_reach(file, result, answer),
+                    |lent, answer| call_reach(file, lent.bytes, answer),
                 );
             }
         }

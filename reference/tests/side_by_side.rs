@@ -30,8 +30,8 @@ fn simulate(seed: u64, file: &[u8], count: usize, words: &[u16], length: usize) 
             ..Case::default()
         },
         result_of(length),
-        |result, _| reference::simulate(file, count, words, result).into(),
-        |result, _, answer| call_simulate(file, count, words, result, answer),
+        |lent| reference::simulate(file, count, words, lent.numbers).into(),
+        |lent, answer| call_simulate(file, count, words, lent.numbers, answer),
     )
 }
 
@@ -40,7 +40,10 @@ fn called(count: usize) -> String {
 }
 
 fn result_of(numbers: usize) -> Room {
-    Room { numbers, bytes: 0 }
+    Room {
+        numbers,
+        ..Room::default()
+    }
 }
 
 /// A legal circuit is simulated on the sequences in `words`, with room for more than 32.
@@ -418,8 +421,8 @@ fn a_short_answer_changes_nothing() {
                 ..Case::default()
             };
             let room = result_of(words.len());
-            short_answers_change_nothing(&case, room, 2, |result, _, answer| {
-                call_simulate(&file, count, &words, result, answer)
+            short_answers_change_nothing(&case, room, 2, |lent, answer| {
+                call_simulate(&file, count, &words, lent.numbers, answer)
             });
         }
     }

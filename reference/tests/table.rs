@@ -78,8 +78,8 @@ fn step(seed: u64, file: &[u8], place: Place) -> [u64; 5] {
     compare(
         &step_case(seed, file, &place),
         Room::default(),
-        |_, _| reference::step(file, layer, state, word).into(),
-        |_, _, answer| call_step(file, place, answer),
+        |_| reference::step(file, layer, state, word).into(),
+        |_, answer| call_step(file, place, answer),
     )
 }
 
@@ -515,7 +515,7 @@ fn a_short_answer_changes_nothing() {
         TABLE.needs_two_answers(seed, &file, &table.head.sizes);
         for place in [[0, 0, 0], [u16::MAX, 0, 0]] {
             let case = step_case(seed, &file, &place);
-            short_answers_change_nothing(&case, Room::default(), 5, |_, _, answer| {
+            short_answers_change_nothing(&case, Room::default(), 5, |_, answer| {
                 call_step(&file, place, answer)
             });
         }

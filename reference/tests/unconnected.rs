@@ -296,7 +296,7 @@ fn folding_writes_the_connected_outputs_behind_the_counts() {
         let (circuit, connected) = circuit_and_connection(&mut Rng::new(seed));
         let made = circuits::with_connected(&circuit, &connected);
         let file = made.to_bytes();
-        assert_eq!(fold(seed, &file, ample(&made.sizes))[0], 0);
+        assert_eq!(fold(seed, &file, ample(&made))[0], 0);
         assert_eq!(connected_in(&folded(&file)), connected);
     }
 }
@@ -338,16 +338,18 @@ fn plans_do_not_tell_what_is_connected_and_committing_does() {
     for seed in seeds(300) {
         let (circuit, connected) = circuit_and_connection(&mut Rng::new(seed));
         let made = circuits::with_connected(&circuit, &connected);
-        let room = ample(&made.sizes);
+        // An output that is always false has no node, as one that is not connected.
+        let room = ample(&made);
         let mut scratch = vec![0; room.numbers];
+        let mut nodes = vec![tff::Node::default(); room.records];
         let [file, with_false] = [&made, &with_false_outputs(&made)].map(Circuit::to_bytes);
-        let plan = tff::ask(&file, &mut scratch).expect("a legal circuit");
-        assert_eq!(tff::ask(&with_false, &mut scratch), Ok(plan));
+        let plan = tff::ask(&file, &mut scratch, &mut nodes).expect("a legal circuit");
+        assert_eq!(tff::ask(&with_false, &mut scratch, &mut nodes), Ok(plan));
         for file in [file, with_false] {
             let table = folded(&file);
             assert_eq!(plan.bytes, table.len() as u64);
             let mut result = vec![0xee; table.len()];
-            let answer = tff::commit(&file, &plan, &mut scratch, &mut result);
+            let answer = tff::commit(&file, &plan, &mut scratch, &mut nodes, &mut result);
             assert_eq!((answer.number, answer.place), (0, plan.bytes));
             assert_eq!(result, table);
         }
@@ -509,8 +511,11 @@ fn comes_back(circuit: &Circuit, connected: &[u16]) {
     assert_eq!(drawn.connected(), connected);
     assert_eq!(folded(&drawn.to_bytes()), table);
     let plans = [circuit, &drawn].map(|of| {
-        let mut scratch = vec![0; ample(&of.sizes).numbers];
-        tff::ask(&of.to_bytes(), &mut scratch).expect("a legal circuit")
+        let room = ample(of);
+        let mut scratch = vec![0; room.numbers];
+        let mut nodes = vec![tff::Node::default(); room.records];
+        let plan = tff::ask(&of.to_bytes(), &mut scratch, &mut nodes);
+        plan.expect("a legal circuit")
     });
     assert_eq!(plans[0], plans[1]);
 }

@@ -97,7 +97,7 @@ impl Given {
     fn room(&self) -> Room {
         Room {
             numbers: self.room,
-            bytes: 0,
+            ..Room::default()
         }
     }
 
@@ -106,8 +106,8 @@ impl Given {
         compare(
             &self.case(seed, &self.named(), file),
             self.room(),
-            |result, _| reference::view(file, self.mask, &self.words, result).into(),
-            |result, _, answer| call_view(file, self.mask, &self.words, result, answer),
+            |lent| reference::view(file, self.mask, &self.words, lent.numbers).into(),
+            |lent, answer| call_view(file, self.mask, &self.words, lent.numbers, answer),
         )
     }
 
@@ -141,8 +141,8 @@ fn layer_outputs(seed: u64, file: &[u8], layer: u16) -> [u64; 4] {
     compare(
         &layer_case(seed, file, &[layer]),
         Room::default(),
-        |_, _| reference::layer_outputs(file, layer).into(),
-        |_, _, answer| call_layer_outputs(file, layer, answer),
+        |_| reference::layer_outputs(file, layer).into(),
+        |_, answer| call_layer_outputs(file, layer, answer),
     )
 }
 
@@ -774,12 +774,12 @@ fn a_short_answer_changes_nothing() {
         let given = any_given(&mut rng, &sizes);
         let named = given.named();
         let case = given.case(seed, &named, &file);
-        short_answers_change_nothing(&case, given.room(), 2, |result, _, answer| {
-            call_view(&file, given.mask, &given.words, result, answer)
+        short_answers_change_nothing(&case, given.room(), 2, |lent, answer| {
+            call_view(&file, given.mask, &given.words, lent.numbers, answer)
         });
         let layer = [any_layer(&mut rng, &sizes)];
         let case = layer_case(seed, &file, &layer);
-        short_answers_change_nothing(&case, Room::default(), 4, |_, _, answer| {
+        short_answers_change_nothing(&case, Room::default(), 4, |_, answer| {
             call_layer_outputs(&file, layer[0], answer)
         });
         seen.note(reference::layer_outputs(&file, layer[0]).into());

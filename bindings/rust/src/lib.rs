@@ -1,13 +1,14 @@
 //! Time-frame folding: a circuit of AND gates over frames becomes a layered state table.
 //!
 //! Safe calls of the proved library. Every call takes its memory from the caller, but for the list
-//! that `simulate` joins its sequences into, and answers with a number, 0 where it accepts and
-//! otherwise the reason of its refusal, and a place; `ask` gives a plan where it accepts, a `Board` an
-//! output, and `layer_outputs` a part of the caller's table. The meaning of all of them, and of every
-//! byte written, is that of `include/tff.h`.
+//! that `simulate` joins its sequences into and the records of `Nodes`, and answers with a number, 0
+//! where it accepts and otherwise the reason of its refusal, and a place; `ask` gives a plan where it
+//! accepts, a `Board` an output, and `layer_outputs` a part of the caller's table. The meaning of all
+//! of them, and of every byte written, is that of `include/tff.h`.
 
 mod circuit;
 mod fold;
+mod nodes;
 mod plan;
 mod price;
 mod quiet;
@@ -20,10 +21,11 @@ pub mod raw;
 
 pub use circuit::{check_circuit, simulate, simulate_one};
 pub use fold::fold;
+pub use nodes::Nodes;
 pub use plan::{ask, commit, Plan};
 pub use price::{price, Priced};
 pub use quiet::Board;
-pub use raw::Position;
+pub use raw::{Node, Position};
 pub use reach::reach;
 pub use table::{check_table, run, step, Stepped};
 pub use unfold::unfold;

@@ -1,6 +1,6 @@
 //! Asking for the plan of a circuit, and folding the circuit only as planned.
 
-use crate::{raw, Answer};
+use crate::{raw, Answer, Node};
 
 /// What the table of a circuit takes. Which outputs are connected is no part of it.
 #[derive(Clone, Copy, Debug, PartialEq, Eq)]
@@ -44,17 +44,19 @@ impl From<[u64; 21]> for Plan {
 
 /// The plan of the table that `circuit` folds to, or the refusal.
 ///
-/// `scratch` is memory to work in. Where a plan is found, the part of it that is needed ends as
-/// zeros.
-pub fn ask(circuit: &[u8], scratch: &mut [u16]) -> Result<Plan, Answer> {
+/// `scratch` and `nodes` are memory to work in. Once `scratch` is judged long enough, the part of it
+/// that is needed and all of `nodes` end as zeros, also where there are too few records (18).
+pub fn ask(circuit: &[u8], scratch: &mut [u16], nodes: &mut [Node]) -> Result<Plan, Answer> {
     let mut answer = [0; 23];
-    // SAFETY: each pointer and length is that of one slice; `scratch` and `answer` are exclusive.
+    // SAFETY: each pointer and length is that of one slice; those written to are exclusive.
     unsafe {
         raw::tff_ask(
             circuit.as_ptr(),
             circuit.len(),
             scratch.as_mut_ptr(),
             scratch.len(),
+            nodes.as_mut_ptr(),
+            nodes.len(),
             answer.as_mut_ptr(),
             answer.len(),
         )
@@ -68,9 +70,16 @@ pub fn ask(circuit: &[u8], scratch: &mut [u16]) -> Result<Plan, Answer> {
 
 /// Folds `circuit` into `result` as `fold` does, but only where `plan` is the one that asking gives.
 ///
-/// `scratch` is memory to work in. Once it is judged long enough, the part of it that is needed ends
-/// as zeros, also where `plan` is another or `result` is too short.
-pub fn commit(circuit: &[u8], plan: &Plan, scratch: &mut [u16], result: &mut [u8]) -> Answer {
+/// `scratch` and `nodes` are memory to work in. Once `scratch` is judged long enough, the part of it
+/// that is needed and all of `nodes` end as zeros, also where there are too few records (18), `plan`
+/// is another or `result` is too short.
+pub fn commit(
+    circuit: &[u8],
+    plan: &Plan,
+    scratch: &mut [u16],
+    nodes: &mut [Node],
+    result: &mut [u8],
+) -> Answer {
     let plan = plan.numbers();
     Answer::of(|answer| {
         // SAFETY: each pointer and length is that of one slice; those written to are exclusive.
@@ -82,6 +91,8 @@ pub fn commit(circuit: &[u8], plan: &Plan, scratch: &mut [u16], result: &mut [u8
                 plan.len(),
                 scratch.as_mut_ptr(),
                 scratch.len(),
+                nodes.as_mut_ptr(),
+                nodes.len(),
                 result.as_mut_ptr(),
                 result.len(),
                 answer.as_mut_ptr(),

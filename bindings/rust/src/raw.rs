@@ -14,6 +14,16 @@ pub struct Position {
     pub state: usize,
 }
 
+/// A record of the list that folding is lent: room for one node of a decision diagram. It may hold
+/// anything before a call.
+#[repr(C)]
+#[derive(Clone, Copy, Debug, Default, PartialEq, Eq)]
+pub struct Node {
+    pub level: u32,
+    pub low: u32,
+    pub high: u32,
+}
+
 extern "C" {
     pub fn tff_check_circuit(
         circuit: *const u8,
@@ -39,6 +49,8 @@ extern "C" {
         circuit_len: usize,
         scratch: *mut u16,
         scratch_len: usize,
+        nodes: *mut Node,
+        nodes_len: usize,
         result: *mut u8,
         result_len: usize,
         answer: *mut u64,
@@ -50,6 +62,8 @@ extern "C" {
         circuit_len: usize,
         scratch: *mut u16,
         scratch_len: usize,
+        nodes: *mut Node,
+        nodes_len: usize,
         answer: *mut u64,
         answer_len: usize,
     );
@@ -61,6 +75,8 @@ extern "C" {
         plan_len: usize,
         scratch: *mut u16,
         scratch_len: usize,
+        nodes: *mut Node,
+        nodes_len: usize,
         result: *mut u8,
         result_len: usize,
         answer: *mut u64,

@@ -1,13 +1,23 @@
--- The numbers of a plan and of what asking answers, and what is left in the scratch for whoever writes the table.
-use Prim.Native.Nat.{ℕ}
+-- The numbers of a plan and of what asking answers, and what is known of a circuit that was surveyed.
+use Prim.Native.Nat.{ℕ, _+_, _-_, _≤_, min}
 use mathlib.Core.Path.{_≡_}
 use mathlib.Core.List.{List, [], _∷_, _++_}
-use lib.ListN.{getD, drop, replicate}
+use lib.ListN.{getD, replicate}
 use Rattle.verdict.specs.Judgements.{answer, refusalFigures}
 use Rattle.verdict.specs.declared.Figures.{Figures}
-use Rattle.classify.specs.Classified.{Known}
-use Rattle.folded.specs.Folded.{scratchNeeded}
-use Rattle.folded.specs.Planned.{planLength}
+use Rattle.verdict.specs.declared.Refusal.{Refusal}
+use Rattle.verdict.specs.declared.Verdict.{Verdict}
+use Rattle.verdict.specs.declared.Verdict.the-variants as judgement
+use Rattle.sizes.specs.Sizes.{inputs, outputs, frames}
+use Rattle.circuit.specs.Circuit.{gates, allInputs, checked}
+use Rattle.circuit.specs.Theorems.{response}
+use Rattle.diagrams.specs.Building.{firstOver}
+use Rattle.functions.specs.Functions.{signalOn}
+use Rattle.explore.specs.Explore.{CountsTo}
+use Rattle.survey.specs.Survey.{mostRecords}
+use Rattle.survey.specs.declared.Survey.{Survey}
+use Rattle.folded.specs.Folded.{scratchChecked}
+use Rattle.folded.specs.Planned.{planLength, asked}
 use Rattle.ask.specs.declared.plan.Counts.{Counts}
 use Rattle.ask.specs.declared.plan.Plan.{Plan}
 use Rattle.ask.specs.declared.plan.Asked.{Asked}
@@ -57,12 +67,21 @@ askPlan (Refused r) = replicate planLength 0
 abbrev pub askNumbers : Asked → List ℕ
 askNumbers a = askFigures a .number ∷ askFigures a .place ∷ askPlan a
 
--- the scratch after holds the state of every history of the circuit b, and is as before beyond what is needed
-pub record StatesLeft (b before after : List ℕ) : Type 0 where
-  pub known : Known b after 0
-  pub beyond : drop (scratchNeeded b) after ≡ drop (scratchNeeded b) before
+-- these are the counts of the circuit's layers
+abbrev pub Counted : (b counts : List ℕ) → Type 0
+Counted b counts = CountsTo (inputs b) (outputs b) (frames b) (response b) counts (frames b - 1)
 
--- of each case
-abbrev pub ScratchLeft : Asked → (b before after : List ℕ) → Type 0
-ScratchLeft (Planned p) b before after = StatesLeft b before after
-ScratchLeft (Refused r) b before after = after ≡ before
+-- the circuit is accepted, and where the records were enough, its states are counted
+pub record Found (b : List ℕ) (survey : Survey) : Type 0 where
+  pub accepted : checked b .number ≡ 0
+  pub most : survey .place ≤ gates b + 1
+  pub counted : survey .place ≡ gates b + 1 → Counted b (survey .counts)
+
+-- what asking answers, with whatever scratch and however many records, where the survey's place is the first for which they are too few
+unfoldable pub Answers : List ℕ → Survey → Asked → Type 0
+Answers b survey a = (room records : ℕ) → scratchChecked b room ≡ answer 0 0 → survey .place ≡ firstOver (allInputs b) (min records mostRecords) (gates b) (signalOn b)
+    → askNumbers a ≡ asked b room records
+
+-- what asking answers where a judgement refuses
+abbrev pub Refuses : Verdict → Asked → Type 0
+Refuses judged a = (refusal : Refusal) → judged ≡ judgement.Refused refusal → a ≡ Refused refusal

@@ -1,30 +1,32 @@
 // Asks for the plan of a circuit's table: its sizes, counts and bytes, before it is written.
 pub mod plan;
 
-use causal::check;
 use circuit::Head;
-use classify::classify;
-use classify::clear;
+use lent::accepts;
+use lent::clear_needed;
+use lent::judge_lent;
+use nodes::Node;
 use plan::Asked;
 use plan::Counts;
 use plan::Plan;
-use responses::histories;
+use records::clear as empty;
+use sizes::power;
+use survey::Survey;
+use survey::no_work;
+use survey::survey_circuit;
 use table::head::head_length;
 use verdict::Refusal;
 use verdict::Verdict;
 ghost use mathlib.Core.Path.{_≡_};
-ghost use Prim.Native.Nat.{_*_, _^_, _≤_};
 ghost use lib.ListN.{length};
-ghost use Rattle.sizes.specs.Limits.{mostBits};
 ghost use Rattle.circuit.specs.Circuit.{checked};
 ghost use Rattle.circuit.specs.WellFormed.{WellFormed};
-ghost use Rattle.classify.specs.Classified.{historyCount, Known, Counted};
-ghost use Rattle.folded.specs.Folded.{foldedBytes, scratchAfter};
+ghost use Rattle.folded.specs.Folded.{foldedBytes, scratchAfter, nodesAfter};
 ghost use Rattle.folded.specs.Planned.{foldedPlan, asked};
 ghost use Rattle.folded.specs.Theorems.{Asking};
 ghost use Rattle.ask.specs.declared.plan.Plan.{Plan};
 ghost use Rattle.ask.specs.declared.plan.Asked.the-variants.{Planned};
-ghost use Rattle.ask.specs.Plan.{planNumbers, askNumbers, ScratchLeft};
+ghost use Rattle.ask.specs.Plan.{Counted, Found, Answers, Refuses, planNumbers, askNumbers};
 
 // How many bytes the table takes.
 fn bytes_needed(circuit: &[u8], head: Head, counts: &[u16]) -> usize
@@ -37,18 +39,16 @@ fn bytes_needed(circuit: &[u8], head: Head, counts: &[u16]) -> usize
     for t in 0..frames {
         states += counts[t] as usize;
     }
-    head_length(frames) + 4 * (states * histories(head.inputs, 1))
+    head_length(frames) + 4 * (states * power(head.inputs))
 }
 
-// Classifies the histories of an accepted circuit in the scratch, which is just as long as needed, and answers its plan.
-fn plan_in(circuit: &[u8], head: Head, scratch: &mut [u16]) -> Plan
-    requires { ⌜ WellFormed (now circuit) head ⌝ }
-    requires { ⌜ checked (now circuit) .number ≡ 0 ⌝ }
-    requires { ⌜ length (now scratch) ≡ 2 * historyCount (now circuit) ⌝ }
-    ensures plan { λ r. ⌜ planNumbers r ≡ foldedPlan (now (circuit .entry)) ⌝ }
-    ensures known { λ _. ⌜ Known (now (circuit .entry)) (now (scratch .exit)) 0 ⌝ }
+// The plan of an accepted circuit whose states are counted.
+pub fn plan_of(circuit: &[u8], survey: Survey) -> Plan
+    requires { ⌜ (checked (now circuit) .number ≡ 0) × Counted (now circuit) (survey .counts) ⌝ }
+    ensures { λ r. ⌜ planNumbers r ≡ foldedPlan (now (circuit .entry)) ⌝ }
 {
-    let counts = classify(circuit, head, scratch);
+    let head = Head::read(circuit);
+    let counts = survey.counts;
     let bytes = bytes_needed(circuit, head, &counts);
     Plan {
         inputs: head.inputs,
@@ -59,42 +59,42 @@ fn plan_in(circuit: &[u8], head: Head, scratch: &mut [u16]) -> Plan
     }
 }
 
-// How many scratch numbers a circuit of these sizes needs.
-pub fn scratch_needed(inputs: usize, frames: usize) -> usize
-    requires { ⌜ inputs * frames ≤ mostBits ⌝ }
-    ensures { λ r. ⌜ r ≡ 2 * 2 ^ (inputs * frames) ⌝ }
+// What asking answers of a circuit that was judged and surveyed: 18, or its plan.
+pub fn asked_of(circuit: &[u8], survey: Survey) -> Asked
+    requires { ⌜ Found (now circuit) survey ⌝ }
+    ensures { λ r. ⌜ Answers (now (circuit .entry)) survey r ⌝ }
 {
-    2 * histories(inputs, frames)
+    let place = survey.place;
+    if place <= Head::read(circuit).gates {
+        return Asked::Refused(Refusal::Nodes(place));
+    }
+    Asked::Planned(plan_of(circuit, survey))
 }
 
-// What asking, folding and committing begin with: judges the circuit and the scratch, and answers the plan. The states of all histories are left
-// in the scratch, for whoever writes the table.
-pub fn classify_checked(circuit: &[u8], scratch: &mut [u16]) -> Asked
-    ensures answer { λ r. ⌜ askNumbers r ≡ asked (now (circuit .entry)) (length (now (scratch .entry))) ⌝ }
-    ensures scratch { λ r. ⌜ ScratchLeft r (now (circuit .entry)) (now (scratch .entry)) (now (scratch .exit)) ⌝ }
+// What asking answers where a judgement refuses.
+fn refused(judged: Verdict) -> Asked
+    ensures { λ r. ⌜ Refuses judged r ⌝ }
 {
-    let judged = check(circuit);
-    if let Verdict::Refused(refusal) = judged {
-        return Asked::Refused(refusal);
+    match judged {
+        Verdict::Accepted(_) => Asked::Refused(Refusal::Scratch(0)),
+        Verdict::Refused(refusal) => Asked::Refused(refusal),
     }
-    let head = Head::read(circuit);
-    let needed = scratch_needed(head.inputs, head.frames);
-    if scratch.len() < needed {
-        return Asked::Refused(Refusal::Scratch(needed));
-    }
-    Asked::Planned(plan_in(circuit, head, &mut scratch[..needed]))
 }
 
-// The plan of a circuit's table. What is needed of the scratch ends zero.
-pub fn ask(circuit: &[u8], scratch: &mut [u16]) -> Asked
-    ensures answer { λ r. ⌜ askNumbers r ≡ asked (now (circuit .entry)) (length (now (scratch .entry))) ⌝ }
+// The plan of a circuit's table. What is needed of the scratch, and the whole list of records, end zero.
+pub fn ask(circuit: &[u8], scratch: &mut [u16], nodes: &mut [Node]) -> Asked
+    ensures answer { λ r. ⌜ askNumbers r ≡ asked (now (circuit .entry)) (length (now (scratch .entry))) (length (now (nodes .entry))) ⌝ }
     ensures scratch { λ _. ⌜ now (scratch .exit) ≡ scratchAfter (now (circuit .entry)) (now (scratch .entry)) ⌝ }
-    ensures asking { λ r. ⌜ ((plan : Plan) → r ≡ Planned plan → Asking (now (circuit .entry)) (length (now (scratch .entry))) (planNumbers plan)) ⌝ }
+    ensures nodes { λ _. ⌜ now (nodes .exit) ≡ nodesAfter (now (circuit .entry)) (length (now (scratch .entry))) (now (nodes .entry)) ⌝ }
+    ensures asking { λ r. ⌜ ((plan : Plan) → r ≡ Planned plan → Asking (now (circuit .entry)) (length (now (scratch .entry))) (length (now (nodes .entry))) (planNumbers plan)) ⌝ }
 {
-    let asked = classify_checked(circuit, scratch);
-    if let Asked::Planned(plan) = asked {
-        let needed = scratch_needed(plan.inputs, plan.frames);
-        clear(&mut scratch[..needed]);
+    let judged = judge_lent(circuit, scratch);
+    if !accepts(judged) {
+        return refused(judged);
     }
-    asked
+    let mut work = no_work();
+    let found = survey_circuit(circuit, scratch, nodes, &mut work);
+    empty(nodes);
+    clear_needed(circuit, scratch);
+    asked_of(circuit, found)
 }

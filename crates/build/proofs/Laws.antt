@@ -1,12 +1,12 @@
 -- Laws of what is to be made of a signal.
-use mathlib.Core.Path.{_≡_, refl, sym, ap, ap₂, _∙_, subst}
-use mathlib.Core.Bool.{Bool, true, false, cond, false≢true}
+use mathlib.Core.Path.{_≡_, refl, ap, ap₂, _∙_}
+use mathlib.Core.Bool.{Bool, true, false, cond}
 use mathlib.Core.List.{List}
 use Prim.Native.Nat.{ℕ, _+_, _-_, _/_, _%_, _≤_, _<_}
 use native.Mathlib.Omega.{arith}
 use lib.Dec.{T, eqb, ltb, ltb→lt, lt→ltb}
 use lib.ListN.{getD}
-use Rattle.circuit.specs.Circuit.{leftsAt, rightsAt, allInputs, operand}
+use Rattle.circuit.specs.Circuit.{allInputs}
 use Rattle.circuit.specs.WellFormed.{GateOf}
 use Rattle.circuit.specs.declared.Gate.{Gate}
 use Rattle.nodes.specs.declared.Pair.{Pair}

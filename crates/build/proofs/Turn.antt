@@ -1,17 +1,17 @@
 -- A turn of building, on lists: what making a signal may be asked, and what follows from what it says.
-use mathlib.Core.Path.{_≡_, refl, sym, ap, ap₂, _∙_, subst}
-use mathlib.Core.Bool.{Bool, true, false, cond, false≢true}
+use mathlib.Core.Path.{_≡_, refl, sym, ap, _∙_, subst}
+use mathlib.Core.Bool.{Bool, true, false, cond}
 use mathlib.Core.Logic.{_⊎_, inl, inr, ⊎-elim, _≢_}
 use mathlib.Core.List.{List}
-use Prim.Native.Nat.{ℕ, suc, _+_, _*_, _-_, _/_, _%_, _≤_, _<_}
+use Prim.Native.Nat.{ℕ, suc, _+_, _*_, _-_, _≤_, _<_}
 use native.Mathlib.Omega.{arith}
-use lib.Dec.{T, eqb, ltb, ltb→lt, lt→ltb}
+use lib.Dec.{T, ltb, ltb→lt, lt→ltb}
 use lib.ListN.{length, getD, set, length-set}
 use lib.Seq.{getD-set-same, getD-set-other}
 use Rattle.sizes.specs.Limits.{mostBits}
-use Rattle.circuit.specs.Limits.{mostGates, mostSignals}
+use Rattle.circuit.specs.Limits.{mostSignals}
 use Rattle.circuit.specs.Circuit.{gates, leftsAt, rightsAt, allInputs, operand}
-use Rattle.circuit.specs.WellFormed.{WellFormed, GateOf}
+use Rattle.circuit.specs.WellFormed.{WellFormed}
 use Rattle.circuit.specs.declared.Head.{Head}
 use Rattle.diagrams.specs.Diagrams.{Nodes, Denotes}
 use Rattle.diagrams.specs.Making.{Conjoined, Joined, noId}
@@ -26,13 +26,12 @@ use Rattle.functions.proofs.Signals.{signals-family}
 use Rattle.circuit.proofs.Literals.{operand-before}
 use Rattle.build.proofs.Laws.{number-input, number-gate}
 use Rattle.nodes.specs.declared.Node.{Node}
-use Rattle.nodes.specs.declared.Pair.{Pair}
 use Rattle.nodes.proofs.Laws.{below-or}
-use Rattle.records.specs.Records.{nodesIn, Kept}
-use Rattle.conjoin.specs.Cache.{cacheLength, Cached, Ready, Anded}
+use Rattle.records.specs.Records.{nodesIn}
+use Rattle.conjoin.specs.Cache.{cacheLength, Cached}
 use Rattle.conjoin.proofs.Laws.{cached-kept, cached-none, cached-same}
 use Rattle.build.specs.Build
-use Rattle.build.specs.Build.{operandsIn, OriginOf, Makeable, Makes, Signals}
+use Rattle.build.specs.Build.{OriginOf, Makeable, Makes, Signals}
 use Rattle.build.specs.declared.Origin.{Origin}
 
 -- ---- the ids of the first signals

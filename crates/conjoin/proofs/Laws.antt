@@ -1,9 +1,9 @@
 -- Laws of the cache.
 use mathlib.Core.Path.{_≡_, refl, sym, ap, _∙_, subst}
-use mathlib.Core.Bool.{Bool, true, false}
-use mathlib.Core.Logic.{_⊎_, inl, inr, ⊎-elim, _≢_}
+use mathlib.Core.Bool.{Bool, false}
+use mathlib.Core.Logic.{_⊎_, inl, inr, _≢_}
 use mathlib.Core.List.{List}
-use Prim.Native.Nat.{ℕ, _+_, _*_, _/_, _%_, _≤_, _<_}
+use Prim.Native.Nat.{ℕ, _+_, _*_, _%_, _≤_, _<_}
 use native.Mathlib.Nat.{mod-lt}
 use native.Mathlib.Omega.{arith}
 use lib.ListN.{length, getD, set, length-set}
@@ -15,7 +15,7 @@ use Rattle.diagrams.proofs.Growth.{decide}
 use Rattle.diagrams.proofs.Caching.{flags-apart, and-kept, and-none}
 use Rattle.nodes.specs.declared.Pair.{Pair}
 use Rattle.conjoin.specs.Cache
-use Rattle.conjoin.specs.Cache.{cacheEntries, Cached, Slot, Looked, KeptIn}
+use Rattle.conjoin.specs.Cache.{Cached, Slot, Looked, KeptIn}
 
 -- the number of two inversions
 pub flags-are : (a b x y : Bool) (n : ℕ) → a ≡ x → b ≡ y → n ≡ flagsOf x y → n < 4 → (n ≡ flagsOf a b) × (n < 4)

@@ -1,21 +1,20 @@
 -- A turn of the recursive AND, on lists: what each call may be asked, and what follows from what it says.
-use mathlib.Core.Path.{_≡_, refl, sym, _∙_, subst}
+use mathlib.Core.Path.{_≡_, refl, _∙_}
 use mathlib.Core.Logic.{_≢_}
 use mathlib.Core.List.{List}
-use Prim.Native.Nat.{ℕ, suc, _+_, _-_, _^_, _≤_, _<_, min}
+use Prim.Native.Nat.{ℕ, suc, _+_, _-_, _≤_, _<_, min}
 use native.Mathlib.Omega.{arith}
 use lib.ListN.{length}
-use Rattle.diagrams.specs.Making.{Conjoined, Joined, Laid, Table, Known, noId}
-use Rattle.diagrams.specs.Caching.{AndIs}
+use Rattle.diagrams.specs.Making.{Joined, Laid, Table, Known, noId}
 use Rattle.diagrams.proofs.Caching.{and-made, and-answers}
 use Rattle.nodes.specs.declared.Node.{Node}
 use Rattle.nodes.specs.declared.Pair.{Pair}
 use Rattle.nodes.specs.declared.Halves.{Halves}
 use Rattle.nodes.specs.Nodes.{halvesOf}
 use Rattle.nodes.proofs.Conjoin as step
-use Rattle.records.specs.Records.{nodeOf, nodesIn, Kept}
+use Rattle.records.specs.Records.{nodeOf, nodesIn}
 use Rattle.records.proofs.Laws.{shows-of}
-use Rattle.conjoin.specs.Cache.{cacheLength, Cached, Slot, Looked, KeptIn, Ready, Anded}
+use Rattle.conjoin.specs.Cache.{Slot, Looked, KeptIn, Ready, Anded}
 use Rattle.conjoin.proofs.Laws.{cached-kept, looked-and, cached-set}
 
 module _ (N R c : ℕ) (ns : List Node) (ws : List ℕ) (p : Pair) (left : ℕ) (pre : Ready N R c ns ws p left) where

@@ -1,7 +1,7 @@
 -- Laws of building the diagrams of a circuit.
 use mathlib.Core.Path.{_≡_, refl, sym, ap, ap₂, _∙_, subst}
 use mathlib.Core.Bool.{Bool, true, false, cond, not, _&&_}
-use mathlib.Core.Logic.{_⊎_, inl, inr, ⊎-elim, _≢_}
+use mathlib.Core.Logic.{_⊎_, inl, inr, _≢_}
 use mathlib.Core.List.{List, _∷_}
 use Prim.Native.Nat.{ℕ, zero, suc, _+_, _*_, _-_, _/_, _%_, _^_, _≤_, _<_}
 use native.Mathlib.Nat.{le-refl, mul-le-mul-right}
@@ -9,19 +9,18 @@ use native.Mathlib.Omega.{arith}
 use lib.Dec.{T, eqb, ltb, ltb→lt, lt→ltb}
 use lib.ListN.{length, getD, set}
 use lib.Seq.{getD-set-same, getD-set-other}
-use Rattle.layered.specs.Search.{least, tally, total}
-use Rattle.layered.proofs.Search.{tally-at-most, tally-le, tally-more, least-finds, least-le}
-use Rattle.diagrams.specs.Diagrams.{Nodes, branch, value, Reduced, Denotes, Cofactor, Grown, conjunction}
+use Rattle.layered.specs.Search.{tally}
+use Rattle.layered.proofs.Search.{tally-at-most, tally-le, tally-more, least-here, least-none}
+use Rattle.layered.proofs.Lists.{total-mono}
+use Rattle.diagrams.specs.Diagrams.{Nodes, value, Denotes, Cofactor, Grown, conjunction}
 use Rattle.diagrams.specs.Making
-use Rattle.diagrams.specs.Making.{Made, Overfull, Absent, Added, Table, Laid, Joined, Conjoined, noId}
+use Rattle.diagrams.specs.Making.{Made, Overfull, Table, Laid, Joined, Conjoined, noId}
 use Rattle.diagrams.specs.Counts.{isNode, nodesAt, nodesOf}
 use Rattle.diagrams.specs.Theorems.{used, Holds, Within}
 use Rattle.diagrams.specs.Building.{signal, literal, Family, firstOver, Built}
-use Rattle.diagrams.proofs.Laws.{branch-past, cond-yes, cond-no}
 use Rattle.diagrams.proofs.Growth.{decide, value-kept, cofactor-kept, grown-none}
-use Rattle.diagrams.proofs.Making.{made-same, made-down, overfull-same, overfull-down, made-one, made-found, made-added, made-lacking, low-under, constant-value}
+use Rattle.diagrams.proofs.Making.{made-same, made-down, overfull-same, overfull-down, made-found, made-added, made-lacking, low-under, constant-value}
 use Rattle.diagrams.proofs.Probing.{table-added}
-use Rattle.diagrams.proofs.Tallies.{total-at-most}
 use Rattle.diagrams.proofs.Counted.{counted-fewer, counted-more}
 
 -- ---- the outcome of making the function H from level l on
@@ -141,18 +140,7 @@ module _ (N M R : ℕ) (F : ℕ → List Bool → Bool) (D : Nodes) (ids : List 
 
 pub nodes-grow : (N M K : ℕ) (F : ℕ → List Bool → Bool) → M ≤ K → nodesOf N M F ≤ nodesOf N K F
 unfolding nodesOf nodesAt
-nodes-grow N M K F h = total-at-most N _ _ (λ k _. tally-le (isNode F k (N - suc k)) (M * 2 ^ k) (K * 2 ^ k) (mul-le-mul-right (2 ^ k) h))
-
-least-is : (n m : ℕ) (p : ℕ → Bool) → m < n → T (p m) → ((k : ℕ) → k < m → T (p k) → ⊥) → least n p ≡ m
-least-is n m p h t none =
-    let f = least-finds n m p (omega arith) t in
-    let g : ¬ (least n p < m) = λ l. none (least n p) l (f .0) in
-    omega (arith, f .1)
-
-least-none : (n : ℕ) (p : ℕ → Bool) → ((k : ℕ) → k < n → T (p k) → ⊥) → least n p ≡ n
-unfolding least
-least-none zero p f = refl
-least-none (suc n) p f = cond-no 0 (suc (least n (λ i. p (suc i)))) (p 0) (f 0 (omega arith)) ∙ ap suc (least-none n (λ i. p (suc i)) (λ k h. f (suc k) (omega arith)))
+nodes-grow N M K F h = total-mono N _ _ (λ k _. tally-le (isNode F k (N - suc k)) (M * 2 ^ k) (K * 2 ^ k) (mul-le-mul-right (2 ^ k) h))
 
 module _ (N R G : ℕ) (F : ℕ → List Bool → Bool) where
   -- gate g is the first
@@ -160,7 +148,7 @@ module _ (N R G : ℕ) (F : ℕ → List Bool → Bool) where
   unfolding firstOver
   over-gate g h few l =
       let e : N + (g + 1) ≡ suc (N + g) = omega arith in
-      sym (least-is (suc G) (g + 1) _ (omega arith) (lt→ltb R _ (subst (λ M. R < nodesOf N M F) (sym e) l))
+      sym (least-here (suc G) (g + 1) _ (omega arith) (lt→ltb R _ (subst (λ M. R < nodesOf N M F) (sym e) l))
       (λ k b t. omega (arith, ltb→lt R (nodesOf N (N + k) F) t, nodes-grow N (N + k) (N + g) F (omega arith))))
 
   -- none is
@@ -254,4 +242,4 @@ pub over-start : (N R G : ℕ) (F : ℕ → List Bool → Bool) → R < nodesOf 
 unfolding firstOver
 over-start N R G F l =
     let e : N ≡ N + 0 = omega arith in
-    sym (least-is (suc G) 0 _ (omega arith) (lt→ltb R _ (subst (λ M. R < nodesOf N M F) e l)) (λ k b. absurd (omega arith)))
+    sym (least-here (suc G) 0 _ (omega arith) (lt→ltb R _ (subst (λ M. R < nodesOf N M F) e l)) (λ k b. absurd (omega arith)))

@@ -1,17 +1,17 @@
 -- Laws of the recursive AND.
 use mathlib.Core.Path.{_≡_, refl, sym, ap, ap₂, _∙_, subst}
-use mathlib.Core.Bool.{Bool, true, false, cond, not, _&&_, false≢true}
-use mathlib.Core.Logic.{_⊎_, inl, inr, ⊎-elim, _≢_}
-use mathlib.Core.List.{List, [], _∷_, _++_}
+use mathlib.Core.Bool.{Bool, true, false, cond, not, _&&_}
+use mathlib.Core.Logic.{_⊎_, _≢_}
+use mathlib.Core.List.{List, _∷_}
 use Prim.Native.Nat.{ℕ, zero, suc, _+_, _≤_, _<_}
 use native.Mathlib.Omega.{arith}
 use lib.Dec.{eqb}
 use lib.ListN.{length}
-use Rattle.diagrams.specs.Diagrams.{Nodes, branch, value, Reduced, Denotes, Grown, conjunction}
+use Rattle.diagrams.specs.Diagrams.{Nodes, value, Reduced, Denotes, Grown, conjunction}
 use Rattle.diagrams.specs.Making
-use Rattle.diagrams.specs.Making.{Made, Overfull, Absent, Added, Table, Path, home, noId, Joined, Known, Halved, Conjoined}
-use Rattle.diagrams.proofs.Laws.{branch-past, branch-below}
-use Rattle.diagrams.proofs.Growth.{grown-none, grown-same, added-grown}
+use Rattle.diagrams.specs.Making.{Made, Table, noId, Joined, Known, Halved, Conjoined}
+use Rattle.diagrams.proofs.Laws.{branch-below}
+use Rattle.diagrams.proofs.Growth.{grown-none, added-grown}
 use Rattle.diagrams.proofs.Making.{made-same, made-down, overfull-same, overfull-down, overfull-low, overfull-high, low-under, low-is, made-one, made-found, made-added, made-lacking, constant-value, conjunction-past, conjunction-kept}
 use Rattle.diagrams.proofs.Probing.{table-added}
 

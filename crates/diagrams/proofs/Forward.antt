@@ -1,16 +1,16 @@
 -- States in forward order.
 use mathlib.Core.Path.{_≡_, refl, sym, ap, ap₂, _∙_, subst}
-use mathlib.Core.Logic.{_⊎_, inl, inr, ⊎-elim, _↔_}
+use mathlib.Core.Logic.{_⊎_, inl, inr, ⊎-elim}
 use Prim.Native.Nat.{ℕ, suc, _+_, _*_, _/_, _%_, _^_, _≤_, _<_}
-use native.Mathlib.Nat.{le-refl, le-antisymm, mod-lt, pow-suc, div-lt-iff-lt-mul, div-add-mod', mul-le-mul-right}
+use native.Mathlib.Nat.{le-refl, le-antisymm, mod-lt, pow-suc, div-lt-iff-lt-mul, div-add-mod'}
 use native.Mathlib.Omega.{arith}
 use lib.Arith.{digits-lt, digits-div, digits-mod}
-use lib.Dec.{T as Yes, eqb, eqb→eq}
+use lib.Dec.{T as Yes, eqb→eq}
 use Rattle.layered.specs.Search.{tally}
 use Rattle.layered.specs.States.{Equivalent, smallest, first, count, number, history}
 use Rattle.layered.proofs.Search.{eq-eqb}
-use Rattle.layered.proofs.States.{equivalent-sym, equivalent-step, smallest-is, smallest-le, smallest-least, first-smallest, number-decides, number-below, history-is, history-least, number-order}
-use Rattle.diagrams.specs.Forward.{candidate, Forward, InForwardOrder}
+use Rattle.layered.proofs.States.{equivalent-step, smallest-is, smallest-le, smallest-least, first-smallest, number-decides, number-below, history-is, history-least, number-order}
+use Rattle.diagrams.specs.Forward.{candidate, InForwardOrder}
 use Rattle.diagrams.proofs.Growth.{decide}
 use Rattle.diagrams.proofs.Tallies.{tally-into}
 

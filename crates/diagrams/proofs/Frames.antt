@@ -1,20 +1,18 @@
 -- The states of a layer by the cut.
 use mathlib.Core.Path.{_≡_, refl, sym, ap, ap₂, _∙_, subst}
-use mathlib.Core.Bool.{Bool, true, false, cond}
-use mathlib.Core.Logic.{_⊎_, inl, inr, ⊎-elim, _↔_}
+use mathlib.Core.Bool.{Bool, true, false}
+use mathlib.Core.Logic.{_⊎_, inl, inr}
 use mathlib.Core.List.{List, [], _∷_, _++_, append-assoc}
 use Prim.Native.Nat.{ℕ, zero, suc, _+_, _*_, _-_, _/_, _%_, _^_, _≤_, _<_}
-use native.Mathlib.Nat.{pow-zero, pow-suc, one-le-pow, mul-suc, mul-le-mul-left}
+use native.Mathlib.Nat.{pow-zero, pow-suc, mul-suc, mul-le-mul-left}
 use native.Mathlib.Omega.{arith}
 use lib.Arith.{digits-div, digits-mod}
 use lib.Dec.{T as Yes, eqb, eqb→eq, ltb, ltb→lt, lt→ltb}
-use lib.ListN.{length, replicate, take, drop, length-append, length-take, length-drop, length-replicate, take-append-drop}
+use lib.ListN.{length, replicate, take, drop, length-append, length-drop, length-replicate, take-append-drop}
 use lib.Seq.{length-take-le}
 use Rattle.layered.specs.States.{Equivalent}
 use Rattle.layered.proofs.Search.{case, eq-eqb, iff-eq}
 use Rattle.layered.proofs.States.{equivalent-step, equivalent-rows, equivalent-last}
-use Rattle.diagrams.specs.Diagrams.{Nodes, follow, Reduced}
-use Rattle.diagrams.specs.Theorems.{Holds}
 use Rattle.diagrams.specs.Frames.{wordBits, historyBits, Responds, StatesByCut}
 use Rattle.diagrams.proofs.Cut.{cut-at}
 

@@ -2,7 +2,7 @@
 use mathlib.Core.Path.{_≡_, refl, sym, ap, _∙_, subst}
 use mathlib.Core.List.{List}
 use Prim.Native.Nat.{ℕ, zero, suc, _+_, _*_, _-_, _^_, _≤_, _<_}
-use native.Mathlib.Nat.{le-refl, not-suc-le-zero, one-le-pow, mul-one, mul-le-mul-left, mul-suc}
+use native.Mathlib.Nat.{le-refl, not-suc-le-zero, one-le-pow, mul-one, mul-le-mul-left}
 use native.Mathlib.Numerals.{add-one}
 use native.Mathlib.Omega.{arith}
 use lib.ListN.{length, getD, set, replicate, length-set}
@@ -12,10 +12,10 @@ use Rattle.layered.proofs.Search.{below-suc}
 use Rattle.layered.proofs.States.{count-first}
 use Rattle.diagrams.specs.Paths.{pathOf}
 use Rattle.diagrams.specs.Numbering.{numberSame}
-use Rattle.explore.specs.Explore.{columnCount, layerAt, Laid, Explored, CountsTo, Subject, countAt, leadAt, sameTo, AtLayer, Numbered, Exploring, Startable, Underway, Moved, grouped, started, Groupable}
+use Rattle.explore.specs.Explore.{layerAt, Laid, Explored, CountsTo, Subject, countAt, sameTo, AtLayer, Numbered, Exploring, Startable, Underway, Moved, started, Groupable}
 use Rattle.explore.specs.declared.Layout.{Layout}
 use Rattle.explore.specs.declared.Cursor.{Cursor}
-use Rattle.explore.proofs.Layers.{two-words, frames-to, half-to, outputs-le, few-states, some-state}
+use Rattle.explore.proofs.Layers.{two-words, frames-to, outputs-le}
 use Rattle.explore.proofs.Groups.{candidates-power, candidates-in}
 use Rattle.explore.proofs.Turns.{group-starts, same-none}
 

@@ -8,10 +8,10 @@ use Rattle.diagrams.specs.Diagrams.{follow}
 use Rattle.diagrams.specs.Frames.{wordBits}
 use Rattle.nodes.specs.declared.Node.{Node}
 use Rattle.records.specs.Records.{nodesIn}
-use Rattle.descend.specs.Descend.{Standing, Traceable, Traced}
+use Rattle.descend.specs.Descend.{Traceable, Traced}
 use Rattle.descend.specs.declared.Job.{Job}
 use Rattle.descend.proofs.Laws.{standing-less}
-use Rattle.explore.specs.Explore.{Laid, Subject, Exploring, Startable, Underway, Moved, Moves, Starts, stepsLeft, jobOf, Explorable, Ended, Ends}
+use Rattle.explore.specs.Explore.{Laid, Subject, Exploring, Startable, Underway, Moved, Moves, Starts, stepsLeft, jobOf, Explorable, Ends}
 use Rattle.explore.specs.declared.Layout.{Layout}
 use Rattle.explore.specs.declared.Cursor.{Cursor}
 use Rattle.explore.proofs.Layers.{frames-to}

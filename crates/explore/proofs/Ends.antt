@@ -1,13 +1,13 @@
 -- A group's end, for whatever is explored. Assumes nothing.
 use mathlib.Core.Path.{_≡_, sym, subst}
 use mathlib.Core.List.{List}
-use Prim.Native.Nat.{ℕ, suc, _+_, _*_, _≤_, _<_}
+use Prim.Native.Nat.{ℕ, _+_, _*_, _≤_, _<_}
 use native.Mathlib.Nat.{le-antisymm}
 use native.Mathlib.Omega.{arith}
 use Rattle.refine.specs.Rows.{Placed, Refined}
 use Rattle.refine.specs.Collecting.{Collectable, Collected}
 use Rattle.refine.specs.declared.Rows.{Rows}
-use Rattle.explore.specs.Explore.{Underway, Exploring, Moved, Moves, nextGroup, nextLayer, rowsOf, Groupable, Rowable, Nextable}
+use Rattle.explore.specs.Explore.{Underway, Moved, Moves, nextGroup, nextLayer, rowsOf, Groupable, Rowable, Nextable}
 use Rattle.explore.specs.declared.Layout.{Layout}
 use Rattle.explore.specs.declared.Cursor.{Cursor}
 use Rattle.explore.proofs.Groups.{rowable, placed}

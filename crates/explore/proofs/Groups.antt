@@ -1,19 +1,19 @@
 -- A group's end: the candidates' numbers by their rows are those by the outputs up to the group's end. Assumes nothing.
-use mathlib.Core.Path.{_≡_, refl, sym, ap, ap₂, _∙_}
+use mathlib.Core.Path.{_≡_, sym, ap, ap₂, _∙_}
 use mathlib.Core.Bool.{Bool, _&&_, and-true, and-assoc}
 use mathlib.Core.List.{List}
-use Prim.Native.Nat.{ℕ, zero, suc, _+_, _*_, _-_, _/_, _%_, _^_, _≤_, _<_, min}
+use Prim.Native.Nat.{ℕ, zero, suc, _+_, _*_, _-_, _^_, _≤_, _<_}
 use native.Mathlib.Nat.{pow-suc, mul-le-mul-right}
 use native.Mathlib.Omega.{arith}
 use lib.Dec.{eqb}
-use lib.ListN.{length, getD}
+use lib.ListN.{getD}
 use Rattle.layered.specs.Search.{every}
 use Rattle.layered.proofs.Search.{every-cong}
 use Rattle.diagrams.specs.Numbering.{numberSame}
 use Rattle.diagrams.proofs.Numbering.{number-cong, Equivalence, refined, equal-values, every-equivalence}
 use Rattle.refine.specs.Rows.{numberIn, partIn, sameRow, Placed, Refined}
 use Rattle.refine.specs.declared.Rows.{Rows}
-use Rattle.explore.specs.Explore.{columnCount, layerAt, Laid, Subject, countAt, leadAt, sameTo, AtLayer, Numbered, Exploring, rowsOf, Rowable}
+use Rattle.explore.specs.Explore.{columnCount, layerAt, Laid, Subject, leadAt, sameTo, AtLayer, Numbered, Exploring, rowsOf, Rowable}
 use Rattle.explore.specs.declared.Layout.{Layout}
 use Rattle.explore.specs.declared.Cursor.{Cursor}
 use Rattle.explore.proofs.Layers.{layer-next, layer-in, two-words, half-to, few-histories, few-states}

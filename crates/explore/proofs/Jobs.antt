@@ -1,12 +1,12 @@
 -- What is followed for a state of the group, and what that adds. Assumes nothing.
-use mathlib.Core.Path.{_≡_, refl, sym, ap, ap₂, _∙_, subst}
+use mathlib.Core.Path.{_≡_, sym, ap, ap₂, _∙_, subst}
 use mathlib.Core.List.{List}
 use mathlib.Core.Logic.{⊎-elim}
 use Prim.Native.Nat.{ℕ, suc, _+_, _*_, _-_, _/_, _%_, _^_, _≤_, _<_}
-use native.Mathlib.Nat.{le-refl, lt-of-lt-of-le, mul-suc, suc-mul, add-mul, mul-assoc, mul-comm, mul-le-mul-left, mul-le-mul-right, div-add-mod', mod-lt, div-lt-iff-lt-mul}
+use native.Mathlib.Nat.{le-refl, lt-of-lt-of-le, mul-suc, suc-mul, add-mul, mul-le-mul-left, mul-le-mul-right}
 use native.Mathlib.Omega.{arith}
 use lib.Arith.{digits-lt, digits-div, digits-mod}
-use lib.Pow.{pow-pos, pow-mono}
+use lib.Pow.{pow-mono}
 use lib.Dec.{ltb, ltb→lt, lt→ltb}
 use lib.ListN.{length, getD}
 use Rattle.layered.proofs.Search.{case}
@@ -17,11 +17,11 @@ use Rattle.diagrams.specs.Frames.{wordBits}
 use Rattle.diagrams.specs.Paths.{pathOf}
 use Rattle.diagrams.proofs.Paths.{path-below}
 use Rattle.diagrams.proofs.Classes.{lead-next}
-use Rattle.explore.specs.Explore.{columnCount, layerAt, Laid, Subject, countAt, leadAt, Roomy, AtLayer, Numbered, Exploring, Underway, jobOf}
+use Rattle.explore.specs.Explore.{columnCount, layerAt, Laid, Subject, leadAt, AtLayer, Numbered, Exploring, Underway, jobOf}
 use Rattle.explore.specs.declared.Layout.{Layout}
 use Rattle.explore.specs.declared.Cursor.{Cursor}
 use Rattle.descend.specs.declared.Job.{Job}
-use Rattle.explore.proofs.Layers.{layer-apart, layer-in, two-words, frames-to, outputs-few, half-to, words-few, few-states}
+use Rattle.explore.proofs.Layers.{layer-in, two-words, half-to, few-states}
 use Rattle.explore.proofs.Groups.{candidates-few}
 
 module _ (layout : Layout) (g : Subject) (s ws : List ℕ) (c : Cursor) (done : ℕ) (E : Exploring layout g s ws c done) where

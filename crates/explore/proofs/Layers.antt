@@ -1,7 +1,7 @@
 -- Where the layers lie: one after the other, all before the end of the half; and the sizes that follow. Assumes nothing.
-use mathlib.Core.Path.{_≡_, refl, sym, ap, ap₂, _∙_}
+use mathlib.Core.Path.{_≡_, ap, ap₂, _∙_}
 use Prim.Native.Nat.{ℕ, zero, suc, _+_, _*_, _-_, _/_, _^_, _≤_, _<_, min}
-use native.Mathlib.Nat.{pow-zero, pow-suc, mul-suc, mul-le-mul-left, mul-le-mul-right, mul-le-mul, add-mul, le-refl, le-trans, le-of-eq, pow-le-pow-right, one-le-pow}
+use native.Mathlib.Nat.{pow-zero, pow-suc, mul-suc, mul-le-mul-left, mul-le-mul-right, add-mul, le-refl, pow-le-pow-right, one-le-pow}
 use native.Mathlib.Numerals.{add-one}
 use native.Mathlib.Decide.{le-ind}
 use native.Mathlib.Omega.{arith}

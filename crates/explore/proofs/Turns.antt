@@ -1,36 +1,32 @@
 -- One group, or one layer, more. Assumes nothing.
-use mathlib.Core.Path.{_≡_, refl, sym, ap, ap₂, _∙_, subst}
+use mathlib.Core.Path.{_≡_, sym, ap, ap₂, _∙_, subst}
 use mathlib.Core.Bool.{Bool}
-use mathlib.Core.Logic.{_↔_, ⊎-elim}
+use mathlib.Core.Logic.{_↔_}
 use mathlib.Core.List.{List}
-use Prim.Native.Nat.{ℕ, zero, suc, _+_, _*_, _-_, _/_, _%_, _^_, _≤_, _<_, min}
-use native.Mathlib.Nat.{le-refl, lt-of-lt-of-le, mod-lt, mul-suc, mul-div-cancel, pow-suc, mul-le-mul-left, mul-le-mul-right, mul-pos, eq-or-lt-of-le, mul-div-le, div-lt-iff-lt-mul, le-div-iff-mul-le}
-use native.Mathlib.Numerals.{add-one}
+use Prim.Native.Nat.{ℕ, suc, _+_, _*_, _-_, _/_, _%_, _^_, _≤_, _<_, min}
+use native.Mathlib.Nat.{le-refl, lt-of-lt-of-le, mod-lt, mul-suc, mul-div-cancel, pow-suc, mul-le-mul-left, mul-le-mul-right, mul-div-le, div-lt-iff-lt-mul, le-div-iff-mul-le}
 use native.Mathlib.Omega.{arith}
-use lib.Arith.{digits-lt}
 use lib.Pow.{pow-mono, pow-pos}
 use lib.Dec.{T as Yes, eqb}
-use lib.ListN.{length, getD, set, length-set}
+use lib.ListN.{getD, set, length-set}
 use lib.Seq.{getD-set-same, getD-set-other}
-use Rattle.layered.specs.Search.{every}
 use Rattle.layered.specs.States.{Equivalent, count, number, history}
 use Rattle.layered.proofs.Search.{below-suc}
 use Rattle.layered.proofs.States.{count-at-most}
 use Rattle.diagrams.specs.Paths.{pathOf}
-use Rattle.diagrams.specs.Numbering.{isNew, numberSame, countSame}
+use Rattle.diagrams.specs.Numbering.{numberSame, countSame}
 use Rattle.diagrams.specs.Forward.{candidate, Tells, ByClasses, StatesByClasses}
 use Rattle.diagrams.specs.Leads.{sameLeads, LeadsTell}
 use Rattle.diagrams.proofs.Numbering.{number-hits, number-none}
 use Rattle.diagrams.proofs.Paths.{path-next, path-below}
 use Rattle.diagrams.proofs.Classes.{states-by-classes, leads-tell}
-use Rattle.refine.specs.Rows.{numberIn, sameRow, Refined, Outside}
+use Rattle.refine.specs.Rows.{numberIn, sameRow, Refined}
 use Rattle.refine.specs.Collecting.{pathIn, Collectable, Collected, NumberedBy}
-use Rattle.refine.specs.declared.Rows.{Rows}
 use Rattle.refine.proofs.Collecting.{refined-by}
-use Rattle.explore.specs.Explore.{columnCount, layerAt, Laid, Explored, CountsTo, Subject, Given, countAt, leadAt, sameTo, Roomy, AtLayer, Numbered, Exploring, Moved, stepsLeft, grouped, nextGroup, nextLayer, rowsOf, Groupable, Rowable, Nextable}
+use Rattle.explore.specs.Explore.{columnCount, layerAt, Laid, Explored, CountsTo, Subject, countAt, leadAt, sameTo, Roomy, AtLayer, Numbered, Exploring, Moved, grouped, nextGroup, nextLayer, rowsOf, Groupable, Nextable}
 use Rattle.explore.specs.declared.Layout.{Layout}
 use Rattle.explore.specs.declared.Cursor.{Cursor}
-use Rattle.explore.proofs.Layers.{layer-next, layer-apart, layer-in, two-words, frames-to, outputs-few, half-to, few-histories, words-few, outputs-le, few-states, some-state}
+use Rattle.explore.proofs.Layers.{layer-apart, two-words, frames-to, outputs-few, few-histories, outputs-le, few-states, some-state}
 use Rattle.explore.proofs.Groups.{next-at, candidates-power, candidates-few, candidates-in, rowable, placed, row-same, refined-numbers}
 
 -- ---- a group's start

@@ -1,27 +1,64 @@
--- What folding and committing answer and write in common, and what is proved of the bytes.
-use Prim.Native.Nat.{ℕ, _^_}
+-- What folding and committing answer and leave in common, and what is proved of the bytes.
+use Prim.Native.Nat.{ℕ, _+_, _^_, _≤_, _<_, min}
 use mathlib.Core.Path.{_≡_}
-use mathlib.Core.Bool.{Bool, not}
 use mathlib.Core.List.{List}
-use lib.ListN.{length, take}
-use Rattle.verdict.specs.Judgements.{answer, refuse, andThen, resultAfter}
+use lib.ListN.{length, getD, take, replicate}
+use Rattle.verdict.specs.Judgements.{answer, figures, andThen, resultAfter}
 use Rattle.verdict.specs.declared.Figures.{Figures}
+use Rattle.verdict.specs.declared.Verdict.{Verdict}
 use Rattle.sizes.specs.Sizes.{inputs, outputs, frames}
-use Rattle.folded.specs.Folded.{foldedBytes, askChecked, roomChecked}
+use Rattle.circuit.specs.Circuit.{gates, allInputs}
+use Rattle.diagrams.specs.Building.{firstOver}
+use Rattle.functions.specs.Functions.{signalOn}
+use Rattle.nodes.specs.declared.Node.{Node}
+use Rattle.records.specs.Records.{none}
+use Rattle.survey.specs.Survey.{workLength, mostRecords, Known}
+use Rattle.survey.specs.declared.Survey.{Survey}
+use Rattle.folded.specs.Folded.{foldedBytes, scratchNeeded, scratchChecked, askChecked, cleared, scratchAfter, nodesAfter}
 use Rattle.folded.specs.Theorems.{Folding, Canonical}
+use Rattle.admit.specs.declared.wanted.Wanted.{Wanted}
+use Rattle.admit.specs.Admit.{tableChecked}
 
--- what is answered, and what the result holds, where it is known whether the circuit's plan was agreed on: committing compares, folding always agrees
-unfoldable pub agreedChecked : (b : List ℕ) (agreed : Bool) (scratchRoom resultRoom : ℕ) → Figures
-agreedChecked b agreed scratchRoom resultRoom =
-    andThen (askChecked b scratchRoom)
-    (refuse (not agreed) 14 0
-    (roomChecked b resultRoom))
+-- what is answered, and what the result holds
+unfoldable pub wantedChecked : (b : List ℕ) → Wanted → (scratchRoom nodeRoom resultRoom : ℕ) → Figures
+wantedChecked b w scratchRoom nodeRoom resultRoom = andThen (askChecked b scratchRoom nodeRoom) (tableChecked b w resultRoom)
 
-unfoldable pub agreedResult : (b : List ℕ) (agreed : Bool) (scratchRoom : ℕ) (before : List ℕ) → List ℕ
-agreedResult b agreed scratchRoom before = resultAfter (agreedChecked b agreed scratchRoom (length before)) (foldedBytes b) before
+unfoldable pub wantedResult : (b : List ℕ) → Wanted → (scratchRoom nodeRoom : ℕ) (before : List ℕ) → List ℕ
+wantedResult b w scratchRoom nodeRoom before = resultAfter (wantedChecked b w scratchRoom nodeRoom (length before)) (foldedBytes b) before
 
 -- demands 2 and 3, of the bytes that a call with these figures left at the front of the result
 unfoldable pub Promised : List ℕ → Figures → (result : List ℕ) → Type 0
 Promised b f result =
     (p : ℕ) → f ≡ answer 0 p
     → Folding (2 ^ inputs b) (outputs b) (frames b) b (take p result) × Canonical (2 ^ inputs b) (outputs b) (frames b) b (take p result)
+
+-- ---- what is asked of, and left by, each part of a call
+
+-- a circuit whose survey was begun with the scratch that was judged: what was found, and where the records were enough, what is known in ns, s and ws
+pub record Findings (b : List ℕ) (survey : Survey) (ns : List Node) (s ws : List ℕ) : Type 0 where
+  pub lent : scratchChecked b (length s) ≡ answer 0 0
+  pub place-is : survey .place ≡ firstOver (allInputs b) (min (length ns) mostRecords) (gates b) (signalOn b)
+  pub known : survey .place ≡ gates b + 1 → Known b (min (length ns) mostRecords) ns s ws (survey .counts)
+  pub space : workLength ≤ length ws
+
+-- what is answered, and the result r as it is left
+pub record Ends (b : List ℕ) (w : Wanted) (scratchRoom nodeRoom : ℕ) (r r′ : List ℕ) (v : Verdict) : Type 0 where
+  pub answered : figures v ≡ wantedChecked b w scratchRoom nodeRoom (length r)
+  pub written : r′ ≡ wantedResult b w scratchRoom nodeRoom r
+
+-- a circuit and a scratch that were judged, with the scratch zero as far as it is needed
+pub record Clean (b s : List ℕ) : Type 0 where
+  pub lent : scratchChecked b (length s) ≡ answer 0 0
+  pub zeros : (j : ℕ) → j < scratchNeeded b → getD s j 0 ≡ 0
+
+-- what is answered of them, and the scratch s, the records ns and the result r as they are left
+pub record Finishes (b : List ℕ) (w : Wanted) (s s′ : List ℕ) (ns ns′ : List Node) (r r′ : List ℕ) (v : Verdict) : Type 0 where
+  pub ends : Ends b w (length s) (length ns) r r′ v
+  pub scratch-left : s′ ≡ cleared b s
+  pub nodes-left : ns′ ≡ replicate (length ns) none
+
+-- all of a call: what is answered, and the scratch s, the records ns and the result r as they are left
+pub record Folds (b : List ℕ) (w : Wanted) (s s′ : List ℕ) (ns ns′ : List Node) (r r′ : List ℕ) (v : Verdict) : Type 0 where
+  pub ends : Ends b w (length s) (length ns) r r′ v
+  pub scratch-left : s′ ≡ scratchAfter b s
+  pub nodes-left : ns′ ≡ nodesAfter b (length s) ns

@@ -5,10 +5,12 @@ pub mod Written
 pub mod Read
 pub mod Response
 pub mod Tables
+pub mod Counting
 pub mod Outcomes
 pub mod Asked
 pub mod Matching
 pub mod Theorems
 pub mod Plans
+pub mod Nodes
 pub mod Determined
 pub mod Wrong

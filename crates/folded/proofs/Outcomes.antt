@@ -14,7 +14,7 @@ use Rattle.sizes.specs.Sizes.{inputs, outputs, frames}
 use Rattle.sizes.specs.Sized.{Sized}
 use Rattle.circuit.specs.Circuit.{checked}
 use Rattle.circuit.proofs.Accepted.{accepted as circuitAccepted}
-use Rattle.folded.specs.Folded.{foldedBytes, scratchNeeded, askChecked, roomChecked, foldChecked, foldResult}
+use Rattle.folded.specs.Folded.{foldedBytes, scratchNeeded, scratchChecked, nodesChecked, askChecked, roomChecked, foldChecked, foldResult}
 
 -- ---- what acceptance tells
 
@@ -23,19 +23,20 @@ pub circuit-sized : (b : List ℕ) (p : ℕ) → checked b ≡ answer 0 p → Si
 circuit-sized b p e = circuitAccepted b p e .form .sizes
 
 -- of folding
-pub record Accepted (b : List ℕ) (scratchRoom resultRoom p : ℕ) : Type 0 where
+pub record Accepted (b : List ℕ) (scratchRoom nodeRoom resultRoom p : ℕ) : Type 0 where
   pub circuit-place : ℕ
   pub circuit-accepted : checked b ≡ answer 0 circuit-place
   pub scratch-enough : scratchNeeded b ≤ scratchRoom
   pub room-enough : length (foldedBytes b) ≤ resultRoom
   pub place-is : p ≡ length (foldedBytes b)
 
-pub accepted : (b : List ℕ) (scratchRoom resultRoom p : ℕ) → foldChecked b scratchRoom resultRoom ≡ answer 0 p → Accepted b scratchRoom resultRoom p
-unfolding foldChecked askChecked roomChecked
-accepted b s r p e =
-    let (q, a, c) = both-accept (askChecked b s) (roomChecked b r) p e in
-    let e₁ = both-accept (checked b) _ q a in
-    let e₂ = passed (ltb s (scratchNeeded b)) 6 _ _ q refl (e₁ .2) in
+pub accepted : (b : List ℕ) (scratchRoom nodeRoom resultRoom p : ℕ) → foldChecked b scratchRoom nodeRoom resultRoom ≡ answer 0 p → Accepted b scratchRoom nodeRoom resultRoom p
+unfolding foldChecked askChecked scratchChecked roomChecked
+accepted b s n r p e =
+    let (q, a, c) = both-accept (askChecked b s n) (roomChecked b r) p e in
+    let (o, d, f) = both-accept (scratchChecked b s) (nodesChecked b n) q a in
+    let e₁ = both-accept (checked b) _ o d in
+    let e₂ = passed (ltb s (scratchNeeded b)) 6 _ _ o refl (e₁ .2) in
     let e₃ = passed (ltb r (length (foldedBytes b))) 7 _ _ p refl c in
     record {
       circuit-place = e₁ .0;
@@ -46,7 +47,7 @@ accepted b s r p e =
     }
 
 -- the bytes that were written
-pub written-bytes : (b before : List ℕ) (room p : ℕ) → foldChecked b room (length before) ≡ answer 0 p → take p (foldResult b room before) ≡ foldedBytes b
+pub written-bytes : (b before : List ℕ) (room nodes p : ℕ) → foldChecked b room nodes (length before) ≡ answer 0 p → take p (foldResult b room nodes before) ≡ foldedBytes b
 unfolding foldResult
-written-bytes b before room p e =
-    ap (λ f. take p (resultAfter f (foldedBytes b) before)) e ∙ take-at (foldedBytes b) (drop p before) p (sym (accepted b room (length before) p e .place-is))
+written-bytes b before room nodes p e =
+    ap (λ f. take p (resultAfter f (foldedBytes b) before)) e ∙ take-at (foldedBytes b) (drop p before) p (sym (accepted b room nodes (length before) p e .place-is))

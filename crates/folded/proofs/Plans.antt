@@ -23,7 +23,7 @@ use Rattle.folded.specs.Theorems.{Folding, Askings, Committing}
 use Rattle.folded.proofs.Written.{tableBytes, machine-back}
 use Rattle.folded.proofs.Tables.{foldedMachine, table-writable}
 use Rattle.folded.proofs.Outcomes.{circuit-sized, written-bytes}
-use Rattle.folded.proofs.Asked.{counts-length, ask-tells, asked-figures, asked-plan, unused, used, commit-refused, other-answer, commit-keeps, own-figures, own-result, fold-accepts, fold-refuses}
+use Rattle.folded.proofs.Asked.{counts-length, ask-tells, ask-passed, asked-figures, asked-plan, used, used-refused, commit-refused, other-answer, commit-keeps, own-figures, own-result, fold-accepts, fold-refuses}
 use Rattle.folded.proofs.Theorems.{folding}
 
 -- counts that agree in every layer
@@ -88,35 +88,35 @@ module _ (b : List ℕ) (p : ℕ) (e : checked b ≡ answer 0 p) where
 
 pub askings : Askings
 unfolding Askings foldedPlan
-askings b room plan e =
-    let a : askChecked b room ≡ answer 0 0 = asked-figures b room 0 0 plan e in
-    let own : plan ≡ planOf (foldedBytes b) = asked-plan b room plan e in
-    let c : checked b ≡ answer 0 (checked b .place) = ask-tells b room a .0 in
+askings b room nodes plan e =
+    let a : askChecked b room nodes ≡ answer 0 0 = asked-figures b room nodes 0 0 plan e in
+    let own : plan ≡ planOf (foldedBytes b) = asked-plan b room nodes plan e in
+    let c : checked b ≡ answer 0 (checked b .place) = ask-tells b room nodes a .0 in
     let F = is-folding b _ c in
     let z = circuit-sized b _ c .frames-to in
     let bytes : getD plan 20 0 ≡ length (foldedBytes b) = ap (λ l. getD l 20 0) own ∙ plan-bytes (foldedBytes b) in
     record {
-      enough = λ x l. fold-accepts b room x (getD plan 20 0) a bytes (omega arith);
-      too-short = λ x l. fold-refuses b room x (getD plan 20 0) a bytes (omega arith);
-      as-folded = λ before scratchRoom p a. own ∙ ap planOf (sym (written-bytes b before scratchRoom p a));
+      enough = λ x l. fold-accepts b room nodes x (getD plan 20 0) a bytes (omega arith);
+      too-short = λ x l. fold-refuses b room nodes x (getD plan 20 0) a bytes (omega arith);
+      as-folded = λ before scratchRoom nodeRoom p a. own ∙ ap planOf (sym (written-bytes b before scratchRoom nodeRoom p a));
       fewest = λ M L G k h.
           omega (arith, F .fewest M L G k h, ap (λ l. getD l (3 + k) 0) own, plan-count (foldedBytes b) k (omega (arith, F .same-frames)) (omega arith));
     }
 
-pub committing : (b plan scratch result : List ℕ) → Committing b plan scratch result
-committing b plan scratch result =
+pub committing : (b plan scratch : List ℕ) (nodes : ℕ) (result : List ℕ) → Committing b plan scratch nodes result
+committing b plan scratch nodes result =
     let s : ℕ = length scratch in
     record {
-      as-folding = λ room e.
-          let own = asked-plan b room plan e in
-          (own-figures b plan s result own, own-result b plan s result own);
+      as-folding = λ room records e.
+          let own = asked-plan b room records plan e in
+          (own-figures b plan s nodes result own, own-result b plan s nodes result own);
       other-plan = λ its e n.
-          let a = asked-figures b s 0 0 its e in
-          let o = other-answer b plan s result a (λ q. n (q ∙ sym (asked-plan b s its e))) in
-          (o, commit-keeps b plan s result 14 0 o refl, used b scratch a);
+          let a = asked-figures b s nodes 0 0 its e in
+          let o = other-answer b plan s nodes result a (λ q. n (q ∙ sym (asked-plan b s nodes its e))) in
+          (o, commit-keeps b plan s nodes result 14 0 o refl, used b scratch (ask-passed b s nodes a));
       as-asking = λ number place none e n.
-          let a = asked-figures b s number place none e in
+          let a = asked-figures b s nodes number place none e in
           let z = ne-eqb number 0 n in
-          let o = commit-refused b plan s result number place a z in
-          (o, commit-keeps b plan s result number place o z, unused b scratch number place a z);
+          let o = commit-refused b plan s nodes result number place a z in
+          (o, commit-keeps b plan s nodes result number place o z, used-refused b scratch nodes number place a z);
     }

@@ -150,17 +150,17 @@ same-bytes b d C D Z i o f =
 
 -- ---- whatever folding accepts
 
-known : (b : List ℕ) (scratchRoom resultRoom p : ℕ) → foldChecked b scratchRoom resultRoom ≡ answer 0 p → Causal b × Sized 8 (inputs b) (outputs b) (frames b)
+known : (b : List ℕ) (scratchRoom nodeRoom resultRoom p : ℕ) → foldChecked b scratchRoom nodeRoom resultRoom ≡ answer 0 p → Causal b × Sized 8 (inputs b) (outputs b) (frames b)
 unfolding AcceptedCausal
-known b s r p e =
-    let a = accepted b s r p e in
+known b s n r p e =
+    let a = accepted b s n r p e in
     (causal b (a .circuit-place) (a .circuit-accepted), circuit-sized b (a .circuit-place) (a .circuit-accepted))
 
 pub foldings : Foldings
 unfolding Foldings Canonical
-foldings b before room p e =
-    let (C, Z) = known b room (length before) p e in
-    let w = written-bytes b before room p e in (
+foldings b before room nodes p e =
+    let (C, Z) = known b room nodes (length before) p e in
+    let w = written-bytes b before room nodes p e in (
       rw w (folding b C Z),
-      λ d before′ room′ p′ i o f e′. rw (w, written-bytes d before′ room′ p′ e′) (same-bytes b d C (known d room′ (length before′) p′ e′ .0) Z i o f),
+      λ d before′ room′ nodes′ p′ i o f e′. rw (w, written-bytes d before′ room′ nodes′ p′ e′) (same-bytes b d C (known d room′ nodes′ (length before′) p′ e′ .0) Z i o f),
     )

@@ -1,5 +1,5 @@
--- What asking for the plan of a circuit's table, and committing to a plan, answer and leave (document 02, Point 6). What the scratch holds after
--- either is what it holds after folding: `scratchAfter`.
+-- What asking for the plan of a circuit's table, and committing to a plan, answer and leave (document 02, Point 6). What the scratch and
+-- the list of records hold after either is what they hold after folding: `scratchAfter`, `nodesAfter`.
 use Prim.Native.Nat.{ℕ, suc, _+_}
 use mathlib.Core.Bool.{not, cond}
 use mathlib.Core.List.{List, [], _∷_, _++_}
@@ -30,15 +30,15 @@ unfoldable pub foldedPlan : (circuit : List ℕ) → List ℕ
 foldedPlan b = planOf (foldedBytes b)
 
 -- what asking returns: number, place and the plan, zeros where it refuses; there is no result, and so no 7
-unfoldable pub asked : List ℕ → (scratchRoom : ℕ) → List ℕ
-asked b scratchRoom =
-    let f = askChecked b scratchRoom in
+unfoldable pub asked : List ℕ → (scratchRoom nodeRoom : ℕ) → List ℕ
+asked b scratchRoom nodeRoom =
+    let f = askChecked b scratchRoom nodeRoom in
     f .number ∷ f .place ∷ cond (eqb (f .number) 0) (foldedPlan b) (replicate planLength 0)
 
--- what committing answers: 14 is judged after 6 and before 7
-unfoldable pub commitChecked : (b plan : List ℕ) (scratchRoom resultRoom : ℕ) → Figures
-commitChecked b plan scratchRoom resultRoom = andThen (askChecked b scratchRoom) (refuse (not (equal plan (foldedPlan b))) 14 0 (roomChecked b resultRoom))
+-- what committing answers: 14 is judged after 18 and before 7
+unfoldable pub commitChecked : (b plan : List ℕ) (scratchRoom nodeRoom resultRoom : ℕ) → Figures
+commitChecked b plan scratchRoom nodeRoom resultRoom = andThen (askChecked b scratchRoom nodeRoom) (refuse (not (equal plan (foldedPlan b))) 14 0 (roomChecked b resultRoom))
 
 -- what the result holds after it
-unfoldable pub commitResult : (b plan : List ℕ) (scratchRoom : ℕ) (before : List ℕ) → List ℕ
-commitResult b plan scratchRoom before = resultAfter (commitChecked b plan scratchRoom (length before)) (foldedBytes b) before
+unfoldable pub commitResult : (b plan : List ℕ) (scratchRoom nodeRoom : ℕ) (before : List ℕ) → List ℕ
+commitResult b plan scratchRoom nodeRoom before = resultAfter (commitChecked b plan scratchRoom nodeRoom (length before)) (foldedBytes b) before

@@ -3,20 +3,21 @@
 use Prim.Native.Nat.{ℕ, _+_, _-_, _^_, _≤_, _<_}
 use mathlib.Core.Path.{_≡_}
 use mathlib.Core.Logic.{_↔_}
-use mathlib.Core.Bool.{true}
+use mathlib.Core.Bool.{true, cond}
 use mathlib.Core.List.{List, _∷_, _++_}
+use lib.Dec.{eqb}
 use lib.ListN.{length, getD, take, drop}
-use Rattle.verdict.specs.Judgements.{answer}
+use Rattle.verdict.specs.Judgements.{answer, andThen, resultAfter}
 use Rattle.sizes.specs.Sizes.{inputs, outputs, frames}
 use Rattle.layered.specs.States.{Words}
 use Rattle.layered.specs.Histories.{historyNumber}
-use Rattle.layered.specs.Machines.{Machine, Legal, feed, Gives, Renumbered, masked}
+use Rattle.layered.specs.Machines.{Machine, Legal, feed, reached, Gives, Renumbered, masked}
 use Rattle.circuit.specs.Lists.{bit}
-use Rattle.circuit.specs.Circuit.{connects, connectedOutputs, outputWords}
+use Rattle.circuit.specs.Circuit.{gates, connects, connectedOutputs, outputWords}
 use Rattle.circuit.specs.Circuit as circuit
 use Rattle.table.specs.Table.{states, connected, machine, checked}
-use Rattle.layered.specs.Machines.{reached}
-use Rattle.folded.specs.Folded.{foldChecked, foldResult, cleared, scratchAfter}
+use Rattle.functions.specs.Functions.{nodesTo}
+use Rattle.folded.specs.Folded.{foldedBytes, scratchChecked, askChecked, roomChecked, foldChecked, foldResult, cleared, scratchAfter}
 use Rattle.folded.specs.Planned.{planOf, asked, commitChecked, commitResult}
 
 -- the state of the table that the history c comes to
@@ -66,46 +67,66 @@ module _ (K m T : ℕ) (b t : List ℕ) where
   -- canonical: for another circuit of equal sizes that is accepted and folded, the same bytes exactly when the two agree on every sequence and
   -- connect the same outputs
   unfoldable pub Canonical : Type 0
-  Canonical = (d before : List ℕ) (room p : ℕ) → inputs d ≡ inputs b → outputs d ≡ outputs b → frames d ≡ frames b
-      → foldChecked d room (length before) ≡ answer 0 p
-      → (t ≡ take p (foldResult d room before))
+  Canonical = (d before : List ℕ) (room nodes p : ℕ) → inputs d ≡ inputs b → outputs d ≡ outputs b → frames d ≡ frames b
+      → foldChecked d room nodes (length before) ≡ answer 0 p
+      → (t ≡ take p (foldResult d room nodes before))
       ↔ (((c : List ℕ) → Words K T c → outputWords b c ≡ outputWords d c) × ((k : ℕ) → k < T → connectedOutputs b k ≡ connectedOutputs d k))
 
 -- whatever folding accepts
 unfoldable pub Foldings : Type 0
-Foldings = (b before : List ℕ) (room p : ℕ) → foldChecked b room (length before) ≡ answer 0 p
-    → Folding (2 ^ inputs b) (outputs b) (frames b) b (take p (foldResult b room before))
-    × Canonical (2 ^ inputs b) (outputs b) (frames b) b (take p (foldResult b room before))
+Foldings = (b before : List ℕ) (room nodes p : ℕ) → foldChecked b room nodes (length before) ≡ answer 0 p
+    → Folding (2 ^ inputs b) (outputs b) (frames b) b (take p (foldResult b room nodes before))
+    × Canonical (2 ^ inputs b) (outputs b) (frames b) b (take p (foldResult b room nodes before))
 
--- of the plan that asking returns for the circuit b with so much scratch
-pub record Asking (b : List ℕ) (room : ℕ) (plan : List ℕ) : Type 0 where
-  -- folding with as much scratch accepts and writes the plan's bytes where the result has room for them; where it has less, 7 asks for as many
-  pub enough : (x : ℕ) → getD plan 20 0 ≤ x → foldChecked b room x ≡ answer 0 (getD plan 20 0)
-  pub too-short : (x : ℕ) → x < getD plan 20 0 → foldChecked b room x ≡ answer 7 (getD plan 20 0)
+-- with records for all nodes 18 plays no part: asking and folding answer and write what the circuit's checks, 6 and 7 alone decide
+unfoldable pub EnoughNodes : Type 0
+EnoughNodes = (b before : List ℕ) (room nodes : ℕ) → nodesTo b (gates b) ≤ nodes
+    → (askChecked b room nodes ≡ scratchChecked b room)
+    × (foldChecked b room nodes (length before) ≡ andThen (scratchChecked b room) (roomChecked b (length before)))
+    × (foldResult b room nodes before ≡ resultAfter (andThen (scratchChecked b room) (roomChecked b (length before))) (foldedBytes b) before)
+
+-- more records never change what folding accepts: neither the figures nor the bytes
+unfoldable pub MoreNodes : Type 0
+MoreNodes = (b before : List ℕ) (room nodes p more : ℕ) → foldChecked b room nodes (length before) ≡ answer 0 p → nodes ≤ more
+    → (foldChecked b room more (length before) ≡ answer 0 p) × (foldResult b room more before ≡ foldResult b room nodes before)
+
+-- what 18 means: it is answered at g exactly when the circuit's checks and 6 pass, the inputs and gates 1 to g have more distinct nodes than there are
+-- records, and with fewer gates there are none too many
+unfoldable pub TooManyNodes : Type 0
+TooManyNodes = (b : List ℕ) (room nodes g : ℕ)
+    → (askChecked b room nodes ≡ answer 18 g) ↔ ((scratchChecked b room ≡ answer 0 0) × (g ≤ gates b) × (nodes < nodesTo b g) × ((k : ℕ) → k < g → nodesTo b k ≤ nodes))
+
+-- of the plan that asking returns for the circuit b with so much scratch and so many records
+pub record Asking (b : List ℕ) (room nodes : ℕ) (plan : List ℕ) : Type 0 where
+  -- folding with as much scratch and as many records accepts and writes the plan's bytes where the result has room for them; where it has less, 7 asks for as many
+  pub enough : (x : ℕ) → getD plan 20 0 ≤ x → foldChecked b room nodes x ≡ answer 0 (getD plan 20 0)
+  pub too-short : (x : ℕ) → x < getD plan 20 0 → foldChecked b room nodes x ≡ answer 7 (getD plan 20 0)
   -- whatever folding writes has the plan's sizes, counts and bytes
-  pub as-folded : (before : List ℕ) (scratchRoom p : ℕ) → foldChecked b scratchRoom (length before) ≡ answer 0 p → plan ≡ planOf (take p (foldResult b scratchRoom before))
+  pub as-folded : (before : List ℕ) (scratchRoom nodeRoom p : ℕ) → foldChecked b scratchRoom nodeRoom (length before) ≡ answer 0 p
+      → plan ≡ planOf (take p (foldResult b scratchRoom nodeRoom before))
   -- every layered machine that matches the circuit has at each layer at least as many states as the plan counts
   pub fewest : (M : Machine) → Legal (2 ^ inputs b) (outputs b) (frames b) M → Matches (2 ^ inputs b) (frames b) b M
       → (k : ℕ) → k ≤ frames b → getD plan (3 + k) 0 ≤ M .states k
 
 -- whatever asking returns
 unfoldable pub Askings : Type 0
-Askings = (b : List ℕ) (room : ℕ) (plan : List ℕ) → asked b room ≡ 0 ∷ 0 ∷ plan → Asking b room plan
+Askings = (b : List ℕ) (room nodes : ℕ) (plan : List ℕ) → asked b room nodes ≡ 0 ∷ 0 ∷ plan → Asking b room nodes plan
 
--- of committing to a plan for the circuit b, with this scratch and this result
-pub record Committing (b plan scratch result : List ℕ) : Type 0 where
-  -- with the plan that asking returned, whatever scratch it had, it answers and writes what folding does (and leaves of the scratch what folding
+-- of committing to a plan for the circuit b, with this scratch, so many records and this result
+pub record Committing (b plan scratch : List ℕ) (nodes : ℕ) (result : List ℕ) : Type 0 where
+  -- with the plan that asking returned, whatever it was lent, it answers and writes what folding does (and leaves of what it is lent what folding
   -- does with any plan, by one definition)
-  pub as-folding : (room : ℕ) → asked b room ≡ 0 ∷ 0 ∷ plan
-      → (commitChecked b plan (length scratch) (length result) ≡ foldChecked b (length scratch) (length result))
-      × (commitResult b plan (length scratch) result ≡ foldResult b (length scratch) result)
-  -- with any other, where asking with this scratch returns one, it is 14: the result untouched, the scratch cleared
-  pub other-plan : (its : List ℕ) → asked b (length scratch) ≡ 0 ∷ 0 ∷ its → ¬ (plan ≡ its)
-      → (commitChecked b plan (length scratch) (length result) ≡ answer 14 0)
-      × (commitResult b plan (length scratch) result ≡ result)
+  pub as-folding : (room records : ℕ) → asked b room records ≡ 0 ∷ 0 ∷ plan
+      → (commitChecked b plan (length scratch) nodes (length result) ≡ foldChecked b (length scratch) nodes (length result))
+      × (commitResult b plan (length scratch) nodes result ≡ foldResult b (length scratch) nodes result)
+  -- with any other, where asking with this scratch and as many records returns one, it is 14: the result untouched, the scratch cleared
+  pub other-plan : (its : List ℕ) → asked b (length scratch) nodes ≡ 0 ∷ 0 ∷ its → ¬ (plan ≡ its)
+      → (commitChecked b plan (length scratch) nodes (length result) ≡ answer 14 0)
+      × (commitResult b plan (length scratch) nodes result ≡ result)
       × (scratchAfter b scratch ≡ cleared b scratch)
-  -- with any plan, where asking with this scratch refuses, it refuses alike, and nothing changes
-  pub as-asking : (number place : ℕ) (none : List ℕ) → asked b (length scratch) ≡ number ∷ place ∷ none → ¬ (number ≡ 0)
-      → (commitChecked b plan (length scratch) (length result) ≡ answer number place)
-      × (commitResult b plan (length scratch) result ≡ result)
-      × (scratchAfter b scratch ≡ scratch)
+  -- with any plan, where asking with this scratch and as many records refuses, it refuses alike, and the result is untouched; where that is not 18,
+  -- nothing changes
+  pub as-asking : (number place : ℕ) (none : List ℕ) → asked b (length scratch) nodes ≡ number ∷ place ∷ none → ¬ (number ≡ 0)
+      → (commitChecked b plan (length scratch) nodes (length result) ≡ answer number place)
+      × (commitResult b plan (length scratch) nodes result ≡ result)
+      × (scratchAfter b scratch ≡ cond (eqb number 18) (cleared b scratch) scratch)

@@ -236,17 +236,6 @@ fn pack_lane(lanes: &[u32], at: usize, count: usize, j: usize) -> u16
     word
 }
 
-// Stores the words of the first lanes, one to a place.
-pub fn pack_lanes(lanes: &[u32], at: usize, count: usize, words: &mut [u16])
-    requires { ⌜ (count ≤ mostOutputs) × (at + count ≤ length (now lanes)) × (length (now words) ≤ laneCount) ⌝ }
-    ensures { λ _. ⌜ now (words .exit) ≡ listed [] (λ j. packed (take count (drop at (lane j (now (lanes .entry)))))) (length (now (words .entry))) ⌝ }
-{
-    let size = words.len();
-    for j in 0..size {
-        words[j] = pack_lane(lanes, at, count, j);
-    }
-}
-
 // Stores the words of lane j, one to a place: each has the next `count` signals from `at` on.
 pub fn pack_frames(lanes: &[u32], at: usize, count: usize, j: usize, words: &mut [u16])
     requires { ⌜ (count ≤ mostOutputs) × (j < laneCount) ⌝ }

@@ -1,11 +1,10 @@
 -- Laws of a turn of the recursive AND, whatever holds the records.
-use mathlib.Core.Path.{_≡_, refl, sym, ap, ap₂, _∙_, subst}
-use mathlib.Core.Bool.{Bool, true, false, cond, not, _||_, false≢true}
+use mathlib.Core.Path.{_≡_, sym, ap, ap₂, _∙_, subst}
+use mathlib.Core.Bool.{Bool, cond}
 use mathlib.Core.Logic.{_⊎_, inl, inr, ⊎-elim, _≢_}
 use Prim.Native.Nat.{ℕ, suc, _+_, _-_, _≤_, _<_, min}
 use native.Mathlib.Omega.{arith}
-use lib.Dec.{T, eqb, eqb→eq}
-use Rattle.layered.proofs.Search.{eq-eqb}
+use lib.Dec.{eqb}
 use Rattle.diagrams.specs.Diagrams.{Nodes, branch, Grown, conjunction}
 use mathlib.Core.List.{List}
 use Rattle.diagrams.specs.Making

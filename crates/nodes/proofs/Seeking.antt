@@ -2,13 +2,13 @@
 use mathlib.Core.Path.{_≡_, refl, sym, ap, _∙_, subst}
 use mathlib.Core.Bool.{Bool, true, false}
 use mathlib.Core.Logic.{_⊎_, inl, inr, ⊎-elim, _≢_}
-use Prim.Native.Nat.{ℕ, zero, suc, _+_, _-_, _*_, _%_, _≤_, _<_}
+use Prim.Native.Nat.{ℕ, suc, _+_, _-_, _≤_, _<_}
 use native.Mathlib.Nat.{mod-lt}
 use native.Mathlib.Omega.{arith}
 use Rattle.diagrams.specs.Diagrams.{Nodes}
 use Rattle.diagrams.specs.Making
-use Rattle.diagrams.specs.Making.{home, place, Laid, Sought, Joined, Added, Absent, noId}
-use Rattle.diagrams.proofs.Probing.{Other, Passed, passed-none, passed-more, sought-free, sought-end, place-is}
+use Rattle.diagrams.specs.Making.{home, place, Laid, Sought, Joined, Added, noId}
+use Rattle.diagrams.proofs.Probing.{Other, Passed, passed-more, sought-free, sought-end, place-is}
 use Rattle.nodes.specs.declared.Node.{Node}
 use Rattle.nodes.specs.Nodes.{Stops, Shows, SoughtId, Merges, nextId}
 use Rattle.diagrams.proofs.Growth.{decide}

@@ -5,7 +5,7 @@ use mathlib.Core.Logic.{_⊎_, _≢_}
 use Prim.Native.Nat.{ℕ, _+_, _-_, _≤_, _<_}
 use lib.Dec.{eqb, ltb}
 use Rattle.diagrams.specs.Diagrams.{Nodes}
-use Rattle.diagrams.specs.Making.{Sought}
+use Rattle.diagrams.specs.Making.{Sought, noId}
 use Rattle.nodes.specs.declared.Node.{Node}
 use Rattle.nodes.specs.declared.Pair.{Pair}
 use Rattle.nodes.specs.declared.Halves.{Halves}
@@ -34,10 +34,10 @@ pub record Shows (D : Nodes) (f : ℕ) (x : Node) : Type 0 where
 
 -- r says whether the branches x and y are equal, or y is none
 pub record Merges (x y : ℕ) (r : Bool) : Type 0 where
-  pub yes : r ≡ true → (x ≡ y) ⊎ (y ≡ 4294967295)
-  pub no : r ≡ false → (x ≢ y) × (y ≢ 4294967295)
+  pub yes : r ≡ true → (x ≡ y) ⊎ (y ≡ noId)
+  pub no : r ≡ false → (x ≢ y) × (y ≢ noId)
 
 -- the id of the record with the level l and the branches x and y, or one where it may be put; none where there is neither
 pub record SoughtId (R : ℕ) (D : Nodes) (l x y r : ℕ) : Type 0 where
-  pub none-is : r ≡ 4294967295 → Sought R D l x y R
-  pub one-is : r ≢ 4294967295 → (2 ≤ r) × (r < R + 2) × Sought R D l x y (r - 2)
+  pub none-is : r ≡ noId → Sought R D l x y R
+  pub one-is : r ≢ noId → (2 ≤ r) × (r < R + 2) × Sought R D l x y (r - 2)

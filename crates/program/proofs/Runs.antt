@@ -18,7 +18,7 @@ use Rattle.folded.proofs.Outcomes.{accepted, written-bytes}
 use Rattle.fold.specs.Fold.{Promised}
 use Rattle.report.specs.Report.{tableLines, refusalLine, Appended}
 use Rattle.report.proofs.Appending.{append-front}
-use Rattle.program.specs.Program.{scratchLent, resultLent, programLines}
+use Rattle.program.specs.Program.{scratchLent, nodesLent, resultLent, programLines}
 
 -- what was appended at the front
 made : {out xs out′ : List ℕ} {n : ℕ} (ys : List ℕ) → ys ≡ xs → Appended out 0 xs out′ n → (n ≡ length ys) × ((out′ ≡ ys ++ drop n out) × (n ≤ length out))
@@ -29,7 +29,7 @@ pub part-length : (w : ℕ) (result : List ℕ) → w ≤ length result → w �
 part-length w result h = rw length-take (omega arith)
 
 -- a fold of b that answered x
-module _ (b : List ℕ) (x : Verdict) (answers : figures x ≡ foldChecked b scratchLent resultLent) where
+module _ (b : List ℕ) (x : Verdict) (answers : figures x ≡ foldChecked b scratchLent nodesLent resultLent) where
   refused-lines : (q : Refusal) → x ≡ Refused q → programLines b ≡ refusalLine (figures x .number) (figures x .place)
   unfolding programLines
   refused-lines q e =
@@ -49,11 +49,11 @@ module _ (b : List ℕ) (x : Verdict) (answers : figures x ≡ foldChecked b scr
   -- that was accepted, and so wrote w bytes to the front of the result
   module _ (w : ℕ) (accepts-it : x ≡ Accepted w) where
     pub fits : w ≤ resultLent
-    fits = let a = accepted b scratchLent resultLent w (accepts x _ w answers accepts-it) in omega (arith, a .place-is, a .room-enough)
+    fits = let a = accepted b scratchLent nodesLent resultLent w (accepts x _ w answers accepts-it) in omega (arith, a .place-is, a .room-enough)
 
-    module _ (before : List ℕ) (lent : length before ≡ resultLent) (result : List ℕ) (left : result ≡ foldResult b scratchLent before) where
+    module _ (before : List ℕ) (lent : length before ≡ resultLent) (result : List ℕ) (left : result ≡ foldResult b scratchLent nodesLent before) where
       wrote : take w result ≡ foldedBytes b
-      wrote = ap (take w) left ∙ written-bytes b before scratchLent w (rw lent (accepts x _ w answers accepts-it))
+      wrote = ap (take w) left ∙ written-bytes b before scratchLent nodesLent w (rw lent (accepts x _ w answers accepts-it))
 
       pub prints-table : {out out′ : List ℕ} {n : ℕ} → Appended out 0 (tableLines (take w result)) out′ n
           → (n ≡ length (programLines b)) × ((out′ ≡ programLines b ++ drop n out) × (n ≤ length out))

@@ -131,6 +131,6 @@ reaches b p e = reach b (sound b p e)
 
 pub folded-reaches : (b : List ℕ) → FoldedReaches b
 unfolding FoldedReaches Foldings
-folded-reaches b d before room p e q =
-    let F = subst (Folding (2 ^ inputs d) (outputs d) (frames d) d) (sym q) (foldings d before room p e .0) in
+folded-reaches b d before room nodes p e q =
+    let F = subst (Folding (2 ^ inputs d) (outputs d) (frames d) d) (sym q) (foldings d before room nodes p e .0) in
     folded-reach b (outputs d) (frames d) d (subst (λ n. Folding (2 ^ n) (outputs d) (frames d) d b) (sym (F .same-inputs)) F) (F .same-frames)

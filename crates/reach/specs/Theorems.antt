@@ -51,4 +51,5 @@ unfoldable pub Reaches : List ℕ → Type 0
 Reaches b = (p : ℕ) → checked b ≡ answer 0 p → Reach b
 
 unfoldable pub FoldedReaches : List ℕ → Type 0
-FoldedReaches b = (d before : List ℕ) (room p : ℕ) → foldChecked d room (length before) ≡ answer 0 p → b ≡ take p (foldResult d room before) → FoldedReach b
+FoldedReaches b = (d before : List ℕ) (room nodes p : ℕ) → foldChecked d room nodes (length before) ≡ answer 0 p → b ≡ take p (foldResult d room nodes before)
+    → FoldedReach b

@@ -14,7 +14,7 @@ none = record { level = 0; low = 0; high = 0 }
 
 -- the record of an id: the constants have the lowest level that there is
 unfoldable pub nodeOf : List Node → (f : ℕ) → Node
-nodeOf ns f = cond (ltb f 2) (record { level = 4294967295; low = 0; high = 0 }) (getD ns (f - 2) none)
+nodeOf ns f = cond (ltb f 2) (record { level = noId; low = 0; high = 0 }) (getD ns (f - 2) none)
 
 -- the nodes of a list of records
 unfoldable pub nodesIn : List Node → Nodes

@@ -1,32 +1,18 @@
 -- Laws of numbers by a test: how a search finds the first that is the same, and how numbers grow. Assumes nothing.
-use mathlib.Core.Path.{_≡_, refl, sym, ap, _∙_}
-use mathlib.Core.Bool.{Bool, true, false, cond}
+use mathlib.Core.Path.{_≡_, sym, ap}
+use mathlib.Core.Bool.{Bool}
 use mathlib.Core.Logic.{⊎-elim}
-use Prim.Native.Nat.{ℕ, zero, suc, _+_, _≤_, _<_, zero-le, suc-le-suc}
+use Prim.Native.Nat.{ℕ, _+_, _≤_, _<_}
 use native.Mathlib.Nat.{eq-or-lt-of-le}
 use native.Mathlib.Numerals.{add-one}
 use native.Mathlib.Omega.{arith}
 use lib.Dec.{T}
 use Rattle.layered.specs.Search.{least, tally}
-use Rattle.layered.proofs.Search.{eq-eqb, tally-more, tally-none, tally-at-most, tally-lt, least-finds, search-below}
+use Rattle.layered.proofs.Search.{eq-eqb, tally-more, tally-none, tally-at-most, tally-lt, least-finds, least-here, least-none, search-below}
 use Rattle.diagrams.specs.Numbering.{firstSame, isNew, numberSame, countSame}
 use Rattle.diagrams.proofs.Numbering.{first-le, new-own}
 
 -- ---- the least of which a test holds
-
-least-here : (n g : ℕ) (p : ℕ → Bool) → g ≤ n → T (p g) → ((k : ℕ) → k < g → T (p k) → ⊥) → least n p ≡ g
-least-here n g p l t none =
-    let f = least-finds n g p l t in
-    ⊎-elim (λ (e : least n p ≡ g). e) (λ (b : least n p < g). absurd (none (least n p) b (f .0))) (eq-or-lt-of-le (f .1))
-
-least-none : (n : ℕ) (p : ℕ → Bool) → ((k : ℕ) → k < n → T (p k) → ⊥) → least n p ≡ n
-unfolding least
-least-none zero p none = refl
-least-none (suc n) p none = go (p zero) (none zero (suc-le-suc zero-le)) (least-none n (λ i. p (suc i)) (λ k l. none (suc k) (suc-le-suc l)))
-  where
-    go : (b : Bool) → (T b → ⊥) → least n (λ i. p (suc i)) ≡ n → cond b zero (suc (least n (λ i. p (suc i)))) ≡ suc n
-    go true f e = absurd (f tt)
-    go false f e = ap suc e
 
 least-holds : (n : ℕ) (p : ℕ → Bool) → least n p < n → T (p (least n p))
 least-holds n p l =

@@ -1,6 +1,5 @@
 -- What is explored of a circuit whose signals are built: its response, by the diagrams of its outputs.
-use mathlib.Core.Path.{_≡_, refl, sym, ap, ap₂, _∙_, subst}
-use mathlib.Core.Bool.{Bool}
+use mathlib.Core.Path.{_≡_, sym, ap, ap₂, _∙_, subst}
 use mathlib.Core.List.{List}
 use Prim.Native.Nat.{ℕ, suc, _+_, _*_, _-_, _^_, _≤_, _<_}
 use native.Mathlib.Omega.{arith}
@@ -25,7 +24,7 @@ use Rattle.nodes.specs.declared.Node.{Node}
 use Rattle.records.specs.Records.{nodesIn}
 use Rattle.descend.specs.Descend.{Standing}
 use Rattle.descend.proofs.Laws.{standing-of}
-use Rattle.explore.specs.Explore.{columnCount, Laid, Subject, Given, Roomy, Startable}
+use Rattle.explore.specs.Explore.{columnCount, Laid, Given, Startable}
 use Rattle.explore.specs.declared.Layout.{Layout}
 use Rattle.survey.specs.Survey.{LayoutOf, subjectOf}
 

@@ -7,6 +7,7 @@ use answers::put_layer;
 use answers::put_price;
 use answers::put_quiet;
 use answers::put_step;
+use nodes::Node;
 use positions::Position;
 use verdict::Verdict;
 ghost use mathlib.Core.Path.{_≡_};
@@ -19,7 +20,7 @@ ghost use Rattle.quiet.specs.Quiet.{quietStepped};
 ghost use Rattle.run.specs.Run.{ran, runResult};
 ghost use Rattle.view.specs.View.{viewed, viewResult};
 ghost use Rattle.view.specs.Layers.{located};
-ghost use Rattle.folded.specs.Folded.{foldChecked, foldResult, scratchAfter};
+ghost use Rattle.folded.specs.Folded.{foldChecked, foldResult, scratchAfter, nodesAfter};
 ghost use Rattle.folded.specs.Planned.{asked, commitChecked, commitResult};
 ghost use Rattle.price.specs.Price.{priced};
 ghost use Rattle.reach.specs.Reach.{reachChecked, reachResult};
@@ -145,29 +146,37 @@ pub extern "C" fn tff_quiet_step(
 pub extern "C" fn tff_fold(
     circuit: &[u8],
     scratch: &mut [u16],
+    nodes: &mut [Node],
     result: &mut [u8],
     answer: &mut [u64],
 )
-    ensures answer { λ _. ⌜ now (answer .exit) ≡ answerAfter (verdictNumbers (foldChecked (now (circuit .entry)) (length (now (scratch .entry))) (length (now (result .entry))))) (now (answer .entry)) ⌝ }
-    ensures result { λ _. ⌜ now (result .exit) ≡ lentAfter verdictLength (now (answer .entry)) (foldResult (now (circuit .entry)) (length (now (scratch .entry))) (now (result .entry))) (now (result .entry)) ⌝ }
+    ensures answer { λ _. ⌜ now (answer .exit) ≡ answerAfter (verdictNumbers (foldChecked (now (circuit .entry)) (length (now (scratch .entry))) (length (now (nodes .entry))) (length (now (result .entry))))) (now (answer .entry)) ⌝ }
+    ensures result { λ _. ⌜ now (result .exit) ≡ lentAfter verdictLength (now (answer .entry)) (foldResult (now (circuit .entry)) (length (now (scratch .entry))) (length (now (nodes .entry))) (now (result .entry))) (now (result .entry)) ⌝ }
     ensures scratch { λ _. ⌜ now (scratch .exit) ≡ lentAfter verdictLength (now (answer .entry)) (scratchAfter (now (circuit .entry)) (now (scratch .entry))) (now (scratch .entry)) ⌝ }
+    ensures nodes { λ _. ⌜ now (nodes .exit) ≡ lentAfter verdictLength (now (answer .entry)) (nodesAfter (now (circuit .entry)) (length (now (scratch .entry))) (now (nodes .entry))) (now (nodes .entry)) ⌝ }
 {
     if answer.len() < Limits::VERDICT {
         return;
     }
-    let verdict: Verdict = fold::fold(circuit, scratch, result);
+    let verdict: Verdict = fold::fold(circuit, scratch, nodes, result);
     put(verdict, answer);
 }
 
 #[no_mangle]
-pub extern "C" fn tff_ask(circuit: &[u8], scratch: &mut [u16], answer: &mut [u64])
-    ensures answer { λ _. ⌜ now (answer .exit) ≡ answerAfter (asked (now (circuit .entry)) (length (now (scratch .entry)))) (now (answer .entry)) ⌝ }
+pub extern "C" fn tff_ask(
+    circuit: &[u8],
+    scratch: &mut [u16],
+    nodes: &mut [Node],
+    answer: &mut [u64],
+)
+    ensures answer { λ _. ⌜ now (answer .exit) ≡ answerAfter (asked (now (circuit .entry)) (length (now (scratch .entry))) (length (now (nodes .entry)))) (now (answer .entry)) ⌝ }
     ensures scratch { λ _. ⌜ now (scratch .exit) ≡ lentAfter askLength (now (answer .entry)) (scratchAfter (now (circuit .entry)) (now (scratch .entry))) (now (scratch .entry)) ⌝ }
+    ensures nodes { λ _. ⌜ now (nodes .exit) ≡ lentAfter askLength (now (answer .entry)) (nodesAfter (now (circuit .entry)) (length (now (scratch .entry))) (now (nodes .entry))) (now (nodes .entry)) ⌝ }
 {
     if answer.len() < Limits::ASK {
         return;
     }
-    let asked = ask::ask(circuit, scratch);
+    let asked = ask::ask(circuit, scratch, nodes);
     put_ask(asked, answer);
 }
 
@@ -176,17 +185,19 @@ pub extern "C" fn tff_commit(
     circuit: &[u8],
     plan: &[u64],
     scratch: &mut [u16],
+    nodes: &mut [Node],
     result: &mut [u8],
     answer: &mut [u64],
 )
-    ensures answer { λ _. ⌜ now (answer .exit) ≡ answerAfter (verdictNumbers (commitChecked (now (circuit .entry)) (now (plan .entry)) (length (now (scratch .entry))) (length (now (result .entry))))) (now (answer .entry)) ⌝ }
-    ensures result { λ _. ⌜ now (result .exit) ≡ lentAfter verdictLength (now (answer .entry)) (commitResult (now (circuit .entry)) (now (plan .entry)) (length (now (scratch .entry))) (now (result .entry))) (now (result .entry)) ⌝ }
+    ensures answer { λ _. ⌜ now (answer .exit) ≡ answerAfter (verdictNumbers (commitChecked (now (circuit .entry)) (now (plan .entry)) (length (now (scratch .entry))) (length (now (nodes .entry))) (length (now (result .entry))))) (now (answer .entry)) ⌝ }
+    ensures result { λ _. ⌜ now (result .exit) ≡ lentAfter verdictLength (now (answer .entry)) (commitResult (now (circuit .entry)) (now (plan .entry)) (length (now (scratch .entry))) (length (now (nodes .entry))) (now (result .entry))) (now (result .entry)) ⌝ }
     ensures scratch { λ _. ⌜ now (scratch .exit) ≡ lentAfter verdictLength (now (answer .entry)) (scratchAfter (now (circuit .entry)) (now (scratch .entry))) (now (scratch .entry)) ⌝ }
+    ensures nodes { λ _. ⌜ now (nodes .exit) ≡ lentAfter verdictLength (now (answer .entry)) (nodesAfter (now (circuit .entry)) (length (now (scratch .entry))) (now (nodes .entry))) (now (nodes .entry)) ⌝ }
 {
     if answer.len() < Limits::VERDICT {
         return;
     }
-    let verdict: Verdict = commit::commit_numbers(circuit, plan, scratch, result);
+    let verdict: Verdict = commit::commit_numbers(circuit, plan, scratch, nodes, result);
     put(verdict, answer);
 }
 

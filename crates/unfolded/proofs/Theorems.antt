@@ -25,9 +25,9 @@ use Rattle.circuit.proofs.Causal.{causal}
 use Rattle.table.specs.Table.{connected, machine}
 use Rattle.table.specs.Sound.{Sound}
 use Rattle.layered.specs.Machines.{reached}
-use Rattle.folded.specs.Folded.{foldedBytes, scratchNeeded, foldChecked}
+use Rattle.folded.specs.Folded.{foldedBytes, scratchNeeded, nodesChecked, foldChecked}
 use Rattle.layered.proofs.Feeding.{words-length, feed-length, words-at}
-use Rattle.folded.proofs.Asked.{ask-accepts, fold-accepts}
+use Rattle.folded.proofs.Asked.{scratch-accepts, ask-counts, fold-accepts}
 use Rattle.folded.proofs.Outcomes.{circuit-sized, accepted as foldAccepted, written-bytes as foldWritten}
 use Rattle.folded.proofs.Theorems.{folding, same-bytes}
 use Rattle.unfolded.specs.Unfolded.{drawing, isConnected, drawn, gatesNeeded, circuitWords, unfoldedBytes}
@@ -153,13 +153,13 @@ unfolding scratchNeeded allInputs
 same-scratch d t i f = rw (i, f)
 
 -- circuits of the same sizes and the same folded bytes are folded alike
-alike : (d t : List ℕ) (room rest p q : ℕ) → inputs t ≡ inputs d → frames t ≡ frames d → foldedBytes t ≡ foldedBytes d
-    → circuitChecked t ≡ answer 0 q → foldChecked d room rest ≡ answer 0 p → foldChecked t room rest ≡ answer 0 p
-alike d t room rest p q i f e c a =
-    let A = foldAccepted d room rest p a in
+alike : (d t : List ℕ) (room nodes records rest p q : ℕ) → inputs t ≡ inputs d → frames t ≡ frames d → foldedBytes t ≡ foldedBytes d
+    → circuitChecked t ≡ answer 0 q → nodesChecked t records ≡ answer 0 0 → foldChecked d room nodes rest ≡ answer 0 p → foldChecked t room records rest ≡ answer 0 p
+alike d t room nodes records rest p q i f e c n a =
+    let A = foldAccepted d room nodes rest p a in
     let s = same-scratch d t i f in
     let l : length (foldedBytes t) ≡ length (foldedBytes d) = ap length e in
-    fold-accepts t room rest p (ask-accepts t room q c (omega (arith, A .scratch-enough))) (A .place-is ∙ sym l) (omega (arith, A .room-enough))
+    fold-accepts t room records rest p (ask-counts t room records (scratch-accepts t room q c (omega (arith, A .scratch-enough))) ∙ n) (A .place-is ∙ sym l) (omega (arith, A .room-enough))
 
 -- a table that folding d wrote
 module _ (b : List ℕ) (S : Sound b) (G : length (drawn b) ≤ mostGates) (d : List ℕ) (q : ℕ) (C : circuitChecked d ≡ answer 0 q) (e : b ≡ foldedBytes d) where
@@ -202,12 +202,12 @@ module _ (b : List ℕ) (S : Sound b) (G : length (drawn b) ≤ mostGates) where
     same-connected = connected-are b S G;
     legal = passes b S G;
     gives = words-are b S G;
-    folds-back = λ d before room p a e.
-        let a′ = foldAccepted d room (length before) p a in
-        let w = foldWritten d before room p a in
+    folds-back = λ d before room nodes p a e records n.
+        let a′ = foldAccepted d room nodes (length before) p a in
+        let w = foldWritten d before room nodes p a in
         let s = same-folded b S G d (a′ .circuit-place) (a′ .circuit-accepted) (e ∙ w) in
-        let k = alike d (circuit b S G) room (length before) p 0 (inputs-are b S G ∙ s .0) (frames-are b S G ∙ s .1) (s .2) (passes b S G) a in
-        (k, foldWritten (circuit b S G) before room p k ∙ s .2 ∙ sym w ∙ sym e);
+        let k = alike d (circuit b S G) room nodes records (length before) p 0 (inputs-are b S G ∙ s .0) (frames-are b S G ∙ s .1) (s .2) (passes b S G) n a in
+        (k, foldWritten (circuit b S G) before room records p k ∙ s .2 ∙ sym w ∙ sym e);
   }
 
 pub unfoldings : Unfoldings

@@ -10,7 +10,7 @@ use Rattle.layered.specs.States.{Words}
 use Rattle.layered.specs.Machines.{feed}
 use Rattle.circuit.specs.Circuit.{checked, connectedOutputs, outputWords}
 use Rattle.table.specs.Table.{connected, machine}
-use Rattle.folded.specs.Folded.{foldChecked, foldResult}
+use Rattle.folded.specs.Folded.{nodesChecked, foldChecked, foldResult}
 use Rattle.unfolded.specs.Unfolded.{unfoldChecked, unfoldResult}
 
 pub record Unfolding (b t : List ℕ) : Type 0 where
@@ -24,9 +24,10 @@ pub record Unfolding (b t : List ℕ) : Type 0 where
   pub legal : checked t ≡ answer 0 0
   -- on every sequence the circuit's outputs are what the table gives
   pub gives : (c : List ℕ) → Words (2 ^ inputs b) (frames b) c → outputWords t c ≡ feed (machine b) 0 0 c
-  -- where the table is what folding a circuit d wrote, folding the drawn circuit in the same room is accepted too, and writes the same bytes
-  pub folds-back : (d before : List ℕ) (room p : ℕ) → foldChecked d room (length before) ≡ answer 0 p → b ≡ take p (foldResult d room before)
-      → (foldChecked t room (length before) ≡ answer 0 p) × (take p (foldResult t room before) ≡ b)
+  -- where the table is what folding a circuit d wrote, folding the drawn circuit in the same room, with records enough for its own nodes, is accepted
+  -- too, and writes the same bytes
+  pub folds-back : (d before : List ℕ) (room nodes p : ℕ) → foldChecked d room nodes (length before) ≡ answer 0 p → b ≡ take p (foldResult d room nodes before)
+      → (records : ℕ) → nodesChecked t records ≡ answer 0 0 → (foldChecked t room records (length before) ≡ answer 0 p) × (take p (foldResult t room records before) ≡ b)
 
 -- whatever unfolding accepts
 unfoldable pub Unfoldings : Type 0

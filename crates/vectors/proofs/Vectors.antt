@@ -8,7 +8,7 @@ use Rattle.words.specs.Words.{wordAt}
 use Rattle.verdict.specs.Judgements.{refuseFirst, firstRefusal}
 use Rattle.verdict.specs.declared.Figures.{Figures}
 use Rattle.sizes.specs.Sizes.{inputs, outputs, frames, sizesChecked}
-use Rattle.layered.specs.Search.{every, total, equal}
+use Rattle.layered.specs.Search.{every, least, tally, total, equal}
 use Rattle.layered.specs.Histories.{historyWords}
 use Rattle.layered.specs.Machines.{tableWords}
 use Rattle.layered.specs.States.{count, number, history}
@@ -19,6 +19,8 @@ use Rattle.circuit.specs.Theorems.{response}
 use Rattle.table.specs.Table as table
 use Rattle.positions.specs.Positions as positions
 use Rattle.steps.specs.Steps as steps
+use Rattle.diagrams.specs.Counts as counts
+use Rattle.functions.specs.Functions as functions
 use Rattle.folded.specs.Folded as folded
 use Rattle.unfolded.specs.Unfolded as unfolded
 use Rattle.latest.specs.Latest.{inputFrames, laterFrame, latestFrames, reachesLater}
@@ -43,6 +45,10 @@ abbrev folded-bytes : List ℕ → List ℕ
 unfolding circuit-outputs circuit.connectedOutputs folded.foldedBytes tableWords count number history response historyWords
 folded-bytes b = folded.foldedBytes b
 
+abbrev nodes-to : List ℕ → ℕ → ℕ
+unfolding circuit-outputs functions.nodesTo functions.signalOn counts.nodesOf counts.nodesAt counts.isNode counts.sameBlock counts.block counts.bits total tally least every
+nodes-to b k = functions.nodesTo b k
+
 abbrev table-checked : List ℕ → Figures
 unfolding table.checked table.headChecked table.countsChecked table.connectedChecked table.entriesChecked table.arrayChecked table.badOutput table.badNext table.strays table.partChecked table.layerPart table.countAt table.states table.connectedAt table.connected table.headLength table.statesBelow table.entriesBelow table.entryCount table.outputsAt table.nextsAt table.tableLength table.entryAt total firstRefusal
 table-checked b = table.checked b
@@ -52,7 +58,7 @@ table-checked b = table.checked b
 -- what a call answers and leaves; that of `Check` computed quickly, since a row has 65,536 sequences
 quickOutcome : Call → Outcome
 quickOutcome (Check b) = record { figures = quickChecked b; result = []; scratch = [] }
-quickOutcome (Fold b scratch result) = outcomeOf (Fold b scratch result)
+quickOutcome (Fold b scratch nodes result) = outcomeOf (Fold b scratch nodes result)
 quickOutcome (Unfold b result) = outcomeOf (Unfold b result)
 quickOutcome (Step b layer state word) = outcomeOf (Step b layer state word)
 
@@ -60,7 +66,7 @@ quickOutcome (Step b layer state word) = outcomeOf (Step b layer state word)
 quick-outcome : (c : Call) → outcomeOf c ≡ quickOutcome c
 unfolding outcomeOf quickOutcome
 quick-outcome (Check b) = ap (λ f. record { figures = f; result = []; scratch = [] }) (quick-checked b)
-quick-outcome (Fold b scratch result) = refl
+quick-outcome (Fold b scratch nodes result) = refl
 quick-outcome (Unfold b result) = refl
 quick-outcome (Step b layer state word) = refl
 
@@ -76,7 +82,7 @@ quick-hold (r ∷ rs) = ap₂ (λ o h. agree o (r .expected) && h) (quick-outcom
 
 -- every row, computed
 quick : quickHold rows ≡ true
-unfolding quickHold quickOutcome outcomeOf agree rows circuit-quick folded-bytes table-checked folded.foldChecked folded.foldResult folded.askChecked folded.roomChecked folded.scratchAfter folded.cleared folded.scratchNeeded equal unfolded.unfoldResult steps.stepped steps.stepChecked steps.moveChecked positions.positionChecked positions.placeChecked steps.entryChecked
+unfolding quickHold quickOutcome outcomeOf agree rows circuit-quick folded-bytes table-checked folded.foldChecked folded.foldResult folded.askChecked folded.scratchChecked folded.nodesChecked nodes-to folded.roomChecked folded.scratchAfter folded.cleared folded.scratchNeeded equal unfolded.unfoldResult steps.stepped steps.stepChecked steps.moveChecked positions.positionChecked positions.placeChecked steps.entryChecked
 quick = refl
 
 pub vectors-hold : hold rows ≡ true

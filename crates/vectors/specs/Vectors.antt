@@ -1,5 +1,5 @@
--- The figures that document 01 wants proved ("Figures to hold", those with a star), in the layout of document 02, Point 8, and that point's
--- cases: one table, in their order, of calls with what they are to answer and leave, and its test.
+-- The figures that document 01 wants proved ("Figures to hold", those with a star), in the layout of document 02, Point 8, and the cases of that point
+-- and of Point 10: one table, in their order, of calls with what they are to answer and leave, and its test.
 use Prim.Native.Nat.{ℕ, _+_, _*_}
 use mathlib.Core.Path.{_≡_}
 use mathlib.Core.Bool.{Bool, true, _&&_}
@@ -19,10 +19,10 @@ use Rattle.unfolded.specs.Unfolded.{unfoldChecked, unfoldResult}
 
 -- ---- calls
 
--- a call, with what it is given and lent
+-- a call, with what it is given and lent; of the list of records only its length counts
 pub data Call : Type 0 where
   Check : (circuit : List ℕ) → Call
-  Fold : (circuit scratch result : List ℕ) → Call
+  Fold : (circuit scratch : List ℕ) (nodes : ℕ) (result : List ℕ) → Call
   Unfold : (table result : List ℕ) → Call
   Step : (table : List ℕ) (layer state word : ℕ) → Call
 
@@ -35,9 +35,9 @@ pub record Outcome : Type 0 where
 -- what a call answers and leaves, by the definitions that its promise cites
 unfoldable pub outcomeOf : Call → Outcome
 outcomeOf (Check b) = record { figures = checked b; result = []; scratch = [] }
-outcomeOf (Fold b scratch result) = record {
-  figures = foldChecked b (length scratch) (length result);
-  result = foldResult b (length scratch) result;
+outcomeOf (Fold b scratch nodes result) = record {
+  figures = foldChecked b (length scratch) nodes (length result);
+  result = foldResult b (length scratch) nodes result;
   scratch = scratchAfter b scratch;
 }
 outcomeOf (Unfold b result) = record { figures = unfoldChecked b (length result); result = unfoldResult b result; scratch = [] }
@@ -115,15 +115,15 @@ unfoldable pub rows : List Row
 unfolding parity parityFolded parityDrawn identity identityFolded silent silentFolded delayed delayedFolded marked markedFolded markedDrawn wide wordBytes
 rows =
     -- Parity folds to 1 1 2, 1 2 1, 1 1, ..: 40 bytes
-    row (Fold (wordBytes parity) (lent 8) (lent 40)) 0 40 (wordBytes parityFolded) (zeros 8)
+    row (Fold (wordBytes parity) (lent 8) 7 (lent 40)) 0 40 (wordBytes parityFolded) (zeros 8)
     -- drawn back, 17 gates
     ∷ row (Unfold (wordBytes parityFolded) (lent 76)) 0 76 (wordBytes parityDrawn) []
     -- y = x: counts 1 1
-    ∷ row (Fold (wordBytes identity) (lent 4) (lent 20)) 0 20 (wordBytes identityFolded) (zeros 4)
+    ∷ row (Fold (wordBytes identity) (lent 4) 1 (lent 20)) 0 20 (wordBytes identityFolded) (zeros 4)
     -- all outputs false: 1 1 1
-    ∷ row (Fold (wordBytes silent) (lent 8) (lent 32)) 0 32 (wordBytes silentFolded) (zeros 8)
+    ∷ row (Fold (wordBytes silent) (lent 8) 2 (lent 32)) 0 32 (wordBytes silentFolded) (zeros 8)
     -- y1 = y2 = 0, y3 = x1: 1 2 2 1
-    ∷ row (Fold (wordBytes delayed) (lent 16) (lent 60)) 0 60 (wordBytes delayedFolded) (zeros 16)
+    ∷ row (Fold (wordBytes delayed) (lent 16) 3 (lent 60)) 0 60 (wordBytes delayedFolded) (zeros 16)
     -- Parity less one byte
     ∷ row (Check (take 27 (wordBytes parity))) 1 27 [] []
     -- n = 0
@@ -137,13 +137,13 @@ rows =
     -- its fourth left literal 4
     ∷ row (Check (wordBytes (set parity 7 4))) 4 0 [] []
     -- Parity with 7 scratch numbers
-    ∷ row (Fold (wordBytes parity) (lent 7) (lent 40)) 6 8 (lent 40) (lent 7)
+    ∷ row (Fold (wordBytes parity) (lent 7) 0 (lent 40)) 6 8 (lent 40) (lent 7)
     -- with 39 bytes
-    ∷ row (Fold (wordBytes parity) (lent 8) (lent 39)) 7 40 (lent 39) (zeros 8)
+    ∷ row (Fold (wordBytes parity) (lent 8) 7 (lent 39)) 7 40 (lent 39) (zeros 8)
     -- step at layer 2, state 0
     ∷ row (Step (wordBytes parityFolded) 2 0 0) 10 2 (0 ∷ 2 ∷ 0 ∷ []) []
     -- Parity with output 2 unconnected: counts 1 1 1, words 1 0; drawn back, the mark again
-    ∷ row (Fold (wordBytes (marked 4)) (lent 8) (lent 32)) 0 32 (wordBytes markedFolded) (zeros 8)
+    ∷ row (Fold (wordBytes (marked 4)) (lent 8) 6 (lent 32)) 0 32 (wordBytes markedFolded) (zeros 8)
     ∷ row (Unfold (wordBytes markedFolded) (lent 60)) 0 60 (wordBytes markedDrawn) []
     -- the mark on a gate that is no output; as the left literal alone, and as the right
     ∷ row (Check (wordBytes (marked 0))) 3 8 [] []
@@ -156,6 +156,12 @@ rows =
     ∷ row (Unfold (wordBytes (set parityFolded 6 2)) (lent 76)) 2 12 (lent 76) []
     ∷ row (Unfold (wordBytes (set parityFolded 7 0)) (lent 76)) 5 22 (lent 76) []
     ∷ row (Step (wordBytes (set parityFolded 7 0)) 1 0 1) 5 22 (0 ∷ 1 ∷ 0 ∷ []) []
+    -- Parity's inputs have 2 nodes, with gates 1 to 5 there are 4, 5, 6, 6, 7; 18 is judged before 7
+    ∷ row (Fold (wordBytes parity) (lent 8) 1 (lent 40)) 18 0 (lent 40) (zeros 8)
+    ∷ row (Fold (wordBytes parity) (lent 8) 3 (lent 40)) 18 1 (lent 40) (zeros 8)
+    ∷ row (Fold (wordBytes parity) (lent 8) 4 (lent 40)) 18 2 (lent 40) (zeros 8)
+    ∷ row (Fold (wordBytes parity) (lent 8) 5 (lent 40)) 18 3 (lent 40) (zeros 8)
+    ∷ row (Fold (wordBytes parity) (lent 8) 6 (lent 39)) 18 5 (lent 39) (zeros 8)
     ∷ []
 
 -- ---- the test

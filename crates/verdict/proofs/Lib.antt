@@ -4,5 +4,6 @@ pub mod Walks
 pub mod Again
 pub mod Pass
 pub mod LocalArray
+pub mod SharedArray
 pub mod Lending
 pub mod Copied

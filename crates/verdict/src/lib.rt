@@ -27,6 +27,7 @@ pub enum Refusal {
     Window(usize),
     Minute(usize),
     Mask(usize),
+    Nodes(usize),
 }
 
 // Document 01's number and place.
@@ -57,6 +58,7 @@ impl Refusal {
             Refusal::Window(place) => Figures { number: 15, place },
             Refusal::Minute(place) => Figures { number: 16, place },
             Refusal::Mask(place) => Figures { number: 17, place },
+            Refusal::Nodes(place) => Figures { number: 18, place },
         }
     }
 }

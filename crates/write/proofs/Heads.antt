@@ -2,7 +2,7 @@
 use mathlib.Core.Path.{_≡_, refl, sym, ap, _∙_}
 use mathlib.Core.List.{List, [], _∷_, _++_, append-assoc}
 use mathlib.Core.Logic.{⊎-elim}
-use Prim.Native.Nat.{ℕ, suc, _+_, _*_, _-_, _/_, _^_, _≤_, _<_}
+use Prim.Native.Nat.{ℕ, suc, _+_, _*_, _-_, _^_, _≤_, _<_}
 use native.Mathlib.Nat.{eq-or-lt-of-le}
 use native.Mathlib.Omega.{arith}
 use lib.Pow.{pow-pos}
@@ -15,7 +15,6 @@ use Rattle.layered.specs.Search.{tabulate}
 use Rattle.layered.specs.States.{count}
 use Rattle.layered.specs.Machines.{tableWords, folded}
 use Rattle.layered.proofs.Lists.{tabulate-length, tabulated}
-use Rattle.layered.proofs.Entries.{entries-length}
 use Rattle.layered.proofs.States.{count-last}
 use Rattle.circuit.specs.Circuit.{connectedOutputs}
 use Rattle.circuit.specs.Theorems.{response}
@@ -88,13 +87,6 @@ module _ (b : List ℕ) where
 
   pub nexts-room : (r : List ℕ) (at end : ℕ) → 2 * length wholeTable ≤ length r → at ≡ 8 + 4 * frames b → end ≡ at + 2 * length outputsOf → end + 2 * length nextsOf ≤ length r
   nexts-room r at end room e f = omega (arith, table-length)
-
-  -- they are as long, so that the second begins in the middle
-  pub nexts-at : (bytes : ℕ) → bytes ≡ 2 * length wholeTable → (8 + 4 * frames b + bytes) / 2 ≡ 8 + 4 * frames b + 2 * length outputsOf
-  nexts-at bytes e =
-      let K : ℕ = 2 ^ inputs b in
-      let M = folded K (frames b) (response b) in
-      omega (arith, table-length, entries-length K (frames b) (M .states) (M .out), entries-length K (frames b) (M .states) (M .next))
 
   -- head, outputs and next states, stored one behind the other
   pub table-stored : (r r₁ r₂ r₃ : List ℕ) (at end : ℕ) → 2 * length wholeTable ≤ length r → at ≡ 8 + 4 * frames b → end ≡ at + 2 * length outputsOf

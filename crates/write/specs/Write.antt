@@ -7,18 +7,24 @@ use lib.Dec.{eqb, ltb}
 use lib.ListN.{length, getD, replicate}
 use Rattle.words.specs.Words.{stored}
 use Rattle.sizes.specs.Sizes.{inputs, outputs, frames}
-use Rattle.layered.specs.Search.{tabulate}
+use Rattle.layered.specs.Search.{tabulate, total}
 use Rattle.layered.specs.States.{count}
 use Rattle.layered.specs.Machines.{entries, folded}
 use Rattle.circuit.specs.Lists.{listed, packed}
-use Rattle.circuit.specs.Circuit.{connectedOutputs}
+use Rattle.circuit.specs.Circuit.{connectedOutputs, checked}
+use Rattle.circuit.specs.WellFormed.{WellFormed}
 use Rattle.circuit.specs.Theorems.{response}
+use Rattle.circuit.specs.declared.Head.{Head}
+use Rattle.table.specs.Table.{headLength}
+use Rattle.folded.specs.Folded.{foldedBytes, scratchNeeded}
 use Rattle.diagrams.specs.Frames.{historyBits}
 use Rattle.nodes.specs.declared.Node.{Node}
 use Rattle.records.specs.Records.{nodesIn}
 use Rattle.descend.specs.declared.Job.{Job}
 use Rattle.explore.specs.declared.Layout.{Layout}
 use Rattle.explore.specs.Explore.{layerAt, Laid, Explored, CountsTo, Subject, Given}
+use Rattle.survey.specs.declared.Survey.{Survey}
+use Rattle.survey.specs.Survey.{workLength, LayoutOf, Known}
 use Rattle.write.specs.declared.Writing.{Writing}
 
 -- ---- the words
@@ -111,3 +117,24 @@ pub record Writable (layout : Layout) (ns : List Node) (s ws counts r : List ℕ
 abbrev pub Wrote : Layout → List Node → (s ws counts r : List ℕ) (to : ℕ) (ms r′ : List ℕ) → Type 0
 Wrote layout ns s ws counts r to ms r′ = (W : Writable layout ns s ws counts r to)
     → (r′ ≡ stored 2 r to (outputWords (2 ^ layout .bits) (layout .frames) (W .subject .y) (layout .frames))) × ((j : ℕ) → j < layout .columns → getD ms j 0 ≡ getD ws j 0)
+
+-- ---- the whole table
+
+-- the layout of the circuit b
+pub record LayoutFor (b : List ℕ) (layout : Layout) : Type 0 where
+  pub head : Head
+  pub formed : WellFormed b head
+  pub sizes : LayoutOf head layout
+
+-- where the next states begin: behind the head and an output word for each entry of the layers that are counted
+unfoldable pub nextsFrom : Layout → (counts : List ℕ) → ℕ
+nextsFrom layout counts = headLength (layout .frames) + 2 * (total (layout .frames) (λ t. getD counts t 0) * layout .fan)
+
+-- a table can be written: all is known of an accepted circuit b, and the result r has room
+pub record Tabled (b : List ℕ) (survey : Survey) (ns : List Node) (s ws r : List ℕ) : Type 0 where
+  pub accepted : checked b .number ≡ 0
+  pub records : ℕ
+  pub known : Known b records ns s ws (survey .counts)
+  pub enough : scratchNeeded b ≤ length s
+  pub space : workLength ≤ length ws
+  pub room : length (foldedBytes b) ≤ length r

@@ -4,23 +4,29 @@ use circuit::connected_outputs;
 use descend::Job;
 use descend::trace;
 use explore::Layout;
+use explore::Limits as Explore;
 use nodes::Node;
+use survey::Survey;
+use survey::layout_of;
 use table::Limits;
 use table::head::connected_at;
+use table::head::head_length;
 use words::store;
 use words::store_all;
 ghost use mathlib.Core.Path.{_≡_};
 ghost use Prim.Native.Nat.{_+_, _*_, _-_, _≤_, _<_};
-ghost use lib.ListN.{length, replicate};
+ghost use mathlib.Core.List.{_++_};
+ghost use lib.ListN.{length, drop, replicate};
 ghost use Rattle.words.specs.Words.{stored};
 ghost use Rattle.sizes.specs.Sizes.{inputs, outputs, frames};
 ghost use Rattle.layered.specs.Search.{tabulate};
-ghost use Rattle.circuit.specs.Circuit.{connectedOutputs};
+ghost use Rattle.circuit.specs.Circuit.{connectedOutputs, checked};
 ghost use Rattle.circuit.specs.WellFormed.{WellFormed};
 ghost use Rattle.circuit.specs.Theorems.{response};
 ghost use Rattle.table.specs.Table.{connectedAt, headLength};
+ghost use Rattle.folded.specs.Folded.{foldedBytes};
 ghost use Rattle.explore.specs.Explore.{Laid, CountsTo};
-ghost use Rattle.write.specs.Write.{headWords, NextsFit, NextsPut, wordIn, rowIn, firstRow, nextRow, rowJob, AtRow, Writable, Wrote};
+ghost use Rattle.write.specs.Write.{headWords, NextsFit, NextsPut, wordIn, rowIn, firstRow, nextRow, rowJob, AtRow, Writable, Wrote, LayoutFor, nextsFrom, Tabled};
 
 // The next row to be written: that of a state of a layer, of which there are so many, their paths from `at` on in the scratch; it goes to byte offset `to`.
 pub struct Writing {
@@ -188,4 +194,72 @@ pub fn put_outputs(
         let next = next_row(counts, layout, writing);
         writing = next;
     }
+}
+
+// The counts that a survey found.
+fn counts_of(found: Survey) -> [u16; Explore::LAYERS]
+    ensures { λ r. ⌜ r ≡ found .counts ⌝ }
+{
+    found.counts
+}
+
+// The layout of an accepted circuit.
+fn layout_for(circuit: &[u8]) -> Layout
+    requires { ⌜ checked (now circuit) .number ≡ 0 ⌝ }
+    ensures { λ r. ⌜ LayoutFor (now (circuit .entry)) r ⌝ }
+{
+    layout_of(Head::read(circuit))
+}
+
+// Stores the head, and answers where the outputs begin.
+fn put_front(circuit: &[u8], result: &mut [u8], found: Survey) -> usize
+    requires { ⌜ (checked (now circuit) .number ≡ 0) × CountsTo (inputs (now circuit)) (outputs (now circuit)) (frames (now circuit)) (response (now circuit)) (found .counts) (frames (now circuit) - 1) × (headLength (frames (now circuit)) ≤ length (now result)) ⌝ }
+    ensures { λ r. ⌜ (r ≡ headLength (frames (now (circuit .entry)))) × (now (result .exit) ≡ stored 2 (now (result .entry)) 0 (headWords (now (circuit .entry)))) ⌝ }
+{
+    let head = Head::read(circuit);
+    let counts = counts_of(found);
+    put_head(circuit, head, &counts, result);
+    head_length(head.frames)
+}
+
+// Where the next states begin: behind the head, and a word of outputs for each entry.
+fn nexts_from(counts: &[u16], layout: Layout) -> usize
+    requires { ⌜ Laid layout × (length (now counts) ≡ 17) ⌝ }
+    ensures { λ r. ⌜ r ≡ nextsFrom layout (now (counts .entry)) ⌝ }
+{
+    let frames = layout.frames;
+    let mut states = 0;
+    for t in 0..frames {
+        states += counts[t] as usize;
+    }
+    head_length(frames) + 2 * (states * layout.fan)
+}
+
+// Stores all next states, behind the outputs.
+fn put_back(scratch: &[u16], result: &mut [u8], layout: Layout, found: Survey)
+    requires { ⌜ NextsFit layout (now scratch) (found .counts) (now result) (nextsFrom layout (found .counts)) ⌝ }
+    ensures { λ _. ⌜ NextsPut layout (now (scratch .entry)) (found .counts) (now (result .entry)) (nextsFrom layout (found .counts)) (now (result .exit)) ⌝ }
+{
+    let counts = counts_of(found);
+    let at = nexts_from(&counts, layout);
+    put_nexts(scratch, layout, &counts, result, at);
+}
+
+// Writes the table of an accepted circuit that was surveyed with enough records. The rest of the result stays as it was.
+pub fn write_table(
+    circuit: &[u8],
+    found: Survey,
+    nodes: &[Node],
+    scratch: &[u16],
+    work: &mut [u32],
+    result: &mut [u8],
+)
+    requires { ⌜ Tabled (now circuit) found (now nodes) (now scratch) (now work) (now result) ⌝ }
+    ensures { λ _. ⌜ now (result .exit) ≡ foldedBytes (now (circuit .entry)) ++ drop (length (foldedBytes (now (circuit .entry)))) (now (result .entry)) ⌝ }
+{
+    let at = put_front(circuit, result, found);
+    let layout = layout_for(circuit);
+    let counts = counts_of(found);
+    put_outputs(nodes, scratch, work, &counts, layout, result, at);
+    put_back(scratch, result, layout, found);
 }

@@ -113,6 +113,65 @@ impl Growing {
     }
 }
 
+/// A random legal circuit of which many gates are constant, or equal to an earlier one or to its
+/// inverse.
+pub fn repetitive(rng: &mut Rng, sizes: Sizes, inner: usize) -> Circuit {
+    let mut growing = Growing::new(sizes);
+    while growing.gates.count() < inner {
+        let frame = rng.between(0, sizes.frames);
+        let function = rng.pick(&REPETITIONS);
+        growing.add(rng, frame, function);
+    }
+    for output in 0..sizes.output_gates() {
+        growing.add(rng, output / sizes.outputs + 1, Gates::and);
+    }
+    let circuit = growing.gates.into_circuit();
+    partly_connected(rng, circuit)
+}
+
+/// A random legal circuit whose functions soon have no pattern: in each frame, any of the values so far
+/// is changed where two others hold, again and again.
+pub fn scrambled(rng: &mut Rng, sizes: Sizes, gates: usize) -> Circuit {
+    let mut made = Gates::new(sizes);
+    let mut values = Vec::new();
+    let mut outputs = Vec::new();
+    let inner = gates - sizes.output_gates();
+    for frame in 0..sizes.frames {
+        values.extend((0..sizes.inputs).map(|input| made.input(frame, input)));
+        // Four gates each, as many in every frame.
+        while made.count() + 4 <= inner * (frame + 1) / sizes.frames {
+            let changed = rng.below(values.len());
+            let others = values.len().max(2) - 1;
+            let [first, second] = [0; 2].map(|_| (changed + 1 + rng.below(others)) % values.len());
+            let both = made.and(values[first], not(values[second]));
+            values[changed] = made.xor(values[changed], both);
+        }
+        outputs.extend((0..sizes.outputs).map(|output| values[output % values.len()]));
+    }
+    while made.count() < inner {
+        made.and(TRUE, TRUE);
+    }
+    made.finish(&outputs)
+}
+
+/// What is added for two literals.
+const REPETITIONS: [fn(&mut Gates, u16, u16) -> u16; 9] = [
+    Gates::and,
+    Gates::and,
+    Gates::or,
+    Gates::xor,
+    // The same once more, and its inverse.
+    |gates, left, right| {
+        let both = gates.and(left, right);
+        gates.and(right, left);
+        gates.and(not(both), TRUE)
+    },
+    |gates, left, _| gates.and(left, left),
+    |gates, left, _| gates.and(TRUE, not(left)),
+    |gates, left, _| gates.and(left, not(left)),
+    |gates, _, right| gates.and(FALSE, right),
+];
+
 /// The circuit with its gates, but for the outputs, in any order in which operands come first.
 pub fn reordered(rng: &mut Rng, circuit: &Circuit) -> Circuit {
     let mut made = Circuit {
@@ -224,7 +283,7 @@ pub fn with_outputs_by_sequence(sizes: Sizes, output: impl Fn(usize, usize) -> u
 }
 
 /// True when one of the chosen literals is.
-fn one_of(gates: &mut Gates, literals: &[u16], chosen: impl Fn(&usize) -> bool) -> u16 {
+pub fn one_of(gates: &mut Gates, literals: &[u16], chosen: impl Fn(&usize) -> bool) -> u16 {
     let inverted = (0..literals.len())
         .filter(chosen)
         .map(|index| not(literals[index]));
@@ -370,7 +429,7 @@ pub fn choose(gates: &mut Gates, choice: u16, first: u16, second: u16) -> u16 {
 }
 
 /// The same value behind `count` further gates, which all count for it by the circuit's structure.
-fn lengthened(gates: &mut Gates, literal: u16, count: usize) -> u16 {
+pub fn lengthened(gates: &mut Gates, literal: u16, count: usize) -> u16 {
     let other = gates.input(0, 0);
     let mut same = literal;
     for _ in 0..count / 6 {

@@ -7,6 +7,7 @@
 /* What the calls may write to, with an element more than any is lent. */
 static uint64_t answer[24];
 static uint16_t numbers[9];
+static tff_node nodes[8];
 static uint8_t bytes[77];
 static tff_position position;
 
@@ -18,6 +19,11 @@ static void fill(void) {
     FILL(answer);
     FILL(numbers);
     FILL(bytes);
+    for (size_t i = 0; i < LENGTH(nodes); i++) {
+        nodes[i].level = 99;
+        nodes[i].low = 98;
+        nodes[i].high = 97;
+    }
 }
 
 static void show(const char *call) {
@@ -25,6 +31,9 @@ static void show(const char *call) {
     SHOW(answer);
     printf(", numbers");
     SHOW(numbers);
+    printf(", nodes");
+    for (size_t i = 0; i < LENGTH(nodes); i++)
+        printf(" %" PRIu32 " %" PRIu32 " %" PRIu32, nodes[i].level, nodes[i].low, nodes[i].high);
     printf(", bytes");
     SHOW(bytes);
     printf("\n");
@@ -61,24 +70,28 @@ int main(void) {
     CALL(simulate, circuit, 28, 2, words + 1, 4, numbers, 4);
     CALL(simulate, circuit, 28, 2, words, 4, numbers, 3);
 
-    CALL(fold, circuit, 27, numbers, 8, bytes, 40);
-    CALL(fold, circuit, 28, numbers, 7, bytes, 40);
-    CALL(fold, circuit, 28, numbers, 8, bytes, 39);
-    CALL(fold, circuit, 28, numbers, 8, bytes, 40);
+    CALL(fold, circuit, 27, numbers, 8, nodes, 7, bytes, 40);
+    CALL(fold, circuit, 28, numbers, 7, nodes, 7, bytes, 40);
+    CALL(fold, circuit, 28, numbers, 8, nodes, 0, bytes, 40);
+    CALL(fold, circuit, 28, numbers, 8, nodes, 6, bytes, 40);
+    CALL(fold, circuit, 28, numbers, 8, nodes, 7, bytes, 39);
+    CALL(fold, circuit, 28, numbers, 8, nodes, 7, bytes, 40);
     for (size_t i = 0; i < sizeof table; i++) table[i] = bytes[i];
 
-    CALL_FOR(22, ask, circuit, 28, numbers, 8);
-    CALL(ask, circuit, 27, numbers, 8);
-    CALL(ask, circuit, 28, numbers, 7);
-    CALL(ask, circuit, 28, numbers, 8);
+    CALL_FOR(22, ask, circuit, 28, numbers, 8, nodes, 7);
+    CALL(ask, circuit, 27, numbers, 8, nodes, 7);
+    CALL(ask, circuit, 28, numbers, 7, nodes, 7);
+    CALL(ask, circuit, 28, numbers, 8, nodes, 4);
+    CALL(ask, circuit, 28, numbers, 8, nodes, 7);
     for (size_t i = 0; i < 21; i++) plan[i] = answer[2 + i];
 
-    CALL(commit, circuit, 27, plan, 21, numbers, 8, bytes, 40);
-    CALL(commit, circuit, 28, plan, 21, numbers, 7, bytes, 40);
-    CALL(commit, circuit, 28, plan, 20, numbers, 8, bytes, 40);
-    CALL(commit, circuit, 28, plan, 22, numbers, 8, bytes, 40);
-    CALL(commit, circuit, 28, plan, 21, numbers, 8, bytes, 39);
-    CALL(commit, circuit, 28, plan, 21, numbers, 8, bytes, 40);
+    CALL(commit, circuit, 27, plan, 21, numbers, 8, nodes, 7, bytes, 40);
+    CALL(commit, circuit, 28, plan, 21, numbers, 7, nodes, 7, bytes, 40);
+    CALL(commit, circuit, 28, plan, 20, numbers, 8, nodes, 5, bytes, 40);
+    CALL(commit, circuit, 28, plan, 20, numbers, 8, nodes, 7, bytes, 40);
+    CALL(commit, circuit, 28, plan, 22, numbers, 8, nodes, 7, bytes, 40);
+    CALL(commit, circuit, 28, plan, 21, numbers, 8, nodes, 7, bytes, 39);
+    CALL(commit, circuit, 28, plan, 21, numbers, 8, nodes, 7, bytes, 40);
 
     CALL(check_table, table, 40);
     CALL(check_table, table, 39);

@@ -22,8 +22,8 @@ impl Evaluator {
         compare(
             &check_case(seed, file),
             Room::default(),
-            |_, _| (self.plain_check)(file).into(),
-            |_, _, answer| self.call_check(file, answer),
+            |_| (self.plain_check)(file).into(),
+            |_, answer| self.call_check(file, answer),
         )
     }
 
@@ -32,8 +32,8 @@ impl Evaluator {
         compare(
             &evaluate_case(seed, file, words),
             result_of(length),
-            |result, _| (self.plain_evaluate)(file, words, result).into(),
-            |result, _, answer| (self.proved_evaluate)(file, words, result, answer),
+            |lent| (self.plain_evaluate)(file, words, lent.numbers).into(),
+            |lent, answer| (self.proved_evaluate)(file, words, lent.numbers, answer),
         )
     }
 
@@ -87,12 +87,12 @@ impl Evaluator {
     pub fn needs_two_answers(&self, seed: u64, file: &[u8], sizes: &Sizes) {
         let words = any_sequence(&mut Rng::new(seed), sizes);
         let case = check_case(seed, file);
-        short_answers_change_nothing(&case, Room::default(), 2, |_, _, answer| {
+        short_answers_change_nothing(&case, Room::default(), 2, |_, answer| {
             self.call_check(file, answer)
         });
         let case = evaluate_case(seed, file, &words);
-        short_answers_change_nothing(&case, result_of(sizes.frames), 2, |result, _, answer| {
-            (self.proved_evaluate)(file, &words, result, answer)
+        short_answers_change_nothing(&case, result_of(sizes.frames), 2, |lent, answer| {
+            (self.proved_evaluate)(file, &words, lent.numbers, answer)
         });
     }
 }
@@ -117,5 +117,8 @@ fn evaluate_case<'a>(seed: u64, file: &'a [u8], words: &'a [u16]) -> Case<'a> {
 }
 
 fn result_of(numbers: usize) -> Room {
-    Room { numbers, bytes: 0 }
+    Room {
+        numbers,
+        ..Room::default()
+    }
 }

@@ -1,18 +1,20 @@
 //! Folding, plain and proved.
 
-use crate::common::{compare, Case, Room};
-use reference::Sizes;
+use crate::common::{compare, Case, Lent, Room};
+use reference::{nodes_needed, Circuit, Sizes};
 
-pub fn call_fold(circuit: &[u8], scratch: &mut [u16], result: &mut [u8], answer: &mut [u64]) {
-    // SAFETY: each pointer and length is that of one slice.
+pub fn call_fold(circuit: &[u8], lent: Lent, answer: &mut [u64]) {
+    // SAFETY: each pointer and length is that of one slice; a record is its three numbers.
     unsafe {
         tff::raw::tff_fold(
             circuit.as_ptr(),
             circuit.len(),
-            scratch.as_mut_ptr(),
-            scratch.len(),
-            result.as_mut_ptr(),
-            result.len(),
+            lent.numbers.as_mut_ptr(),
+            lent.numbers.len(),
+            lent.nodes.as_mut_ptr().cast(),
+            lent.nodes.len(),
+            lent.bytes.as_mut_ptr(),
+            lent.bytes.len(),
             answer.as_mut_ptr(),
             answer.len(),
         )
@@ -33,16 +35,17 @@ pub fn fold(seed: u64, file: &[u8], room: Room) -> [u64; 2] {
     compare(
         &fold_case(seed, file),
         room,
-        |scratch, result| reference::fold(file, scratch, result).into(),
-        |scratch, result, answer| call_fold(file, scratch, result, answer),
+        |lent| reference::fold(file, lent.numbers, lent.nodes, lent.bytes).into(),
+        |lent, answer| call_fold(file, lent, answer),
     )
 }
 
-/// Room that suffices for every circuit of these sizes, and some more.
-pub fn ample(sizes: &Sizes) -> Room {
+/// Room that suffices for a legal circuit: just enough records, and some more of all else.
+pub fn ample(circuit: &Circuit) -> Room {
     Room {
-        numbers: scratch_needed(sizes) + 3,
-        bytes: longest_table(sizes) + 5,
+        numbers: scratch_needed(&circuit.sizes) + 3,
+        records: nodes_needed(circuit),
+        bytes: longest_table(&circuit.sizes) + 5,
     }
 }
 

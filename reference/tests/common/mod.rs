@@ -7,6 +7,7 @@ use std::hint::black_box;
 use std::ops::Range;
 
 use reference::gen::Rng;
+use reference::Node;
 
 /// Names the one seed to run, in place of all.
 const ONLY_SEED: &str = "TFF_SEED";
@@ -97,7 +98,16 @@ impl fmt::Display for Case<'_> {
 #[derive(Clone, Copy, Debug, Default)]
 pub struct Room {
     pub numbers: usize,
+    pub records: usize,
     pub bytes: usize,
+}
+
+/// Those slices. Few calls write to all of them.
+#[allow(dead_code)]
+pub struct Lent<'a> {
+    pub numbers: &'a mut [u16],
+    pub nodes: &'a mut [Node],
+    pub bytes: &'a mut [u8],
 }
 
 /// A slice for a call to write to, between guards that it may not change.
@@ -130,10 +140,21 @@ impl<T: Copy + PartialEq + fmt::Debug> Guarded<T> {
     }
 }
 
+/// A record that may be free, look like a node, or hold anything.
+fn any_node(rng: &mut Rng) -> Node {
+    let [level, low, high] = [0; 3].map(|_| rng.number() as u32);
+    match rng.below(4) {
+        0 => [0; 3],
+        1 => [level % 17, low % 4, high % 4],
+        _ => [level, low, high],
+    }
+}
+
 /// All memory that a call may change.
 #[derive(Clone)]
 struct Buffers {
     numbers: Guarded<u16>,
+    nodes: Guarded<Node>,
     bytes: Guarded<u8>,
     answer: Guarded<u64>,
 }
@@ -144,16 +165,28 @@ impl Buffers {
         let mut rng = Rng::new(!seed);
         Buffers {
             numbers: Guarded::new(room.numbers, || rng.word()),
+            nodes: Guarded::new(room.records, || any_node(&mut rng)),
             bytes: Guarded::new(room.bytes, || rng.word() as u8),
             answer: Guarded::new(answer, || rng.number()),
         }
     }
 
+    /// The slices to lend, and the answer.
+    fn parts(&mut self) -> (Lent<'_>, &mut [u64]) {
+        let lent = Lent {
+            numbers: self.numbers.part(),
+            nodes: self.nodes.part(),
+            bytes: self.bytes.part(),
+        };
+        (lent, self.answer.part())
+    }
+
     /// Hands the slices to the proved call, which may not change its inputs.
-    fn pass(&mut self, case: &Case, proved: impl FnOnce(&mut [u16], &mut [u8], &mut [u64])) {
+    fn pass(&mut self, case: &Case, proved: impl FnOnce(Lent, &mut [u64])) {
         let (file, words) = (case.file.to_vec(), case.words.to_vec());
         let plan = case.plan.to_vec();
-        proved(self.numbers.part(), self.bytes.part(), self.answer.part());
+        let (lent, answer) = self.parts();
+        proved(lent, answer);
         assert!(black_box(case.file) == file, "input bytes changed\n{case}");
         assert!(
             black_box(case.words) == words,
@@ -166,6 +199,7 @@ impl Buffers {
         let differences = [
             ("answer", self.answer.difference(&found.answer)),
             ("numbers", self.numbers.difference(&found.numbers)),
+            ("nodes", self.nodes.difference(&found.nodes)),
             ("bytes", self.bytes.difference(&found.bytes)),
         ];
         for (what, difference) in differences {
@@ -181,14 +215,15 @@ impl Buffers {
 pub fn compare<const N: usize>(
     case: &Case,
     room: Room,
-    plain: impl FnOnce(&mut [u16], &mut [u8]) -> [u64; N],
-    proved: impl FnOnce(&mut [u16], &mut [u8], &mut [u64]),
+    plain: impl FnOnce(Lent) -> [u64; N],
+    proved: impl FnOnce(Lent, &mut [u64]),
 ) -> [u64; N] {
     let spare = case.seed as usize % 3;
     let mut expected = Buffers::new(case.seed, room, N + spare);
     let mut found = expected.clone();
-    let values = plain(expected.numbers.part(), expected.bytes.part());
-    expected.answer.part()[..N].copy_from_slice(&values);
+    let (lent, answer) = expected.parts();
+    let values = plain(lent);
+    answer[..N].copy_from_slice(&values);
     found.pass(case, proved);
     expected.assert_found(case, room, &found);
     values
@@ -199,7 +234,7 @@ pub fn short_answers_change_nothing(
     case: &Case,
     room: Room,
     values: usize,
-    proved: impl Fn(&mut [u16], &mut [u8], &mut [u64]),
+    proved: impl Fn(Lent, &mut [u64]),
 ) {
     for length in 0..values {
         let before = Buffers::new(case.seed, room, length);

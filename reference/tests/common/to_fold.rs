@@ -1,7 +1,7 @@
 //! Circuits that folding is tried on, in one call and with a plan.
 
 use crate::common::{seeds, Room};
-use crate::folding::{ample, scratch_needed};
+use crate::folding::{longest_table, scratch_needed};
 use reference::gen::{any_sizes, circuits, damaged, sizes_with, Rng};
 use reference::{Circuit, Sizes};
 
@@ -55,7 +55,8 @@ pub fn few_states() -> impl Iterator<Item = (Circuit, Vec<usize>)> {
     })
 }
 
-/// Careless circuits, every other one damaged too, with ample room for what they were before.
+/// Careless circuits, every other one damaged too, with room for what they were before, at times but
+/// for the records.
 pub fn with_faults() -> impl Iterator<Item = (u64, Vec<u8>, Room)> {
     seeds(6_000).map(|seed| {
         let mut rng = Rng::new(seed);
@@ -65,7 +66,14 @@ pub fn with_faults() -> impl Iterator<Item = (u64, Vec<u8>, Room)> {
         if rng.one_in(2) {
             file = damaged(&mut rng, &file);
         }
-        (seed, file, ample(&sizes))
+        let room = Room {
+            numbers: scratch_needed(&sizes),
+            // Gates have at most 16 times as many nodes at the fifth input, and at the last three
+            // inputs all functions have 254.
+            records: rng.pick(&[5_000, 5_000, 20]),
+            bytes: longest_table(&sizes),
+        };
+        (seed, file, room)
     })
 }
 

@@ -12,10 +12,9 @@ use Rattle.layered.proofs.Lists.{total-next}
 use Rattle.circuit.specs.Theorems.{response}
 use Rattle.table.specs.Table.{headLength}
 use Rattle.table.proofs.Offsets.{head-length}
-use Rattle.classify.specs.Classified.{stateCount}
 use Rattle.layered.proofs.Rows.{power-fits}
-use Rattle.classify.proofs.Layers.{two-words, one-word}
-use Rattle.classify.proofs.Step.{bits-fit}
+use Rattle.ask.proofs.Plans.{stateCount, counts-are, two-words}
+use Rattle.lent.proofs.Needed.{bits-fit}
 use Rattle.folded.proofs.Tables.{folded-length, entries-most}
 use Rattle.ask.proofs.bytes_needed.Statement.{statement}
 use Rattle.ask.proofs.bytes_needed.Tie as tie
@@ -63,24 +62,24 @@ sum-more : (i : tie.In-loop Inv-loop μ-loop)
 sum-more i = total-next (stateCount (now (start (i .before) .args .circuit))) (i .before .loop .t)
 
 count-is : (i : tie.In-loop Inv-loop μ-loop) → getD (now (start (i .before) .args .counts)) (i .before .loop .t) 0 ≡ stateCount (now (start (i .before) .args .circuit)) (i .before .loop .t)
-count-is i = let a = start (i .before) in a .pre .1 .counts-are (i .before .loop .t) (omega (arith, i .loop-test .taken, a .pre .0 .head-is))
+count-is i = let a = start (i .before) in counts-are (now (a .args .circuit)) (now (a .args .counts)) (a .pre .0 .headed .sizes .frames-from) (a .pre .1) (i .before .loop .t) (omega (arith, i .loop-test .taken, a .pre .0 .head-is))
 
 -- the loop's head, from what follows it
-abbrev at-loop : tie.After-histories Inv-loop μ-loop → tie.At-loop Inv-loop μ-loop
+abbrev at-loop : tie.After-power Inv-loop μ-loop → tie.At-loop Inv-loop μ-loop
 at-loop c = c .before .before .before
 
 -- the head's length
-head-is : (c : tie.After-histories Inv-loop μ-loop) → c .before .head-length .result ≡ 8 + 4 * framesOf (now (start (at-loop c) .args .circuit))
+head-is : (c : tie.After-power Inv-loop μ-loop) → c .before .head-length .result ≡ 8 + 4 * framesOf (now (start (at-loop c) .args .circuit))
 head-is c = c .before .head-length .ensures ∙ ap headLength (start (at-loop c) .pre .0 .head-is .frames-is) ∙ head-length _
 
 -- all states, times the fan
-product : (c : tie.After-histories Inv-loop μ-loop)
-    → at-loop c .loop .states * c .histories .result ≡ total (framesOf (now (start (at-loop c) .args .circuit))) (stateCount (now (start (at-loop c) .args .circuit))) * K (start (at-loop c))
+product : (c : tie.After-power Inv-loop μ-loop)
+    → at-loop c .loop .states * c .power .result ≡ total (framesOf (now (start (at-loop c) .args .circuit))) (stateCount (now (start (at-loop c) .args .circuit))) * K (start (at-loop c))
 product c =
     let l = at-loop c in
     let a = start l in
     let e : l .loop .t ≡ framesOf (now (a .args .circuit)) = omega (arith, a .pre .0 .head-is) in
-    ap₂ (λ (x y : ℕ). x * y) (l .loop .inv .1 ∙ ap (λ (t : ℕ). total t (stateCount (now (a .args .circuit)))) e) (c .histories .ensures ∙ one-word _ ∙ ap (λ (n : ℕ). 2 ^ n) (a .pre .0 .head-is .inputs-is))
+    ap₂ (λ (x y : ℕ). x * y) (l .loop .inv .1 ∙ ap (λ (t : ℕ). total t (stateCount (now (a .args .circuit)))) e) (c .power .ensures ∙ ap (λ (n : ℕ). 2 ^ n) (a .pre .0 .head-is .inputs-is))
 
 product-small : (a : tie.Start Inv-loop μ-loop) → total (framesOf (now (a .args .circuit))) (stateCount (now (a .args .circuit))) * K a ≤ 131072
 product-small a = entries-small a (framesOf (now (a .args .circuit))) (omega arith)
@@ -112,10 +111,10 @@ loop-again c = let i = c .before in (omega arith, omega (arith, count-is i, i .b
 head-length-requires : tie.Need-head-length-requires Inv-loop μ-loop
 head-length-requires c κs = omega (arith, start (c .before) .pre .0 .headed .sizes, start (c .before) .pre .0 .head-is)
 
-histories-requires : tie.Need-histories-requires Inv-loop μ-loop
-histories-requires c κs =
+power-requires : tie.Need-power-requires Inv-loop μ-loop
+power-requires c κs =
     let a = start (c .before .before) in
-    bits-fit _ (a .pre .0 .headed) _ 1 (a .pre .0 .head-is .inputs-is) (a .pre .0 .headed .sizes .frames-from)
+    omega (arith, a .pre .0 .headed .sizes, a .pre .0 .head-is)
 
 mul-result : tie.Need-mul-result Inv-loop μ-loop
 mul-result c = omega (arith, product c, product-small (start (at-loop c)))
@@ -144,7 +143,7 @@ bytes-needed-spec =
     loop-less
     loop-again
     head-length-requires
-    histories-requires
+    power-requires
     mul-result
     mul-result-2
     add-result

@@ -2,8 +2,6 @@ use Rattle.build.proofs.Laws.{number-input, number-gate}
 use borrow.Author.Needs.{needs}
 use Rattle.build.proofs.gate_number.Statement.{statement}
 use Rattle.build.proofs.gate_number.Tie as tie
-use Rattle.build.proofs.gate_number.Reads as reads
-use Rattle.build.proofs.gate_number.Lts as lts
 
 -- src/lib.rt:71:9
 returns : tie.Need-returns

@@ -2,9 +2,6 @@ use Rattle.build.proofs.Laws.{origin-input, origin-gate}
 use borrow.Author.Needs.{needs}
 use Rattle.build.proofs.origin_of.Statement.{statement}
 use Rattle.build.proofs.origin_of.Tie as tie
-use Rattle.build.proofs.origin_of.Reads as reads
-use Rattle.build.proofs.origin_of.Lts as lts
-use Rattle.circuit.proofs.read_gate.Reads as read-gate-reads
 
 -- src/lib.rt:30:8
 add-if1 : tie.Need-add-if1

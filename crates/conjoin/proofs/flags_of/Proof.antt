@@ -5,8 +5,6 @@ use Rattle.diagrams.specs.Caching.{flagsOf}
 use Rattle.conjoin.proofs.Laws.{flags-are}
 use Rattle.conjoin.proofs.flags_of.Statement.{statement}
 use Rattle.conjoin.proofs.flags_of.Tie as tie
-use Rattle.conjoin.proofs.flags_of.Reads as reads
-use Rattle.conjoin.proofs.flags_of.Lts as lts
 
 -- src/lib.rt:28:1
 returns : tie.Need-returns

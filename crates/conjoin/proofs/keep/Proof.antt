@@ -1,13 +1,10 @@
 use native.Mathlib.Omega.{arith}
 use Prim.Native.Nat.{_+_}
 use lib.ListN.{set, length-set}
-use Rattle.conjoin.proofs.Laws.{kept-in, kept-none}
+use Rattle.conjoin.proofs.Laws.{kept-in}
 use borrow.Author.Needs.{needs}
 use Rattle.conjoin.proofs.keep.Statement.{statement}
 use Rattle.conjoin.proofs.keep.Tie as tie
-use Rattle.conjoin.proofs.keep.Reads as reads
-use Rattle.conjoin.proofs.keep.Lts as lts
-use Rattle.conjoin.proofs.flags_of.Reads as flags-of-reads
 
 -- src/lib.rt:69:9
 mul-work : tie.Need-mul-work

@@ -1,11 +1,8 @@
-use mathlib.Core.Path.{refl, sym, _∙_}
+use mathlib.Core.Path.{refl, _∙_}
 use Rattle.conjoin.specs.Cache
 use borrow.Author.Needs.{needs}
 use Rattle.conjoin.proofs.look.Statement.{statement}
 use Rattle.conjoin.proofs.look.Tie as tie
-use Rattle.conjoin.proofs.look.Reads as reads
-use Rattle.conjoin.proofs.look.Lts as lts
-use Rattle.conjoin.proofs.flags_of.Reads as flags-of-reads
 
 -- src/lib.rt:53:8
 mul-if1 : tie.Need-mul-if1

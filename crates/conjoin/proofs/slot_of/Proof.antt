@@ -2,9 +2,6 @@ use Rattle.conjoin.proofs.Laws.{slot-at}
 use borrow.Author.Needs.{needs}
 use Rattle.conjoin.proofs.slot_of.Statement.{statement}
 use Rattle.conjoin.proofs.slot_of.Tie as tie
-use Rattle.conjoin.proofs.slot_of.Reads as reads
-use Rattle.conjoin.proofs.slot_of.Lts as lts
-use Rattle.conjoin.proofs.flags_of.Reads as flags-of-reads
 
 -- src/lib.rt:43:17
 flags-of-requires : tie.Need-flags-of-requires

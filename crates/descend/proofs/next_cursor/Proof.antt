@@ -2,8 +2,6 @@ use borrow.Author.Needs.{needs}
 use Rattle.descend.proofs.Laws.{cursor-turns, cursor-goes}
 use Rattle.descend.proofs.next_cursor.Statement.{statement}
 use Rattle.descend.proofs.next_cursor.Tie as tie
-use Rattle.descend.proofs.next_cursor.Reads as reads
-use Rattle.descend.proofs.next_cursor.Lts as lts
 
 -- src/lib.rt:93:15
 add-low : tie.Need-add-low

@@ -2,10 +2,6 @@ use Rattle.descend.proofs.Laws.{stores-equal}
 use borrow.Author.Needs.{needs}
 use Rattle.descend.proofs.split.Statement.{statement}
 use Rattle.descend.proofs.split.Tie as tie
-use Rattle.descend.proofs.split.Reads as reads
-use Rattle.descend.proofs.split.Lts as lts
-use Rattle.descend.proofs.next_cursor.Reads as next-cursor-reads
-use Rattle.nodes.proofs.parts.Reads as parts-reads
 
 -- src/lib.rt:121:9
 parts-requires : tie.Need-parts-requires

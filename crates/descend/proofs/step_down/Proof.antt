@@ -2,8 +2,6 @@ use Rattle.nodes.proofs.Laws.{chosen-yes, chosen-no}
 use borrow.Author.Needs.{needs}
 use Rattle.descend.proofs.step_down.Statement.{statement}
 use Rattle.descend.proofs.step_down.Tie as tie
-use Rattle.descend.proofs.step_down.Reads as reads
-use Rattle.descend.proofs.step_down.Lts as lts
 
 -- src/lib.rt:47:18
 sub-if1 : tie.Need-sub-if1

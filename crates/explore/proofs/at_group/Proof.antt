@@ -3,9 +3,6 @@ use borrow.Author.Needs.{needs}
 use Rattle.explore.proofs.Layers.{group-count, grouped-is}
 use Rattle.explore.proofs.at_group.Statement.{statement}
 use Rattle.explore.proofs.at_group.Tie as tie
-use Rattle.explore.proofs.at_group.Reads as reads
-use Rattle.explore.proofs.at_group.Lts as lts
-use Rattle.explore.proofs.group_size.Reads as group-size-reads
 
 -- src/lib.rt:62:17
 mul-count : tie.Need-mul-count

@@ -1,17 +1,9 @@
-use mathlib.Core.Path.{refl}
 use native.Mathlib.Omega.{arith}
 use denote.Ref.{now}
 use borrow.Author.Needs.{needs}
 use Rattle.explore.proofs.Ends.{end-rowable, end-placed, end-groupable, group-ends, end-collectable, end-nextable, layer-ends}
 use Rattle.explore.proofs.end_group.Statement.{statement}
 use Rattle.explore.proofs.end_group.Tie as tie
-use Rattle.explore.proofs.end_group.Reads as reads
-use Rattle.explore.proofs.end_group.Lts as lts
-use Rattle.explore.proofs.at_group.Reads as at-group-reads
-use Rattle.explore.proofs.next_layer.Reads as next-layer-reads
-use Rattle.explore.proofs.rows_of.Reads as rows-of-reads
-use Rattle.refine.proofs.collect.Reads as collect-reads
-use Rattle.refine.proofs.refine.Reads as refine-reads
 
 -- src/lib.rt:149:9
 rows-of-requires : tie.Need-rows-of-requires

@@ -4,8 +4,6 @@ use borrow.Author.Needs.{needs}
 use Rattle.explore.proofs.Jobs.{JobSafe, job-safe}
 use Rattle.explore.proofs.job_of.Statement.{statement}
 use Rattle.explore.proofs.job_of.Tie as tie
-use Rattle.explore.proofs.job_of.Reads as reads
-use Rattle.explore.proofs.job_of.Lts as lts
 
 -- what the numbers are
 safe : (c : tie.Start) → let a = c .args in JobSafe (a .layout) (now (a .scratch)) (a .cursor)

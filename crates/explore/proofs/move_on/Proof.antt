@@ -1,15 +1,9 @@
-use mathlib.Core.Path.{_≡_, sym, subst}
-use Prim.Native.Nat.{suc}
 use native.Mathlib.Omega.{arith}
 use denote.Ref.{now}
 use borrow.Author.Needs.{needs}
-use Rattle.explore.specs.Explore.{Exploring, Underway}
 use Rattle.explore.proofs.Begin.{state-turn, states-done, done-states}
 use Rattle.explore.proofs.move_on.Statement.{statement}
 use Rattle.explore.proofs.move_on.Tie as tie
-use Rattle.explore.proofs.move_on.Reads as reads
-use Rattle.explore.proofs.move_on.Lts as lts
-use Rattle.explore.proofs.end_group.Reads as end-group-reads
 
 -- src/lib.rt:176:17
 add-state : tie.Need-add-state

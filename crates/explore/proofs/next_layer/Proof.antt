@@ -4,9 +4,6 @@ use borrow.Author.Needs.{needs}
 use Rattle.explore.proofs.Layers.{next-place, next-first, next-groupable, next-is}
 use Rattle.explore.proofs.next_layer.Statement.{statement}
 use Rattle.explore.proofs.next_layer.Tie as tie
-use Rattle.explore.proofs.next_layer.Reads as reads
-use Rattle.explore.proofs.next_layer.Lts as lts
-use Rattle.explore.proofs.at_group.Reads as at-group-reads
 
 -- src/lib.rt:114:17
 add-layer : tie.Need-add-layer

@@ -6,9 +6,6 @@ use Rattle.explore.proofs.Layers.{frames-to}
 use Rattle.explore.proofs.Begin.{first-groupable, start-holds}
 use Rattle.explore.proofs.start.Statement.{statement}
 use Rattle.explore.proofs.start.Tie as tie
-use Rattle.explore.proofs.start.Reads as reads
-use Rattle.explore.proofs.start.Lts as lts
-use Rattle.explore.proofs.at_group.Reads as at-group-reads
 
 -- src/lib.rt:77:5
 array-write-counts : tie.Need-array-write-counts

@@ -2,8 +2,6 @@ use lib.Dec.{ltb}
 use Rattle.nodes.proofs.Laws.{and-yes, and-no}
 use Rattle.nodes.proofs.are_constants.Statement.{statement}
 use Rattle.nodes.proofs.are_constants.Tie as tie
-use Rattle.nodes.proofs.are_constants.Reads as reads
-use Rattle.nodes.proofs.are_constants.Lts as lts
 
 -- src/lib.rt:47:1
 returns : tie.Need-returns

@@ -2,9 +2,6 @@ use Rattle.nodes.proofs.Laws.{halves-equal}
 use borrow.Author.Needs.{needs}
 use Rattle.nodes.proofs.halve.Statement.{statement}
 use Rattle.nodes.proofs.halve.Tie as tie
-use Rattle.nodes.proofs.halve.Reads as reads
-use Rattle.nodes.proofs.halve.Lts as lts
-use Rattle.nodes.proofs.parts.Reads as parts-reads
 
 -- src/lib.rt:111:9
 parts-requires : tie.Need-parts-requires

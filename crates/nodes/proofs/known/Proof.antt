@@ -1,14 +1,11 @@
-use mathlib.Core.Path.{_≡_, refl, sym, ap, _∙_}
+use mathlib.Core.Path.{refl, sym, _∙_}
 use mathlib.Core.Bool.{cond}
-use mathlib.Core.Logic.{_≢_, inl, inr}
+use mathlib.Core.Logic.{_≢_}
 use Rattle.diagrams.specs.Making
 use Rattle.nodes.proofs.Laws.{not-yes, differ-yes, differ-no, constants-yes, constants-no}
 use borrow.Author.Needs.{needs}
 use Rattle.nodes.proofs.known.Statement.{statement}
 use Rattle.nodes.proofs.known.Tie as tie
-use Rattle.nodes.proofs.known.Reads as reads
-use Rattle.nodes.proofs.known.Lts as lts
-use Rattle.nodes.proofs.false_of.Reads as false-of-reads
 
 -- neither is false
 nf : (c : tie.Else1) → c .before .before .args .pair .f ≢ cond (c .before .before .args .pair .a) 1 0

@@ -1,8 +1,6 @@
 use Rattle.nodes.proofs.Laws.{merges-yes, merges-by}
 use Rattle.nodes.proofs.merges.Statement.{statement}
 use Rattle.nodes.proofs.merges.Tie as tie
-use Rattle.nodes.proofs.merges.Reads as reads
-use Rattle.nodes.proofs.merges.Lts as lts
 
 -- src/lib.rt:176:9
 returns : tie.Need-returns

@@ -2,8 +2,6 @@ use Rattle.nodes.proofs.Laws.{chosen-lt, chosen-le}
 use borrow.Author.Needs.{needs}
 use Rattle.nodes.proofs.next_of.Statement.{statement}
 use Rattle.nodes.proofs.next_of.Tie as tie
-use Rattle.nodes.proofs.next_of.Reads as reads
-use Rattle.nodes.proofs.next_of.Lts as lts
 
 -- src/lib.rt:143:8
 add-if1 : tie.Need-add-if1

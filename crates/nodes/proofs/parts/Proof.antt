@@ -1,8 +1,6 @@
 use Rattle.nodes.proofs.Laws.{chosen-yes, chosen-no}
 use Rattle.nodes.proofs.parts.Statement.{statement}
 use Rattle.nodes.proofs.parts.Tie as tie
-use Rattle.nodes.proofs.parts.Reads as reads
-use Rattle.nodes.proofs.parts.Lts as lts
 
 -- src/lib.rt:94:1
 returns : tie.Need-returns

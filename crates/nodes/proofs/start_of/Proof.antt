@@ -6,8 +6,6 @@ use Rattle.nodes.proofs.Laws.{scaled-fits, scaled-small, scaled-more}
 use borrow.Author.Needs.{needs}
 use Rattle.nodes.proofs.start_of.Statement.{statement}
 use Rattle.nodes.proofs.start_of.Tie as tie
-use Rattle.nodes.proofs.start_of.Reads as reads
-use Rattle.nodes.proofs.start_of.Lts as lts
 
 -- src/lib.rt:134:15
 mul-sum : tie.Need-mul-sum

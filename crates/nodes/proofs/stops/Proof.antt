@@ -2,8 +2,6 @@ use mathlib.Core.Logic.{inl, inr}
 use Rattle.nodes.proofs.Laws.{stops-yes, stops-no}
 use Rattle.nodes.proofs.stops.Statement.{statement}
 use Rattle.nodes.proofs.stops.Tie as tie
-use Rattle.nodes.proofs.stops.Reads as reads
-use Rattle.nodes.proofs.stops.Lts as lts
 
 -- src/lib.rt:141:9
 returns : tie.Need-returns

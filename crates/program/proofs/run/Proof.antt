@@ -7,20 +7,17 @@ use denote.Ref.{now}
 use lib.ListN.{length}
 use Rattle.verdict.specs.Judgements.{figures}
 use Rattle.folded.specs.Folded.{foldChecked}
-use Rattle.program.specs.Program.{scratchLent, resultLent}
+use Rattle.program.specs.Program.{scratchLent, nodesLent, resultLent}
 use Rattle.program.proofs.Runs.{prints-refusal, fits, part-length, head-passes, prints-table}
 use borrow.Author.Needs.{needs}
 use Rattle.program.proofs.run.Statement.{statement}
 use Rattle.program.proofs.run.Tie as tie
 
-slice-aggregate-fold : tie.Need-slice-aggregate-fold
-slice-aggregate-fold c = search needs
+slice-aggregate-fold-here : tie.Need-slice-aggregate-fold-here
+slice-aggregate-fold-here c = search needs
 
-slice-aggregate-fold-2 : tie.Need-slice-aggregate-fold-2
-slice-aggregate-fold-2 c = search needs
-
-fold-requires : tie.Need-fold-requires
-fold-requires c κs = search needs
+fold-here-requires : tie.Need-fold-here-requires
+fold-here-requires c κs = search needs
 
 enum-known-folded : tie.Need-enum-known-folded
 enum-known-folded c = search needs
@@ -38,14 +35,14 @@ same-length : tie.Need-same-length
 same-length c = search needs
 
 -- the fold, its circuit and what it answered
-abbrev f₁ : tie.After-result2 → tie.After-fold
-f₁ c = c .before .before
+abbrev f₁ : tie.After-result2 → tie.After-fold-here
+f₁ c = c .before
 
 abbrev a₁ : tie.After-result2 → tie.Start
-a₁ c = f₁ c .before .before .before .before .before
+a₁ c = f₁ c .before .before .before .before
 
-answers : (c : tie.After-result2) → figures (f₁ c .fold .result) ≡ foldChecked (now (a₁ c .args .input)) scratchLent resultLent
-answers c = f₁ c .fold .ensures .0
+answers : (c : tie.After-result2) → figures (f₁ c .fold-here .result) ≡ foldChecked (now (a₁ c .args .input)) scratchLent nodesLent resultLent
+answers c = f₁ c .fold-here .ensures .0
 
 returns : tie.Need-returns
 returns c =
@@ -53,13 +50,13 @@ returns c =
     let g = p .before .before in
     let t = g .before in
     let r = t .before .before in
-    prints-refusal (now (a₁ r .args .input)) (f₁ r .fold .result) (answers r) (t .enum-told .given .0 .0) (t .enum-told .given .1) _ (g .figures .ensures) (p .append-refusal .ensures)
+    prints-refusal (now (a₁ r .args .input)) (f₁ r .fold-here .result) (answers r) (t .enum-told .given .0 .0) (t .enum-told .given .1) _ (g .figures .ensures) (p .append-refusal .ensures)
 
 -- what was written is within the result
-within : (c : tie.After-folded) → c .folded .given .0 .0 ≤ length (f₁ (c .before .before) .fold .last .1 .1 .0)
+within : (c : tie.After-folded) → c .folded .given .0 .0 ≤ length (f₁ (c .before .before) .fold-here .last .1 .0)
 within c =
     let r = c .before .before in
-    omega (arith, fits (now (a₁ r .args .input)) (f₁ r .fold .result) (answers r) (c .folded .given .0 .0) (c .folded .given .1), f₁ r .fold .kept .1 .1 .0)
+    omega (arith, fits (now (a₁ r .args .input)) (f₁ r .fold-here .result) (answers r) (c .folded .given .0 .0) (c .folded .given .1), f₁ r .fold-here .kept .1 .0)
 
 array-share-prefix-result : tie.Need-array-share-prefix-result
 array-share-prefix-result c = within (c .before .before)
@@ -71,7 +68,7 @@ append-table-requires : tie.Need-append-table-requires
 append-table-requires c κs =
     let t = c .before .before .before in
     let r = t .before .before in
-    (omega arith, head-passes (now (a₁ r .args .input)) (f₁ r .fold .result) (answers r) (t .folded .given .0 .0) (t .folded .given .1) _ (f₁ r .fold .ensures .1 .1 .1))
+    (omega arith, head-passes (now (a₁ r .args .input)) (f₁ r .fold-here .result) (answers r) (t .folded .given .0 .0) (t .folded .given .1) _ (f₁ r .fold-here .ensures .1 .1))
 
 same-length-2 : tie.Need-same-length-2
 same-length-2 c = search needs
@@ -81,15 +78,14 @@ returns-2 c =
     let p = c .before .before in
     let t = p .before .before .before .before in
     let r = t .before .before in
-    prints-table (now (a₁ r .args .input)) (f₁ r .fold .result) (answers r) (t .folded .given .0 .0) (t .folded .given .1) _ refl _ (f₁ r .fold .ensures .1 .0) (p .append-table .ensures)
+    prints-table (now (a₁ r .args .input)) (f₁ r .fold-here .result) (answers r) (t .folded .given .0 .0) (t .folded .given .1) _ refl _ (f₁ r .fold-here .ensures .1 .0) (p .append-table .ensures)
 
 pub run-spec : {M : Type 1} → statement M
 run-spec =
     tie.close
     (tie.spec
-    slice-aggregate-fold
-    slice-aggregate-fold-2
-    fold-requires
+    slice-aggregate-fold-here
+    fold-here-requires
     enum-known-folded
     enum-told
     figures-requires

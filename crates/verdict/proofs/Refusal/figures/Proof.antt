@@ -1,8 +1,6 @@
--- `verdict::Refusal::figures` meets its contract: in each arm the refusal is that arm's case.
--- Assumes nothing.
 use mathlib.Core.Path.{sym, ap}
-use borrow.Author.Needs.{needs}
 use Rattle.verdict.specs.Judgements.{refusalFigures}
+use borrow.Author.Needs.{needs}
 use Rattle.verdict.proofs.Refusal.figures.Statement.{statement}
 use Rattle.verdict.proofs.Refusal.figures.Tie as tie
 
@@ -57,6 +55,9 @@ enum-known-self-16 c = search needs
 enum-known-self-17 : tie.Need-enum-known-self-17
 enum-known-self-17 c = search needs
 
+enum-known-self-18 : tie.Need-enum-known-self-18
+enum-known-self-18 c = search needs
+
 returns : tie.Need-returns
 returns c = sym (ap refusalFigures (c .before .self .given .1))
 
@@ -108,6 +109,9 @@ returns-16 c = sym (ap refusalFigures (c .before .self16 .given .1))
 returns-17 : tie.Need-returns-17
 returns-17 c = sym (ap refusalFigures (c .before .self17 .given .1))
 
+returns-18 : tie.Need-returns-18
+returns-18 c = sym (ap refusalFigures (c .before .self18 .given .1))
+
 pub figures-spec : {M : Type 1} → statement M
 figures-spec =
     tie.close
@@ -129,6 +133,7 @@ figures-spec =
     enum-known-self-15
     enum-known-self-16
     enum-known-self-17
+    enum-known-self-18
     returns
     returns-2
     returns-3
@@ -145,4 +150,5 @@ figures-spec =
     returns-14
     returns-15
     returns-16
-    returns-17)
+    returns-17
+    returns-18)

@@ -1,0 +1,2 @@
+-- The proofs of `admit`: laws of what it judges.
+pub mod Judged

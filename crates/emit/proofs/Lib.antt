@@ -1,2 +1,0 @@
--- The proofs of `emit`: laws by subject, lowest first.
-pub mod Laws

@@ -1,3 +1,0 @@
--- The proofs of `listing`: laws by subject, lowest first.
-pub mod Laws
-pub mod Listing

@@ -1,3 +1,0 @@
--- What a reader of `listing` must believe, in the order of reading.
-pub mod Entries
-pub mod Listed

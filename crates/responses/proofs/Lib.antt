@@ -1,2 +1,0 @@
--- The proofs of `responses`: laws by subject, lowest first.
-pub mod Laws

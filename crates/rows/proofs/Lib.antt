@@ -1,4 +1,0 @@
--- The proofs of `rows`: laws by subject, lowest first.
-pub mod Laws
-pub mod Buckets
-pub mod Numbers

@@ -1,0 +1,3 @@
+-- The proofs of `tff`: a module for each callee of a walk.
+mod PutCall
+mod PutAskCall
