@@ -132,9 +132,6 @@ module _ (b : List ℕ) (head : Head) (H : CircuitHeaded b) (O : HeadOf b head) 
   are-signals : (t : ℕ) → t < frames b → firstOutput head t + head .outputs ≤ gateSignal b (gates b)
   are-signals t h = omega (arith, first-is t, O .outputs-is, output-room b t (H .outputs-to) h)
 
-  pub outputs-fit : (t : ℕ) → t < frames b → firstOutput head t + head .outputs ≤ mostSignals
-  outputs-fit t h = omega (arith, are-signals t h, signals-fit b H)
-
   -- the output word of frame t, where v begins with the values of all signals
   pub frame-word : (words : List ℕ) (v : List Bool) (t : ℕ) → t < frames b → take (gateSignal b (gates b)) v ≡ signalValues b words (gates b)
       → packed (take (head .outputs) (drop (firstOutput head t) v)) ≡ outputWord b words t

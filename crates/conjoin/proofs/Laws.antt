@@ -59,9 +59,6 @@ kept-in ws s p w r h e = record {
     other : (k i : ℕ) → i < s + 3 → getD (set w₃ (s + 3) r) i 0 ≡ getD w₃ i 0
     other k i l = getD-set-other w₃ (s + 3) i r 0 (λ d. omega arith)
 
-pub kept-none : (ws : List ℕ) (s : ℕ) (p : Pair) (r : ℕ) → r ≡ noId → KeptIn ws ws s p r
-kept-none ws s p r e = record { first = λ n. absurd (n e); second = λ n. absurd (n e); flags = λ n. absurd (n e); result = λ n. absurd (n e); else-is = λ i n. refl }
-
 -- true entries stay true when the list grows
 pub cached-kept : (N k : ℕ) (H : List Bool → Bool) (D E : Nodes) (c : ℕ) (ws : List ℕ) → Reduced N D → Grown N k H D E → Cached N D c ws → Cached N E c ws
 unfolding Cached

@@ -1,21 +1,21 @@
 -- Laws of the steps by value, and of a turn of each walk.
 use mathlib.Core.Path.{_≡_, refl, sym, ap, ap₂, _∙_, subst}
-use mathlib.Core.Bool.{Bool, true, false, cond}
+use mathlib.Core.Bool.{true, false, cond}
 use mathlib.Core.Logic.{_⊎_, inl, inr, ⊎-elim, _≢_}
-use mathlib.Core.List.{List, _++_}
+use mathlib.Core.List.{List}
 use Prim.Native.Nat.{ℕ, zero, suc, _+_, _*_, _-_, _/_, _%_, _^_, _≤_, _<_}
 use native.Mathlib.Nat.{mul-le-mul-right, eq-or-lt-of-le, pow-suc, pow-zero}
 use native.Mathlib.Omega.{arith}
 use lib.Arith.{digits-mod, digits-div}
 use lib.Pow.{pow-pos, pow-mono, pow-lt}
 use lib.Dec.{eqb}
-use lib.ListN.{length, getD, set, length-set, length-append}
+use lib.ListN.{length, getD, set, length-set}
 use lib.Seq.{getD-set-same, getD-set-other}
 use Rattle.diagrams.specs.Diagrams.{Nodes, branch, follow}
 use Rattle.diagrams.specs.Frames.{wordBits}
 use Rattle.diagrams.proofs.Growth.{decide}
 use Rattle.diagrams.proofs.Frames.{word-length}
-use Rattle.diagrams.proofs.Paths.{row-low, row-high, step-down, follow-append, follow-step, follow-top, follow-node, follow-under}
+use Rattle.diagrams.proofs.Paths.{row-low, row-high, step-down, follow-step, follow-top, follow-node}
 use Rattle.nodes.specs.declared.Node.{Node}
 use Rattle.nodes.proofs.Laws.{eqb-yes, eqb-no}
 use Rattle.records.specs.Records.{nodeOf, nodesIn, Kept}
@@ -464,16 +464,3 @@ module _ (ns : List Node) (ws : List ℕ) (job : Job) (t : Traceable ns ws job) 
     before = g .before;
     after = g .after;
   }
-
-  -- the ids that come out are nodes below all levels that were followed
-  pub traced-below : (ms : List ℕ) → Traced ns ws job ms → (w i : ℕ) → w < job .fan → i < job .count → job .top + t .bits < nodesIn ns .level (getD ms (job .at + w * job .count + i) 0)
-  traced-below ms x w i l less =
-      let N = t .standing .inputs in
-      let ps : List Bool = wordBits (job .top) (job .path) in
-      let vs : List Bool = wordBits (t .bits) w in
-      let d = getD ws (job .from + i) 0 in
-      let long : length (ps ++ vs) ≡ job .top + t .bits = length-append ps vs ∙ ap₂ (λ a b. a + b) (word-length (job .top) (job .path)) (word-length (t .bits) w) in
-      let first : 1 + length ps ≡ suc (job .top) = omega (arith, word-length (job .top) (job .path)) in
-      let e : follow (nodesIn ns) 1 (ps ++ vs) d ≡ getD ms (job .at + w * job .count + i) 0
-      = follow-append (nodesIn ns) ps 1 vs d ∙ ap (λ l. follow (nodesIn ns) l vs (follow (nodesIn ns) 1 ps d)) first ∙ sym (x .leads (t .bits) w i (t .fan-is) l less) in
-      omega (arith, subst (λ g. length (ps ++ vs) < nodesIn ns .level g) e (follow-under N (nodesIn ns) (t .standing .reduced) (ps ++ vs) d (omega (arith, long, t .standing .most)) (t .node i less)), long)

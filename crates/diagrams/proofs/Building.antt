@@ -218,9 +218,6 @@ module _ (N R : ℕ) (F : ℕ → List Bool → Bool) (G : ℕ) (left right : �
   outcome-built M i k E r B e d h O n =
       subst (λ i. Built N k R F E (set ids i r)) (sym e) (subst (λ k. Built N k R F E (set ids (suc M) r)) (sym d) (built-more N M R F D ids B E r (omega arith) (O .table n) (O .made n)))
 
-  pub outcome-over : (M K : ℕ) (E : Nodes) (r : ℕ) → Built N M R F D ids → M < K → Outcome N R 1 (F M) D E r → r ≡ noId → R < nodesOf N K F
-  outcome-over M K E r B h O e = omega (arith, built-over N M R F D ids B (O .full e), nodes-grow N (suc M) K F h)
-
   -- of input s
   pub input-outcome : (s : ℕ) (E : Nodes) (r : ℕ) → Built N s R F D ids → R + 2 < noId → s < N → Joined R D E (s + 1) 0 1 r → Outcome N R 1 (F s) D E r
   input-outcome s E r B room h J =

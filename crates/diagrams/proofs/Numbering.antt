@@ -7,7 +7,7 @@ use native.Mathlib.Nat.{le-refl, le-antisymm}
 use native.Mathlib.Omega.{arith}
 use lib.Dec.{T, eqb, eqb-refl, eqb→eq}
 use Rattle.layered.specs.Search.{every, least, tally}
-use Rattle.layered.proofs.Search.{both, eq-eqb, iff-eq, every-all, all-every, least-le, least-finds, least-is, least-cong, tally-cong, tally-more, tally-none, tally-lt, tally-apart, tally-hits}
+use Rattle.layered.proofs.Search.{eq-eqb, iff-eq, every-all, all-every, least-le, least-finds, least-is, least-cong, tally-cong, tally-lt, tally-apart, tally-hits}
 use Rattle.diagrams.specs.Numbering.{firstSame, isNew, numberSame, countSame}
 
 -- ---- any test
@@ -42,24 +42,10 @@ module _ (same : ℕ → ℕ → Bool) where
   pub number-new : (c : ℕ) → T (isNew same c) → numberSame same c ≡ countSame same c
   number-new c t = number-first c ∙ ap (countSame same) (new-own c t)
 
-  -- new ones have numbers of their own
-  pub new-apart : (d c : ℕ) → T (isNew same d) → T (isNew same c) → numberSame same d ≡ numberSame same c → d ≡ c
-  unfolding countSame
-  new-apart d c t u e = tally-apart (isNew same) d c t u (sym (number-new d t) ∙ e ∙ number-new c u)
-
   -- each number below the count is a new one's
   pub number-hits : (C k : ℕ) → k < countSame same C → (c : ℕ) × (c < C) × T (isNew same c) × (numberSame same c ≡ k)
   unfolding countSame
   number-hits C k l = let (c, b, t, e) = tally-hits (isNew same) C k l in (c, b, t, number-new c t ∙ e)
-
-  -- one more
-  pub count-new : (c : ℕ) → T (isNew same c) → countSame same (suc c) ≡ suc (countSame same c)
-  unfolding countSame
-  count-new c t = tally-more (isNew same) c t
-
-  pub count-old : (c : ℕ) → (T (isNew same c) → ⊥) → countSame same (suc c) ≡ countSame same c
-  unfolding countSame
-  count-old c f = tally-none (isNew same) c f
 
 -- ---- tests that agree
 
@@ -75,10 +61,6 @@ module _ (C : ℕ) (e f : ℕ → ℕ → Bool) (agree : (d c : ℕ) → d < c �
   pub number-cong : (c : ℕ) → c < C → numberSame e c ≡ numberSame f c
   unfolding numberSame
   number-cong c l = ap (λ d. tally d (isNew e)) (first-cong c l) ∙ tally-cong (firstSame f c) (λ d h. new-cong d (omega (arith, first-le f c)))
-
-  pub count-cong : countSame e C ≡ countSame f C
-  unfolding countSame
-  count-cong = tally-cong C new-cong
 
 -- ---- equivalences
 
@@ -136,12 +118,6 @@ module _ (C : ℕ) (e : ℕ → ℕ → Bool) (E : Equivalence C e) where
     pub refined : (d c : ℕ) → d < C → c < C → eqb (f d) (f c) && x d c ≡ e d c && x d c
     refined d c k l = ap (λ b. b && x d c) (ap₂ eqb (numbers d k) (numbers c l) ∙ number-test d c k l)
 
-    pub refined-number : (c : ℕ) → c < C → numberSame (λ d c. eqb (f d) (f c) && x d c) c ≡ numberSame (λ d c. e d c && x d c) c
-    refined-number = number-cong C _ _ (λ d c h l. refined d c (omega arith) l)
-
-    pub refined-count : countSame (λ d c. eqb (f d) (f c) && x d c) C ≡ countSame (λ d c. e d c && x d c) C
-    refined-count = count-cong C _ _ (λ d c h l. refined d c (omega arith) l)
-
 -- where all are the same, all numbers are 0
 pub number-all : (c : ℕ) → numberSame (λ d c. true) c ≡ 0
 unfolding numberSame firstSame least tally
@@ -157,16 +133,6 @@ equal-values C f = record {
   through = λ b d c _ _ _ t u. eq-eqb (eqb→eq (f b) (f d) t ∙ eqb→eq (f d) (f c) u);
 }
 
-pub both-equivalence : (C : ℕ) (e x : ℕ → ℕ → Bool) → Equivalence C e → Equivalence C x → Equivalence C (λ d c. e d c && x d c)
-both-equivalence C e x E X = record {
-  itself = λ c l. both (e c c) (x c c) .1 (E .itself c l, X .itself c l);
-  back = λ d c k l t. let s = both (e d c) (x d c) .0 t in both (e c d) (x c d) .1 (E .back d c k l (s .0), X .back d c k l (s .1));
-  through = λ b d c k m l t u.
-      let s = both (e b d) (x b d) .0 t in
-      let r = both (e d c) (x d c) .0 u in
-      both (e b c) (x b c) .1 (E .through b d c k m l (s .0) (r .0), X .through b d c k m l (s .1) (r .1));
-}
-
 pub every-equivalence : (C k : ℕ) (x : ℕ → ℕ → ℕ → Bool) → ((i : ℕ) → i < k → Equivalence C (x i)) → Equivalence C (λ d c. every k (λ i. x i d c))
 every-equivalence C k x E = record {
   itself = λ c l. all-every _ k (λ i h. E i h .itself c l);
@@ -174,19 +140,9 @@ every-equivalence C k x E = record {
   through = λ b d c a m l t u. all-every _ k (λ i h. E i h .through b d c a m l (every-all (λ i. x i b d) k t i h) (every-all (λ i. x i d c) k u i h));
 }
 
--- ---- tests one after the other
+-- ---- no test
 
-module _ (C k : ℕ) (x : ℕ → ℕ → ℕ → Bool) (E : (i : ℕ) → i < k → Equivalence C (x i)) (f : ℕ → ℕ) (numbers : (c : ℕ) → c < C → f c ≡ numberSame (λ d c. every k (λ i. x i d c)) c) where
-  -- the numbers by k tests give those by one more
-  pub number-next : (c : ℕ) → c < C → numberSame (λ d c. eqb (f d) (f c) && x k d c) c ≡ numberSame (λ d c. every (suc k) (λ i. x i d c)) c
-  unfolding every
-  number-next = refined-number C _ (every-equivalence C k x E) (x k) f numbers
-
-  pub count-next : countSame (λ d c. eqb (f d) (f c) && x k d c) C ≡ countSame (λ d c. every (suc k) (λ i. x i d c)) C
-  unfolding every
-  count-next = refined-count C _ (every-equivalence C k x E) (x k) f numbers
-
--- and those by none are 0
+-- the numbers by no test are 0
 pub number-none : (x : ℕ → ℕ → ℕ → Bool) (c : ℕ) → numberSame (λ d c. every 0 (λ i. x i d c)) c ≡ 0
 unfolding every
 number-none x c = number-all c

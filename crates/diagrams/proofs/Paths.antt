@@ -15,7 +15,7 @@ use Rattle.diagrams.specs.Diagrams.{Nodes, branch, follow, Reduced}
 use Rattle.diagrams.specs.Frames.{wordBits, historyBits}
 use Rattle.diagrams.specs.Paths.{pathOf}
 use Rattle.diagrams.proofs.Growth.{decide}
-use Rattle.diagrams.proofs.Laws.{branch-at, branch-past, branch-below, follow-below}
+use Rattle.diagrams.proofs.Laws.{branch-at, branch-past, branch-below}
 use Rattle.diagrams.proofs.Frames.{word-length}
 
 -- ---- bits of a number
@@ -108,10 +108,6 @@ module _ (D : Nodes) where
       let n : 1 + length (wordBits k p) ≡ suc k = omega (arith, word-length k p) in
       ap (λ vs. follow D 1 vs f) (word-split k j p w l) ∙ follow-append (wordBits k p) 1 (wordBits j w) f ∙ ap (λ l. follow D l (wordBits j w) (follow D 1 (wordBits k p) f)) n
 
-  -- where the low ones are tested nowhere, they do not matter
-  pub follow-late : (k j p w f : ℕ) → p < 2 ^ k → k < D .level f → follow D 1 (wordBits (k + j) (p + w * 2 ^ k)) f ≡ follow D (suc k) (wordBits j w) f
-  follow-late k j p w f l h = follow-split k j p w f l ∙ ap (follow D (suc k) (wordBits j w)) (follow-top k p f h)
-
   -- a path with a word more
   pub follow-next : (n t h w f : ℕ) → w < 2 ^ n
       → follow D 1 (wordBits (n * suc t) (pathOf n (suc t) (h * 2 ^ n + w))) f ≡ follow D (suc (n * t)) (wordBits n w) (follow D 1 (wordBits (n * t) (pathOf n t h)) f)
@@ -159,7 +155,3 @@ module _ (N : ℕ) (D : Nodes) (red : Reduced N D) where
     where
       at : D .level f ≡ l → 0 < D .level (branch D l v f)
       at e = omega (arith, branch-below N D red l f v (omega arith) (omega arith) (omega arith))
-
-  -- and is passed by all inputs up to there
-  pub follow-under : (vs : List Bool) (f : ℕ) → length vs ≤ N → 0 < D .level f → length vs < D .level (follow D 1 vs f)
-  follow-under vs f m h = omega (arith, follow-below N D red vs 1 f (omega arith) (omega arith) h)

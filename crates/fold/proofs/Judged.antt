@@ -9,11 +9,10 @@ use mathlib.Core.Logic.{⊎-elim}
 use borrow.Author.Tests.{eqb-true}
 use lib.Dec.{T, eqb}
 use lib.ListN.{length, drop}
-use Rattle.verdict.specs.Judgements.{answer, figures, refusalFigures, refuse, andThen, resultAfter}
+use Rattle.verdict.specs.Judgements.{answer, figures, refuse, andThen, resultAfter}
 use Rattle.verdict.specs.declared.Figures.{Figures}
-use Rattle.verdict.specs.declared.Refusal.{Refusal}
 use Rattle.verdict.specs.declared.Verdict.{Verdict}
-use Rattle.verdict.proofs.Laws.{refusal-number, both-accept, passed, left}
+use Rattle.verdict.proofs.Laws.{both-accept, passed, left}
 use Rattle.sizes.specs.Sizes.{inputs, outputs, frames}
 use Rattle.circuit.specs.Circuit.{gates, allInputs, allOutputs, checked}
 use Rattle.circuit.specs.WellFormed.{HeadOf}
@@ -27,7 +26,7 @@ use Rattle.survey.specs.declared.Survey.{Survey}
 use Rattle.folded.specs.Folded.{foldedBytes, scratchChecked, askChecked, roomChecked, foldChecked, foldResult}
 use Rattle.folded.specs.Planned.{foldedPlan, commitChecked, commitResult}
 use Rattle.folded.specs.Theorems.{Foldings}
-use Rattle.folded.proofs.Asked.{plan-length, scratch-tells, ask-refused, ask-counts}
+use Rattle.folded.proofs.Asked.{plan-length, scratch-tells, ask-counts}
 use Rattle.folded.proofs.Counting.{first-most}
 use Rattle.folded.proofs.Outcomes.{accepted}
 use Rattle.folded.proofs.Theorems.{foldings}
@@ -53,11 +52,6 @@ twice-not false y = y
 -- ---- what is answered, and what the result holds
 
 module _ (b : List ℕ) (w : Wanted) (room nodes : ℕ) (r : List ℕ) where
-  -- where the circuit or the scratch is refused
-  pub lent-refused : (x : Refusal) → scratchChecked b room ≡ refusalFigures x → refusalFigures x ≡ wantedChecked b w room nodes (length r)
-  unfolding wantedChecked
-  lent-refused x e = rw (ask-refused b room nodes x e, refusal-number x)
-
   -- where both are accepted, and the circuit was surveyed
   pub judged-is : (survey : Survey) (v : Verdict) → scratchChecked b room ≡ answer 0 0 → Judges b survey w (length r) v
       → survey .place ≡ firstOver (allInputs b) (min nodes mostRecords) (gates b) (signalOn b)

@@ -8,7 +8,7 @@ use lib.Dec.{eqb}
 use Rattle.diagrams.specs.Diagrams.{Nodes, branch, Grown, conjunction}
 use mathlib.Core.List.{List}
 use Rattle.diagrams.specs.Making
-use Rattle.diagrams.specs.Making.{Table, Laid, Known, Halved, Conjoined, Joined, noId}
+use Rattle.diagrams.specs.Making.{Table, Known, Halved, Conjoined, Joined, noId}
 use Rattle.diagrams.proofs.Conjoining.{known-conjoined, unknown-node, low-levels, conjoined-none, high-ready, conjoined, conjoined-up, joined-grown}
 use Rattle.nodes.specs.declared.Node.{Node}
 use Rattle.nodes.specs.declared.Pair.{Pair}
@@ -86,9 +86,6 @@ module _ (N R left : ℕ) (p : Pair) (D : Nodes) (table : Table N R D) (room : R
         step-none e = whole C low (conjoined-none N R l D table level-pos (p .f) (p .a) (p .g) (p .b) first-of second-of to-level (h .low .f) (h .high .f) (h .low .g) (h .high .g) halved C low L′ e)
 
         module _ (is : low ≢ noId) where
-          pub low-table : Table N R C
-          low-table = L .table is
-
           pub high-levels-are : (suc N - (N - l) ≤ C .level (h .high .f)) × (suc N - (N - l) ≤ C .level (h .high .g))
           high-levels-are =
               let u = high-ready N R l D table level-pos (p .f) (p .a) (p .g) (p .b) first-of second-of to-level (h .low .f) (h .high .f) (h .low .g) (h .high .g) halved C low L′ is in
@@ -97,9 +94,6 @@ module _ (N R left : ℕ) (p : Pair) (D : Nodes) (table : Table N R D) (room : R
           module _ (E : Nodes) (high : ℕ) (H : Anded N R (suc N - (N - l)) C E (h .high) high) where
             H′ : Conjoined N R (suc l) C E (h .high .f) (p .a) (h .high .g) (p .b) high
             H′ = subst (λ a. Conjoined N R (suc l) C E (h .high .f) a (h .high .g) (p .b) high) (flags .2) (subst (λ b. Conjoined N R (suc l) C E (h .high .f) (h .high .a) (h .high .g) b high) (flags .3) (subst (λ k. Anded N R k C E (h .high) high) next H))
-
-            pub step-laid : high ≢ noId → Laid R E
-            step-laid n = H .table n .laid
 
             joined-at : (G : Nodes) (r : ℕ) → Joined R E G l low high r → Anded N R l D G p r
             joined-at G r J = conjoined N R l D table level-pos (p .f) (p .a) (p .g) (p .b) first-of second-of to-level (h .low .f) (h .high .f) (h .low .g) (h .high .g) halved C low L′ is E high H′ room G r J

@@ -3,7 +3,7 @@ use mathlib.Core.Path.{_≡_, refl, sym, ap, ap₂, _∙_, subst}
 use mathlib.Core.List.{List}
 use Prim.Native.Nat.{ℕ, suc, _+_, _*_, _-_, _^_, _≤_, _<_, min}
 use native.Mathlib.Omega.{arith}
-use lib.ListN.{length, getD, replicate, length-replicate}
+use lib.ListN.{length, replicate}
 use Rattle.layered.proofs.Search.{least-le}
 use Rattle.verdict.specs.Judgements.{answer}
 use Rattle.sizes.specs.Sizes.{inputs, outputs, frames}
@@ -23,17 +23,13 @@ use Rattle.explore.specs.Explore.{Explored, CountsTo, Explorable, Ended, Ends}
 use Rattle.explore.proofs.Begin.{zeros}
 use Rattle.explore.specs.declared.Layout.{Layout}
 use Rattle.explore.specs.declared.Cursor.{Cursor}
-use Rattle.survey.specs.Survey.{workLength, mostRecords, ShapeOf, LayoutOf, subjectOf, Surveyable, Known, Surveyed}
+use Rattle.survey.specs.Survey.{mostRecords, ShapeOf, LayoutOf, subjectOf, Surveyable, Known, Surveyed}
 use Rattle.survey.specs.declared.Survey.{Survey}
 use Rattle.survey.proofs.Subject.{bits, frames-are, outputs-are, laid, startable, standing}
 
 -- what holds of four numbers holds of their equals
 moved : (P : ℕ → ℕ → ℕ → ℕ → Type 0) (n m T k n′ m′ T′ k′ : ℕ) → n ≡ n′ → m ≡ m′ → T ≡ T′ → k ≡ k′ → P n m T k → P n′ m′ T′ k′
 moved P n m T k n′ m′ T′ k′ e f g h p = subst (λ x. P x m′ T′ k′) e (subst (λ x. P n x T′ k′) f (subst (λ x. P n m x k′) g (subst (P n m T) h p)))
-
--- what a survey works in before it begins is clean, and long enough
-pub clean-work : (ws : List ℕ) → ws ≡ replicate workLength 0 → ((i : ℕ) → getD ws i 0 ≡ 0) × (workLength ≤ length ws)
-clean-work ws e = (λ i. ap (λ ws. getD ws i 0) e ∙ zeros workLength i, omega (arith, ap length e, length-replicate {A = ℕ} workLength 0))
 
 -- the place is no more than one more than there are gates
 place-most : (b : List ℕ) (R : ℕ) → firstOver (allInputs b) R (gates b) (signalOn b) ≤ suc (gates b)

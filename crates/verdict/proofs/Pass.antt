@@ -6,7 +6,6 @@
 --     calls-shared     the same where the callee takes a `&[T]`: the slice is opened and lent as `&` for the call, and is as it was after it
 --     calls-plain      a callee that is lent nothing
 --     lends-array, comes-array    a local array in memory is lent as a `&mut [T]` for a lifetime that is made for a call, and comes back at the last list: for calls that are lent others too
---     calls-array      a local array (what lies in its cell, as `partAt` of an array) is lent to a callee that takes a `&mut [T]`, and is back at the last list
 -- n is the count in the slice's machine value: it stays, and the list's length is it.
 -- Assumes `Given`.
 use mathlib.Core.Path.{_≡_, refl, sym, _∙_, subst}
@@ -142,19 +141,6 @@ module _ {M : Type 1} {𝓤 : URA M} {H : Heap 𝓤} {A : Atoms 𝓤} {K : Type 
   calls-plain t fm Q vs Φ met os k =
       use0 W (raw (emp 𝓤)) (id⊢ 𝓤 _) $ calls-from t fm (raw (emp 𝓤)) vs (GivesPlain 𝓤 H A Q Φ) met os (λ w.
       use1 W (later (some (λ (r : Q .Denot). given (Φ r) (‵ (Q .own r (w ∷ [])))))) (id⊢ 𝓤 _) $ await t tt $ pick t (λ r. learn t (λ h. k w r h)))
-
-  pub calls-array : K → FmC 𝓤 H (W .laws) C → {rest : Body} (R Q : RattleType) → Single (R .mir) → (b n : ℕ) (ys : List (R .Denot)) (vs : List Val) (Φ : Q .Denot → List (R .Denot) → Type 0) → Room R n → length ys ≡ n
-      → ((ν : ℕ) (δ : GName) → ent 𝓤 (Lends 𝓤 H A R Q b 0 n ys Φ ν δ) (C f (sliceVal (b, 0) n ∷ vs) (Gives 𝓤 H A R Q b 0 n ys Φ ν δ)))
-      → ((ν : ℕ) (δ : GName) → Opds K W (raw (Lends 𝓤 H A R Q b 0 n ys Φ ν δ) ∷ ‵ (flent (ν ∷ []) (Held R (length ys) b 0 δ)) ∷ Γ) E xs (sliceVal (b, 0) n ∷ vs))
-      → ((w : Val) (r : Q .Denot) (zs : List (R .Denot)) → length zs ≡ n → Φ r zs → Seq K W (‵ (partAt (Array R n) fullShare zs b 0) ∷ ‵ (Q .own r (w ∷ [])) ∷ Γ) (lands C Λ E d w rest q))
-      → Seq K W (‵ (partAt (Array R n) fullShare ys b 0) ∷ Γ) (runs C Λ E (seq (call f xs d) rest) q)
-  calls-array t fm R Q single b n ys vs Φ room e met os k =
-      lends-array t tt R single b n ys room e (λ ν δ.
-      use2 W (raw (Lends 𝓤 H A R Q b 0 n ys Φ ν δ)) (id⊢ 𝓤 _) $
-      calls-from t fm (raw (Lends 𝓤 H A R Q b 0 n ys Φ ν δ)) (sliceVal (b, 0) n ∷ vs) (Gives 𝓤 H A R Q b 0 n ys Φ ν δ) (met ν δ) (os ν δ) (λ w.
-      use1 W (later (some (λ (r : Q .Denot). some (λ (zs : List (R .Denot)). given ((length zs ≡ length ys) × Φ r zs) (‵ (flft (ν ∷ []) fullShare) ⊛ ‵ (Q .own r (w ∷ [])) ⊛ ‵ (finally R δ zs)))))) (id⊢ 𝓤 _) $ await t tt $ pick t (λ r. pick t (λ zs. learn t (λ h. split t $ move t (1 ∷ []) $ split t $
-      -- [what r owns; the last list; the lifetime's token; what the lender keeps; …]
-      move t (2 ∷ 1 ∷ 3 ∷ []) $ comes-array t tt R b n ys zs ν δ e (h .0) (k w r zs (h .0 ∙ e) (h .1)))))))
 
 module _ {M : Type 1} {𝓤 : URA M} {H : Heap 𝓤} {A : Atoms 𝓤} {K : Type 0} {W : Given 𝓤 H A} {Γ : List (Item 𝓤)} {E : Env 𝓤 H} {C : Calls 𝓤 H} {Λ : Loops 𝓤 H} {q : Post 𝓤 H} where
   pub falls : K → {c : Operand} {a b : Body} → Opd K W Γ E c (vbool false) → Step K W Γ (runs C Λ E b q) Γ (runs C Λ E (seq (cond c a skip) b) q)
