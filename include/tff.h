@@ -1,6 +1,6 @@
 /* Time-frame folding: the C interface of the static library tff.
  *
- * A circuit and a table are bytes, made of 16-bit words with the low byte first:
+ * A circuit, a network and a table are bytes, made of 16-bit words with the low byte first:
  *
  *   circuit: n inputs per frame (1 to 8), m outputs per frame (1 to 16), T frames (1 to 16, n*T at
  *            most 16), G gates (m*T to 4,096); G left literals; G right literals.
@@ -9,6 +9,7 @@
  *            AND of its two literals, each below 2*(n*T + g). The last m*T gates are the outputs,
  *            frame by frame; none depends on an input of a later frame. An output with 65,535 for
  *            both literals is unconnected: it is 0, and no literal names its gate.
+ *   network: a circuit of one frame (T is 1) that may have up to 16 inputs.
  *   table:   n, m, T; T+1 state counts, first and last 1, others 1 to 32,768; T words of connected
  *            outputs, bit j-1 of word t set where output j of frame t is connected (below 2^m); all
  *            output words (connected outputs of their frame alone); all next states (below the next
@@ -29,7 +30,8 @@
  *           or 0 without a result
  *   1       length given                not the length that the format asks for
  *   2       byte offset                 first size, else first count, else first word of connected
- *                                       outputs out of limits; n*T above 16 counts at T
+ *                                       outputs out of limits; n*T above 16 counts at T. The sizes
+ *                                       given to tff_spread count as at 0, 2 and 4
  *   3       byte offset                 first literal, in the order of the file, that is too high
  *                                       or names an unconnected output; 65,535 is too high wherever
  *                                       it does not mark an output
@@ -43,7 +45,8 @@
  *   9       index of the word from 0    first input word of 2^n or more
  *   10      T                           step from the last layer
  *   11      layer given                 layer or position that the table does not have
- *   12      length of the list          list of input words not T long, for tff_simulate count*T
+ *   12      length of the list          list of input words not T long, for tff_simulate count*T; list
+ *                                       of places that has not one for each input or output
  *   13      count given                 above 32 sequences
  *   14      0                           plan is not what asking returns for this circuit
  *   15      index of the window from 0  first bad window; else 32 where there are above 32
@@ -51,11 +54,14 @@
  *   17      0                           mask of 2^m or more
  *   18      g                           inputs and gates 1 to g have more distinct nodes than there
  *                                       are records, and g is the smallest such; 0: inputs alone
+ *   19      index in both lists         first place that the frames do not have; the outputs' list
+ *                                       counts on behind the inputs'
+ *   20      index in both lists         first place that an earlier item of the same list has
  *
- * A refused call changes nothing but answer and, as said here, scratch and nodes. tff_fold, tff_ask
- * and tff_commit need 2 * 2^(n*T) numbers of scratch. These end as zeros where the call is accepted,
- * or refused with 18, 14 or 7, and so does every record of nodes, used or not; scratch beyond them is
- * never changed.
+ * A refused call changes nothing but answer and, as said here, scratch and nodes. tff_fold, tff_ask,
+ * tff_commit and tff_spread need 2 * 2^(n*T) numbers of scratch. These end as zeros where the call is
+ * accepted, or refused with 18, 14 or 7, and so does every record of nodes, used or not; scratch
+ * beyond them is never changed.
  */
 
 #ifndef TFF_H
@@ -81,8 +87,9 @@ void tff_simulate(const uint8_t *circuit, size_t circuit_len,
                   uint16_t *result, size_t result_len,
                   uint64_t *answer, size_t answer_len);
 
-/* A record of the list that tff_fold, tff_ask and tff_commit are lent for decision diagrams: room for
- * one node, which is an input and two branches. Records may hold anything before a call.
+/* A record of the list that tff_fold, tff_ask, tff_commit and tff_spread are lent for decision
+ * diagrams: room for one node, which is an input and two branches. Records may hold anything before a
+ * call.
  *
  * The nodes of signals are the distinct functions, not constant, that remain of them when the first k
  * inputs are fixed, in the order of signals, and that depend on input k+1. All n*T inputs are counted,
@@ -116,6 +123,25 @@ void tff_ask(const uint8_t *circuit, size_t circuit_len,
  * as well), 7. Accepted: place is the bytes written. */
 void tff_commit(const uint8_t *circuit, size_t circuit_len,
                 const uint64_t *plan, size_t plan_len,
+                uint16_t *scratch, size_t scratch_len,
+                tff_node *nodes, size_t nodes_len,
+                uint8_t *result, size_t result_len,
+                uint64_t *answer, size_t answer_len);
+
+/* Spreads a network over T frames of n inputs and m outputs, and puts into result the table that it
+ * folds to. Input_places has a place for each input of the network, 0 to n*T-1, and output_places one
+ * for each output, 0 to m*T-1; none is in its list twice. Place p of an input is input p mod n + 1 of
+ * frame p div n + 1, that of an output likewise with m. Inputs at other places do nothing, and outputs
+ * at other places are unconnected, as is an output that the network has unconnected. There may be more
+ * output places than gates.
+ * Refuses the network with 1, 2 (at 4 for a T other than 1), 1, 3; then n, m, T with 2; then 12 for the
+ * inputs' list, 12 for the outputs'; then 19 in either list, 20 in either list; then as tff_fold with 4
+ * (the place of the output), 6, 18 (all n*T inputs, in the order of their places, and the network's
+ * gates by their own numbers), 7. Accepted: place is the bytes written. */
+void tff_spread(const uint8_t *network, size_t network_len,
+                uint16_t n, uint16_t m, uint16_t T,
+                const uint16_t *input_places, size_t input_places_len,
+                const uint16_t *output_places, size_t output_places_len,
                 uint16_t *scratch, size_t scratch_len,
                 tff_node *nodes, size_t nodes_len,
                 uint8_t *result, size_t result_len,

@@ -1,6 +1,7 @@
 //! Times of the proved library beside those of the plain implementation, one line a case; then of
-//! asking and committing beside folding, of pricing beside checking, of steps with quiet hours beside
-//! steps without, of views beside runs, and of a layer's outputs beside checking, all proved.
+//! asking and committing beside folding, of spreading a network beside folding the circuit over frames
+//! that it then is, of pricing beside checking, of steps with quiet hours beside steps without, of views
+//! beside runs, and of a layer's outputs beside checking, all proved.
 //!
 //! The two take turns in one run; a line gives their median times and the ratio of these. Folding is
 //! measured beside plain Rust of the same algorithm, with the circuit's nodes and states behind the
@@ -11,11 +12,11 @@ use std::time::Instant;
 
 use reference::diagrams::nodes_made;
 use reference::gen::{
-    any_sequence, any_sequences, any_windows, circuits, look_ahead, machines, tables, Rng,
+    any_sequence, any_sequences, any_windows, circuits, look_ahead, machines, networks, tables, Rng,
 };
 use reference::program::NODE_RECORDS as LENT;
 use reference::quiet::MOST_WINDOWS;
-use reference::{examples, Circuit, Node, Sizes, Table};
+use reference::{examples, Circuit, Node, Schedule, Sizes, Table};
 
 /// For calls of which one is too short to be measured alone.
 const MANY_CALLS: Runs = Runs {
@@ -37,6 +38,8 @@ fn main() {
     each_planned(ask_beside_fold);
     heading("commit", "fold");
     each_planned(commit_beside_fold);
+    heading("spread", "fold");
+    spread_beside_fold();
     heading("price", "check");
     price_beside_check();
     heading("quiet step", "step");
@@ -336,8 +339,15 @@ fn unfold_level() {
 /// few.
 fn fold_line(kind: &str, circuit: &Circuit) {
     let nodes = nodes_made(circuit);
-    let records = if nodes > LENT { 2 * nodes } else { LENT };
-    fold_in(kind, circuit, nodes, records);
+    fold_in(kind, circuit, nodes, records_for(nodes));
+}
+
+fn records_for(nodes: usize) -> usize {
+    if nodes > LENT {
+        2 * nodes
+    } else {
+        LENT
+    }
 }
 
 /// Folding with just as many records as there are nodes.
@@ -412,6 +422,59 @@ fn commit_beside_fold(case: &str, runs: &Runs, circuit: &[u8]) {
         &mut memory,
         |(scratch, nodes, result)| tff::commit(black_box(circuit), &plan, scratch, nodes, result),
         |(scratch, nodes, result)| tff::fold(black_box(circuit), scratch, nodes, result),
+    );
+}
+
+/// What it costs to read inputs and show outputs at their places: with few gates and many, and where gates
+/// reach later inputs without effect, so that all sequences are played.
+fn spread_beside_fold() {
+    let often = Runs {
+        runs: 21,
+        calls: 20,
+    };
+    let some = Runs { runs: 15, calls: 1 };
+    let (adder, schedule) = (examples::plain_adder(), examples::adder_schedule());
+    spread_line("adder", &MANY_CALLS, &adder, &schedule);
+    let mut rng = Rng::new(1);
+    for sizes in [Sizes::new(2, 2, 8), Sizes::new(4, 4, 4)] {
+        for gates in [200, 2_000] {
+            // The outputs of the network stand behind the gates of the circuit.
+            let inner = gates - sizes.output_gates();
+            let circuit = circuits::connected(&mut rng, sizes, inner);
+            let (network, schedule) = networks::gathered(&mut rng, &circuit, 16, 16);
+            spread_line("random", &often, &network, &schedule);
+        }
+        let circuit = circuits::scrambled(&mut rng, sizes, 200 - sizes.output_gates());
+        let (network, schedule) = networks::gathered(&mut rng, &circuit, 16, 16);
+        spread_line("no pattern", &some, &network, &schedule);
+        let clean = circuits::connected(&mut rng, sizes, 200);
+        let crossed = look_ahead::crossed_out(&mut rng, &clean, 2_000 - sizes.output_gates());
+        let (network, schedule) = networks::gathered(&mut rng, &crossed, 16, 16);
+        spread_line("crossed out", &some, &network, &schedule);
+    }
+}
+
+fn spread_line(kind: &str, runs: &Runs, network: &Circuit, schedule: &Schedule) {
+    let circuit = networks::rearranged(network, schedule);
+    let [file, folded] = [network, &circuit].map(Circuit::to_bytes);
+    let [inputs, outputs, frames] = schedule.sizes;
+    let schedule = tff::Schedule {
+        inputs,
+        outputs,
+        frames,
+        input_places: &schedule.input_places,
+        output_places: &schedule.output_places,
+    };
+    let mut memory = fold_memory(records_for(nodes_made(&circuit)));
+    let (scratch, nodes, result) = &mut memory;
+    let answer = tff::spread(&file, &schedule, scratch, nodes, result);
+    assert_eq!(answer.number, 0);
+    assert_eq!(tff::fold(&folded, scratch, nodes, result), answer);
+    runs.measure(
+        &format!("{inputs}x{frames}, {} gates, {kind}", network.gates()),
+        &mut memory,
+        |(scratch, nodes, result)| tff::spread(black_box(&file), &schedule, scratch, nodes, result),
+        |(scratch, nodes, result)| tff::fold(black_box(&folded), scratch, nodes, result),
     );
 }
 

@@ -27,8 +27,9 @@ pub const WORD: u64 = 9;
 pub const LAST_LAYER: u64 = 10;
 /// A layer or position that the table does not have; place: the layer given.
 pub const POSITION: u64 = 11;
-/// A list of words that is not one word a frame of each sequence; place: its length.
-pub const WORD_COUNT: u64 = 12;
+/// A list that is not one word a frame of each sequence, or not one place for each input or output of a
+/// network; place: its length.
+pub const LIST_LENGTH: u64 = 12;
 /// More sequences than are simulated at once; place: the count given.
 pub const SEQUENCES: u64 = 13;
 /// A plan that is not what asking returns for the circuit; place: 0.
@@ -42,6 +43,10 @@ pub const MASK: u64 = 17;
 /// Too few records for the nodes; place: the first gate whose nodes are too many with all before it,
 /// from 1, or 0 for those of the inputs alone.
 pub const NODES: u64 = 18;
+/// A place that the frames do not have; place: its index in the lists of inputs and outputs joined.
+pub const NO_SUCH_PLACE: u64 = 19;
+/// A place that an earlier item of the same list has; place: its index likewise.
+pub const PLACE_TAKEN: u64 = 20;
 
 pub fn accepted(place: usize) -> Answer {
     (0, place as u64)

@@ -1,9 +1,8 @@
 //! Circuits of AND gates over frames: format, check, simulation.
 
-use crate::answer::{
-    accepted, deliver, refused, Answer, LENGTH, LITERAL, LOOKS_AHEAD, SEQUENCES, SIZE,
-};
+use crate::answer::{accepted, deliver, refused, Answer, LENGTH, LITERAL, SEQUENCES, SIZE};
 use crate::gates::UNCONNECTED;
+use crate::response::Response;
 use crate::sizes::Sizes;
 use crate::words::{to_bytes, word_at, words_at};
 
@@ -54,18 +53,28 @@ impl Circuit {
 
     /// The circuit in `bytes`, if it passes every check.
     pub fn read(bytes: &[u8]) -> Result<Circuit, Answer> {
-        let circuit = Circuit::read_shape(bytes)?;
+        let circuit = Circuit::read_shape(bytes, Sizes::read)?;
         circuit.judge_literals()?;
         circuit.judge_outputs()?;
         Ok(circuit)
     }
 
+    /// The plain network in `bytes`, if it passes every check; in its one frame no output looks ahead.
+    pub fn read_plain(bytes: &[u8]) -> Result<Circuit, Answer> {
+        let network = Circuit::read_shape(bytes, Sizes::read_plain)?;
+        network.judge_literals()?;
+        Ok(network)
+    }
+
     /// Judges head and length alone.
-    fn read_shape(bytes: &[u8]) -> Result<Circuit, Answer> {
+    fn read_shape(
+        bytes: &[u8],
+        read_sizes: fn(&[u8]) -> Result<Sizes, Answer>,
+    ) -> Result<Circuit, Answer> {
         if bytes.len() < HEAD {
             return Err(refused(LENGTH, bytes.len()));
         }
-        let sizes = Sizes::read(bytes)?;
+        let sizes = read_sizes(bytes)?;
         let gates = usize::from(word_at(bytes, 6));
         if !(sizes.output_gates()..=Self::MOST_GATES).contains(&gates) {
             return Err(refused(SIZE, 6));
@@ -160,20 +169,13 @@ impl Circuit {
         }
     }
 
-    /// An output looks ahead where two sequences agree in the words up to its frame and differ in it.
+    /// No output may look ahead.
     fn judge_outputs(&self) -> Result<(), Answer> {
         let doubtful = self.outputs_reaching_later_inputs();
         if doubtful.is_empty() {
             return Ok(());
         }
-        let sequences = self.outputs_on_all_sequences();
-        match doubtful
-            .into_iter()
-            .find(|&output| looks_ahead(&self.sizes, &sequences, output))
-        {
-            Some(output) => Err(refused(LOOKS_AHEAD, output)),
-            None => Ok(()),
-        }
+        self.response().judge_outputs(doubtful)
     }
 
     /// The outputs whose gates lead to an input of a later frame, ascending; no others can look ahead.
@@ -200,6 +202,14 @@ impl Circuit {
             });
         }
         reached
+    }
+
+    pub fn response(&self) -> Response {
+        Response {
+            sizes: self.sizes,
+            connected: self.connected(),
+            sequences: self.outputs_on_all_sequences(),
+        }
     }
 
     /// The output words on every sequence, by the sequence's number.
@@ -245,19 +255,6 @@ impl Circuit {
     }
 }
 
-/// Whether, after some history that ends in the output's frame, two continuations differ in the
-/// output. The sequences that begin with a history stand together.
-fn looks_ahead(sizes: &Sizes, sequences: &[Vec<u16>], output: usize) -> bool {
-    let (frame, bit) = (output / sizes.outputs, output % sizes.outputs);
-    let value = |words: &[u16]| words[frame] >> bit & 1;
-    sequences
-        .chunks(sizes.histories(sizes.frames - frame - 1))
-        .any(|with_history| {
-            let first = value(&with_history[0]);
-            with_history.iter().any(|words| value(words) != first)
-        })
-}
-
 fn literal_value(values: &[bool], literal: u16) -> bool {
     values[usize::from(literal / 2)] != (literal % 2 == 1)
 }
@@ -265,6 +262,7 @@ fn literal_value(values: &[bool], literal: u16) -> bool {
 #[cfg(test)]
 mod tests {
     use super::*;
+    use crate::answer::LOOKS_AHEAD;
     use crate::gen::{circuits, look_ahead, Rng};
 
     /// The first output that looks ahead, straight from the definition: over all pairs of sequences.

@@ -3,6 +3,7 @@
 use crate::circuit::Circuit;
 use crate::gates::{not, Gates, FALSE, UNCONNECTED};
 use crate::sizes::Sizes;
+use crate::spread::Schedule;
 
 /// Each output word is the parity of the inputs so far, over two frames.
 pub fn parity() -> Circuit {
@@ -68,14 +69,62 @@ fn adder_with_empty(empty: u16) -> Circuit {
     let mut outputs = Vec::new();
     for frame in 0..3 {
         let [a, b] = [0, 1].map(|input| gates.input(frame, input));
-        let half = gates.xor(a, b);
-        let sum = gates.xor(half, carry);
-        let both = gates.and(a, b);
-        let passed = gates.and(half, carry);
-        carry = gates.or(both, passed);
+        let sum = add_bits(&mut gates, a, b, &mut carry);
         outputs.extend([sum, if frame == 2 { carry } else { empty }]);
     }
     gates.finish(&outputs)
+}
+
+/// The sum bit of two bits and the carry, which becomes the carry of the sum.
+fn add_bits(gates: &mut Gates, a: u16, b: u16, carry: &mut u16) -> u16 {
+    let half = gates.xor(a, b);
+    let sum = gates.xor(half, *carry);
+    let both = gates.and(a, b);
+    let passed = gates.and(half, *carry);
+    *carry = gates.or(both, passed);
+    sum
+}
+
+/// Three-bit adder without frames.
+pub fn plain_adder() -> Circuit {
+    plain_adder_of(3)
+}
+
+/// Adder without frames: the bits of one number, then those of the other, lowest first; sum bits, then the
+/// carry.
+pub fn plain_adder_of(bits: usize) -> Circuit {
+    let mut gates = Gates::new(Sizes::new(2 * bits, bits + 1, 1));
+    let mut carry = FALSE;
+    let mut outputs = Vec::new();
+    for bit in 0..bits {
+        let [a, b] = [bit, bits + bit].map(|input| gates.input(0, input));
+        outputs.push(add_bits(&mut gates, a, b, &mut carry));
+    }
+    outputs.push(carry);
+    gates.finish(&outputs)
+}
+
+/// How the plain three-bit adder is spread to the one over frames.
+pub fn adder_schedule() -> Schedule {
+    adder_schedule_of(3)
+}
+
+/// A bit of both numbers and of their sum in each frame, and the carry in the last.
+pub fn adder_schedule_of(bits: u16) -> Schedule {
+    let each_frame = |first: u16| (0..bits).map(move |frame| 2 * frame + first);
+    Schedule {
+        sizes: [2, 2, bits],
+        input_places: each_frame(0).chain(each_frame(1)).collect(),
+        output_places: each_frame(0).chain([2 * bits - 1]).collect(),
+    }
+}
+
+/// Parity without frames: the first of two inputs, and the parity of both.
+pub fn plain_parity() -> Circuit {
+    Circuit {
+        sizes: Sizes::new(2, 2, 1),
+        ..parity()
+    }
 }
 
 /// ISCAS-89 circuit s27 over three frames.

@@ -5,7 +5,8 @@ use std::ops::Range;
 
 use crate::answer::{deliver, refused, Answer, SCRATCH};
 use crate::circuit::Circuit;
-use crate::nodes::{judge_nodes, Node};
+use crate::nodes::{judge_nodes, node_counts, Node};
+use crate::response::Response;
 use crate::sizes::Sizes;
 use crate::table::{Head, Table};
 
@@ -23,20 +24,26 @@ pub fn fold(circuit: &[u8], scratch: &mut [u16], nodes: &mut [Node], result: &mu
 pub fn table_in(circuit: &[u8], scratch: &mut [u16], nodes: &mut [Node]) -> Result<Table, Answer> {
     let circuit = circuit_for(circuit, scratch)?;
     nodes.fill([0; 3]);
-    judge_nodes(&circuit, nodes.len())?;
-    Ok(table_by_definition(&circuit))
+    judge_nodes(node_counts(&circuit), nodes.len())?;
+    Ok(table_by_definition(&circuit.response()))
 }
 
 /// The circuit, if it passes every check and `scratch` is long enough, which is then cleared as far as
 /// it is needed.
 pub fn circuit_for(circuit: &[u8], scratch: &mut [u16]) -> Result<Circuit, Answer> {
     let circuit = Circuit::read(circuit)?;
-    let needed = 2 * circuit.sizes.histories(circuit.sizes.frames);
+    clear_scratch(&circuit.sizes, scratch)?;
+    Ok(circuit)
+}
+
+/// Clears `scratch` as far as folding to a table of these sizes needs it, if it is long enough.
+pub fn clear_scratch(sizes: &Sizes, scratch: &mut [u16]) -> Result<(), Answer> {
+    let needed = 2 * sizes.histories(sizes.frames);
     if scratch.len() < needed {
         return Err(refused(SCRATCH, needed));
     }
     scratch[..needed].fill(0);
-    Ok(circuit)
+    Ok(())
 }
 
 /// The histories one word longer than `history`, by that word.
@@ -45,18 +52,17 @@ pub fn successors(sizes: &Sizes, history: usize) -> Range<usize> {
 }
 
 /// The table whose states are the classes of equivalent histories.
-fn table_by_definition(circuit: &Circuit) -> Table {
-    let sizes = circuit.sizes;
-    let sequences = circuit.outputs_on_all_sequences();
+pub fn table_by_definition(response: &Response) -> Table {
+    let sizes = response.sizes;
     let states: Vec<Vec<u16>> = (0..=sizes.frames)
-        .map(|layer| states_of_layer(&sizes, &sequences, layer))
+        .map(|layer| states_of_layer(response, layer))
         .collect();
     let smallest: Vec<Vec<usize>> = states.iter().map(|of| smallest_histories(of)).collect();
     let mut table = Table {
         head: Head {
             sizes,
             counts: smallest.iter().map(|of| of.len() as u16).collect(),
-            connected: circuit.connected(),
+            connected: response.connected.clone(),
         },
         output_words: Vec::new(),
         next_states: Vec::new(),
@@ -66,7 +72,8 @@ fn table_by_definition(circuit: &Circuit) -> Table {
         let apart = sizes.histories(sizes.frames - layer - 1);
         for &history in &smallest[layer] {
             for longer in successors(&sizes, history) {
-                table.output_words.push(sequences[longer * apart][layer]);
+                let outputs = &response.sequences[longer * apart];
+                table.output_words.push(outputs[layer]);
                 table.next_states.push(states[layer + 1][longer]);
             }
         }
@@ -76,11 +83,12 @@ fn table_by_definition(circuit: &Circuit) -> Table {
 
 /// The state of each history of `layer` words. Two histories have one state when all their
 /// continuations give the same later outputs; states are numbered by their smallest history.
-fn states_of_layer(sizes: &Sizes, sequences: &[Vec<u16>], layer: usize) -> Vec<u16> {
+fn states_of_layer(response: &Response, layer: usize) -> Vec<u16> {
+    let sizes = response.sizes;
     let continuations = sizes.histories(sizes.frames - layer);
     let mut numbers = HashMap::new();
     let mut states = Vec::new();
-    for with_history in sequences.chunks(continuations) {
+    for with_history in response.sequences.chunks(continuations) {
         let mut later = Vec::new();
         for outputs in with_history {
             later.extend_from_slice(&outputs[layer..]);

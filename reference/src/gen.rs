@@ -3,6 +3,7 @@
 pub mod circuits;
 pub mod look_ahead;
 pub mod machines;
+pub mod networks;
 pub mod tables;
 
 use crate::quiet::WEEK;
@@ -46,6 +47,15 @@ impl Rng {
 
     pub fn pick<T: Copy>(&mut self, from: &[T]) -> T {
         from[self.below(from.len())]
+    }
+
+    /// The numbers below `count`, in any order.
+    pub fn shuffled(&mut self, count: u16) -> Vec<u16> {
+        let mut numbers: Vec<u16> = (0..count).collect();
+        for last in (1..numbers.len()).rev() {
+            numbers.swap(last, self.below(last + 1));
+        }
+        numbers
     }
 }
 

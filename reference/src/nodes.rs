@@ -15,10 +15,11 @@ pub type Node = [u32; 3];
 /// A truth table, or an equal part of one: 64 bits a word, or in one word that is otherwise 0.
 type Part = Box<[u64]>;
 
-/// Whether the inputs and all gates of a circuit have at most so many distinct nodes; else refuses
-/// with the first gate, from 1, that has too many with all before it, or with 0 for the inputs alone.
-pub fn judge_nodes(circuit: &Circuit, records: usize) -> Result<(), Answer> {
-    match node_counts(circuit).position(|count| count > records) {
+/// Whether the inputs and all gates, which have these counts of distinct nodes, have at most so many;
+/// else refuses with the first gate, from 1, that has too many with all before it, or with 0 for the
+/// inputs alone.
+pub fn judge_nodes(mut counts: impl Iterator<Item = usize>, records: usize) -> Result<(), Answer> {
+    match counts.position(|count| count > records) {
         Some(gate) => Err(refused(NODES, gate)),
         None => Ok(()),
     }
@@ -32,15 +33,30 @@ pub fn nodes_needed(circuit: &Circuit) -> usize {
 /// How many distinct nodes the inputs have, then the inputs and gate 1, and so on.
 pub fn node_counts(circuit: &Circuit) -> impl Iterator<Item = usize> + '_ {
     let inputs = circuit.sizes.input_signals();
-    let mut tables = vec![constant_false(inputs)];
+    let places: Vec<u16> = (0..inputs as u16).collect();
+    node_counts_at(circuit, inputs, &places)
+}
+
+/// The same where the circuit's inputs are those at `places` of `inputs` inputs, all of which count.
+pub fn node_counts_at<'a>(
+    circuit: &'a Circuit,
+    inputs: usize,
+    places: &[u16],
+) -> impl Iterator<Item = usize> + 'a {
+    let of_inputs: Vec<Part> = (0..inputs)
+        .map(|input| input_table(inputs, input))
+        .collect();
     let mut found = Found::new(inputs);
-    for input in 0..inputs {
-        tables.push(input_table(inputs, input));
-        found.add(&tables[1 + input]);
+    for table in &of_inputs {
+        found.add(table);
+    }
+    let mut tables = vec![constant_false(inputs)];
+    for &place in places {
+        tables.push(of_inputs[usize::from(place)].clone());
     }
     let after_inputs = found.count;
     let after_gates = (0..circuit.gates()).map(move |gate| {
-        let table = gate_table(circuit, &tables, gate);
+        let table = gate_table(circuit, inputs, &tables, gate);
         found.add(&table);
         tables.push(table);
         found.count
@@ -64,8 +80,7 @@ fn input_table(inputs: usize, input: usize) -> Part {
 }
 
 /// The table of gate `gate`, from 0, given those of the signals before it.
-fn gate_table(circuit: &Circuit, tables: &[Part], gate: usize) -> Part {
-    let inputs = circuit.sizes.input_signals();
+fn gate_table(circuit: &Circuit, inputs: usize, tables: &[Part], gate: usize) -> Part {
     if circuit.is_unconnected(gate) {
         return constant_false(inputs);
     }

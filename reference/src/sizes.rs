@@ -1,6 +1,6 @@
 //! The sizes that circuits and tables begin with, and what follows from them.
 
-use crate::answer::{refused, Answer, SIZE, WORD, WORD_COUNT};
+use crate::answer::{refused, Answer, LIST_LENGTH, SIZE, WORD};
 use crate::words::word_at;
 
 #[derive(Clone, Copy, Debug, PartialEq, Eq)]
@@ -31,14 +31,28 @@ impl Sizes {
 
     /// The sizes in the first six bytes, or the first that is out of limits.
     pub fn read(bytes: &[u8]) -> Result<Sizes, Answer> {
-        let [inputs, outputs, frames] = [0, 2, 4].map(|at| usize::from(word_at(bytes, at)));
-        if !(1..=Self::MOST_INPUTS).contains(&inputs) {
+        Sizes::judge(sizes_at_front(bytes))
+    }
+
+    /// The sizes of a plain network in the first six bytes: the one frame may have all inputs.
+    pub fn read_plain(bytes: &[u8]) -> Result<Sizes, Answer> {
+        Sizes::within(Self::MOST_SIGNALS, 1, sizes_at_front(bytes))
+    }
+
+    /// The sizes n, m, T, or the place in a file of the first that is out of limits.
+    pub fn judge(sizes: [u16; 3]) -> Result<Sizes, Answer> {
+        Sizes::within(Self::MOST_INPUTS, Self::MOST_FRAMES, sizes)
+    }
+
+    fn within(most_inputs: usize, most_frames: usize, sizes: [u16; 3]) -> Result<Sizes, Answer> {
+        let [inputs, outputs, frames] = sizes.map(usize::from);
+        if !(1..=most_inputs).contains(&inputs) {
             return Err(refused(SIZE, 0));
         }
         if !(1..=Self::MOST_OUTPUTS).contains(&outputs) {
             return Err(refused(SIZE, 2));
         }
-        if !(1..=Self::MOST_FRAMES).contains(&frames) || inputs * frames > Self::MOST_SIGNALS {
+        if !(1..=most_frames).contains(&frames) || inputs * frames > Self::MOST_SIGNALS {
             return Err(refused(SIZE, 4));
         }
         Ok(Sizes::new(inputs, outputs, frames))
@@ -85,7 +99,7 @@ impl Sizes {
     /// Judges a list of the input words of so many sequences: its length, then each word.
     pub fn judge_words(&self, sequences: usize, words: &[u16]) -> Result<(), Answer> {
         if words.len() != sequences * self.frames {
-            return Err(refused(WORD_COUNT, words.len()));
+            return Err(refused(LIST_LENGTH, words.len()));
         }
         match words.iter().position(|&word| !self.has_word(word)) {
             Some(index) => Err(refused(WORD, index)),
@@ -97,4 +111,8 @@ impl Sizes {
     pub fn has_word(&self, word: u16) -> bool {
         usize::from(word) < self.input_words()
     }
+}
+
+fn sizes_at_front(bytes: &[u8]) -> [u16; 3] {
+    [0, 2, 4].map(|at| word_at(bytes, at))
 }

@@ -50,6 +50,43 @@ pub const PARITY_FOLDED: [(usize, usize, usize, Answer); 12] = [
     (8, 7, 40, (0, 40)),
 ];
 
+/// Sizes n, m, T, the places of inputs and of outputs, and what spreading plain parity then answers with
+/// enough of all that is lent.
+type Spread = ([u16; 3], &'static [u16], &'static [u16], Answer);
+
+pub const PARITY_SPREAD: [Spread; 28] = [
+    // As over frames, in one frame, and with places that nothing has.
+    ([1, 1, 2], &[0, 1], &[0, 1], (0, 40)),
+    ([2, 2, 1], &[0, 1], &[0, 1], (0, 28)),
+    ([2, 2, 1], &[1, 0], &[1, 0], (0, 28)),
+    ([1, 2, 2], &[0, 1], &[0, 3], (0, 40)),
+    ([1, 2, 2], &[0, 1], &[2, 3], (0, 40)),
+    ([1, 1, 3], &[0, 2], &[0, 2], (0, 60)),
+    ([1, 1, 3], &[1, 0], &[1, 2], (0, 60)),
+    // The first output shows the first input, and the second needs both.
+    ([1, 1, 2], &[1, 0], &[0, 1], (4, 0)),
+    ([1, 1, 2], &[0, 1], &[1, 0], (4, 0)),
+    ([1, 2, 2], &[0, 1], &[0, 1], (4, 1)),
+    ([1, 2, 2], &[1, 0], &[3, 0], (4, 0)),
+    ([1, 1, 3], &[0, 2], &[0, 1], (4, 1)),
+    ([0, 0, 0], &[], &[], (2, 0)),
+    ([9, 1, 1], &[0, 1], &[0, 1], (2, 0)),
+    ([1, 0, 0], &[], &[], (2, 2)),
+    ([1, 17, 2], &[0, 1], &[0, 1], (2, 2)),
+    ([1, 1, 0], &[], &[], (2, 4)),
+    ([1, 1, 17], &[0, 1], &[0, 1], (2, 4)),
+    ([8, 1, 3], &[0, 1], &[0, 1], (2, 4)),
+    ([1, 1, 2], &[0], &[], (12, 1)),
+    ([1, 1, 2], &[2, 2, 2], &[0, 1], (12, 3)),
+    ([1, 1, 2], &[2, 2], &[], (12, 0)),
+    ([1, 1, 2], &[0, 1], &[0, 1, 2], (12, 3)),
+    ([1, 1, 2], &[0, 2], &[0, 2], (19, 1)),
+    ([1, 1, 2], &[0, 0], &[0, 2], (19, 3)),
+    ([1, 1, 2], &[1, 1], &[0, 0], (20, 1)),
+    ([1, 1, 2], &[0, 1], &[1, 1], (20, 3)),
+    ([2, 2, 1], &[0, 1], &[1, 1], (20, 3)),
+];
+
 /// Circuits and what checking them answers.
 pub fn checked() -> Vec<(Vec<u8>, Answer)> {
     let [parity, unconnected] =
@@ -182,8 +219,8 @@ mod tests {
     use crate::program::printed;
     use crate::{
         ask, check_circuit, check_table, commit, fold, fold_diagrams, layer_outputs, node_counts,
-        nodes_needed, plain_fold, quiet_step, run, simulate, step, unfold, view, Node, Position,
-        Sizes, Table,
+        nodes_needed, plain_fold, quiet_step, run, simulate, spread, step, unfold, view, Node,
+        Position, Schedule, Sizes, Table,
     };
 
     /// The table that a circuit folds to, with just enough records; all three ways to fold must find
@@ -328,6 +365,42 @@ mod tests {
                     answer,
                     |scratch, nodes, result| fold(&circuit, scratch, nodes, result),
                 );
+            }
+        }
+    }
+
+    /// Plain parity is a network of the same gates, so that it is judged as parity is.
+    #[test]
+    fn lent_slices_are_judged_as_given_for_plain_parity() {
+        let network = examples::plain_parity().to_bytes();
+        let schedule = Schedule {
+            sizes: [1, 1, 2],
+            input_places: vec![0, 1],
+            output_places: vec![0, 1],
+        };
+        for (numbers, records, bytes, answer) in PARITY_FOLDED {
+            assert_left(
+                (numbers, records, bytes),
+                answer,
+                |scratch, nodes, result| spread(&network, &schedule, scratch, nodes, result),
+            );
+        }
+    }
+
+    #[test]
+    fn plain_parity_is_spread_as_given() {
+        let network = examples::plain_parity().to_bytes();
+        for (sizes, input_places, output_places, answer) in PARITY_SPREAD {
+            let schedule = Schedule {
+                sizes,
+                input_places: input_places.to_vec(),
+                output_places: output_places.to_vec(),
+            };
+            let (mut scratch, mut nodes, mut result) = ([7; 16], [[7; 3]; 9], [0xee; 60]);
+            let found = spread(&network, &schedule, &mut scratch, &mut nodes, &mut result);
+            assert_eq!(found, answer, "{schedule:?}");
+            if sizes == [1, 1, 2] && answer.0 == 0 {
+                assert_eq!(result[..40], to_bytes(&PARITY_TABLE));
             }
         }
     }

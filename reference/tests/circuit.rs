@@ -9,13 +9,15 @@ mod common;
 mod evaluator;
 #[path = "common/faults.rs"]
 mod faults;
+#[path = "common/limits.rs"]
+mod limits;
 #[path = "common/simulating.rs"]
 mod simulating;
 
 use circuit_calls::CIRCUIT;
 use combinations::{length, with_faults, Fault};
 use common::{seeds, Seen};
-use faults::sizes_around_the_limits;
+use limits::sizes_around_the_limits;
 use reference::gates::{not, FALSE, UNCONNECTED};
 use reference::gen::{all_sizes, any_sizes, circuits, damaged, sizes_with, Rng};
 use reference::words::{set_word, to_bytes, word_at};

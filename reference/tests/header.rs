@@ -8,7 +8,8 @@ mod root;
 
 use std::env;
 use std::fmt::{Display, Write};
-use std::path::Path;
+use std::fs;
+use std::path::{Path, PathBuf};
 use std::process::Command;
 
 use child::written;
@@ -16,12 +17,12 @@ use reference::vectors::{PARITY_PLAN, PARITY_TABLE};
 use reference::words::{to_bytes, words_at};
 use reference::{
     ask, check_circuit, check_table, commit, examples, fold, layer_outputs, price, quiet_step,
-    reach, run, simulate, step, unfold, view, Node, Position,
+    reach, run, simulate, spread, step, unfold, view, Node, Position, Schedule,
 };
 use root::root;
 
-/// What the C program in the file `source` of the repository prints.
-fn printed(source: &str) -> String {
+/// The C program in the file `source` of the repository, compiled.
+fn compiled(source: &str) -> PathBuf {
     let library = env::var_os("TFF_LIB_DIR").map_or_else(
         || root().join("target/staticlib"),
         |given| root().join("bindings/rust").join(given),
@@ -39,7 +40,12 @@ fn printed(source: &str) -> String {
         .args(["-ltff", "-o"])
         .arg(&program);
     written(&mut compiler, &[]);
-    written(&mut Command::new(&program), &[])
+    program
+}
+
+/// What it prints.
+fn printed(source: &str) -> String {
+    written(&mut Command::new(compiled(source)), &[])
 }
 
 /// What `examples/parity.c` is to print.
@@ -179,6 +185,21 @@ fn calls_lines() -> String {
         (28, 21, 8, 7, 39),
         (28, 21, 8, 7, 40),
     ];
+    let places = [0, 1, 0, 0, 2];
+    // Refused with 1, 2, 12, 12, 19, 20, 4, 6, 18, 7, and accepted.
+    let spreads = [
+        (27, 2, 0..2, 0..2, [8, 7, 40]),
+        (28, u16::MAX, 0..2, 0..2, [8, 7, 40]),
+        (28, 2, 0..1, 0..3, [8, 7, 40]),
+        (28, 2, 0..2, 0..3, [8, 7, 40]),
+        (28, 2, 2..4, 3..5, [8, 7, 40]),
+        (28, 2, 0..2, 2..4, [8, 7, 40]),
+        (28, 2, 1..3, 0..2, [7, 6, 39]),
+        (28, 2, 0..2, 0..2, [7, 6, 39]),
+        (28, 2, 0..2, 0..2, [8, 6, 39]),
+        (28, 2, 0..2, 0..2, [8, 7, 39]),
+        (28, 2, 0..2, 0..2, [8, 7, 40]),
+    ];
     let steps = [
         (40, 0, 0, 1),
         (40, 1, 0, 1),
@@ -253,6 +274,26 @@ fn calls_lines() -> String {
             .into()
         });
     }
+    let network = examples::plain_parity().to_bytes();
+    for (length, frames, inputs, outputs, [scratch, records, result]) in spreads {
+        let schedule = Schedule {
+            sizes: [1, 1, frames],
+            input_places: places[inputs].to_vec(),
+            output_places: places[outputs].to_vec(),
+        };
+        text += &line("spread", |lent| {
+            spread(
+                &network[..length],
+                &schedule,
+                &mut lent.numbers[..scratch],
+                &mut lent.nodes[..records],
+                &mut lent.bytes[..result],
+            )
+            .into()
+        });
+    }
+    // Its answer is too short.
+    text += &line("spread", |_| []);
     for length in [40, 39] {
         text += &line("check_table", |_| check_table(&table[..length]).into());
     }
@@ -377,6 +418,37 @@ layer 3: 11, 3: 0 bytes at 0:
 #[test]
 fn the_c_views_hide_a_lock_and_show_every_layer() {
     assert_eq!(printed("examples/view.c"), LOCK);
+}
+
+/// What `examples/spread.c` is to print for the adder and the lists of the source.
+const ADDER: &str = "\
+layer states
+0 1
+1 2
+2 2
+3 1
+total 6
+frame 1: connected 1
+frame 2: connected 1
+frame 3: connected 3
+";
+
+#[test]
+fn the_c_program_spreads_the_adder() {
+    let network = fs::read(root().join("examples/plain_adder.circuit")).expect("the adder");
+    let program = compiled("examples/spread.c");
+    let spread = |bits: &str, sums: &str| {
+        let mut command = Command::new(&program);
+        command.args(["2", "2", "3", bits, sums]);
+        written(&mut command, &network)
+    };
+    assert_eq!(spread("0,2,4,1,3,5", "0,2,4,5"), ADDER);
+    assert_eq!(spread("1,3,5,0,2,4", "0,2,4,5"), ADDER);
+    // The highest bits first; a list too short; a place that there is not, and one that is there twice.
+    assert_eq!(spread("4,2,0,5,3,1", "0,2,4,5"), "refused 4 0\n");
+    assert_eq!(spread("0,2,4,1,3", "0,2,4,5"), "refused 12 5\n");
+    assert_eq!(spread("0,2,4,1,3,65536", "0,2,4,5"), "refused 19 5\n");
+    assert_eq!(spread("0,2,4,1,3,5", "0,2,4,4"), "refused 20 9\n");
 }
 
 #[test]

@@ -24,12 +24,13 @@ fn compare(input: &[u8]) {
     assert_eq!(run_program(input), printed(input), "{} bytes", input.len());
 }
 
-fn example_files() -> [(&'static str, Circuit); 5] {
+fn example_files() -> [(&'static str, Circuit); 6] {
     [
         ("parity", examples::parity()),
         ("crossed", examples::crossed()),
         ("unconnected", examples::unconnected()),
         ("adder", examples::adder()),
+        ("plain_adder", examples::plain_adder()),
         ("s27", examples::s27()),
     ]
 }
@@ -50,6 +51,7 @@ fn examples_print_the_counts_of_the_papers() {
         [1, 2, 1, 0],
         [1, 2, 1, 0],
         [1, 2, 2, 1],
+        [1, 1, 0, 0],
         [1, 4, 4, 1],
     ];
     for ((name, circuit), counts) in example_files().into_iter().zip(counts) {

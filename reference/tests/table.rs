@@ -7,6 +7,8 @@ mod common;
 mod evaluator;
 #[path = "common/faults.rs"]
 mod faults;
+#[path = "common/limits.rs"]
+mod limits;
 #[path = "common/places.rs"]
 mod places;
 #[path = "common/three_frames.rs"]
@@ -15,7 +17,7 @@ mod three_frames;
 use combinations::with_faults;
 use common::{compare, seeds, short_answers_change_nothing, Case, Room, Seen};
 use evaluator::Evaluator;
-use faults::sizes_around_the_limits;
+use limits::sizes_around_the_limits;
 use places::{places, places_around, Place};
 use reference::gen::{all_sizes, any_sizes, damaged, sizes_with, tables, Rng};
 use reference::table::Head;

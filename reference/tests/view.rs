@@ -10,14 +10,16 @@ mod evaluator;
 mod faults;
 #[path = "common/folded.rs"]
 mod folded;
+#[path = "common/limits.rs"]
+mod limits;
 #[path = "common/three_frames.rs"]
 mod three_frames;
 
 use combinations::{with_faults, Fault};
 use common::{compare, seeds, short_answers_change_nothing, Case, Room, Seen};
 use evaluator::Evaluator;
-use faults::sizes_around_the_limits;
 use folded::folded;
+use limits::sizes_around_the_limits;
 use reference::gen::{
     all_sizes, any_connected, any_sequence, any_sizes, circuits, damaged, tables, Rng,
 };

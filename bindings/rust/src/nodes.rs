@@ -1,6 +1,6 @@
 //! Records to fold in, as many as it takes.
 
-use crate::{ask, commit, fold, Answer, Node, Plan};
+use crate::{ask, commit, fold, spread, Answer, Node, Plan, Schedule};
 
 /// The number of a call that has too few records.
 const TOO_FEW: u64 = 18;
@@ -21,7 +21,7 @@ impl Nodes {
     /// How many records a list has at first.
     pub const FIRST: usize = 16_384;
 
-    /// Enough for every circuit. At each of the first twelve inputs a gate has at most twice the nodes
+    /// Enough for every circuit and network. At each of the first twelve inputs a gate has at most twice the nodes
     /// of the input before, one at the first; at the last four inputs all functions together have
     /// 65,534.
     pub const ENOUGH: usize = 16 + 4_096 * 4_095 + 65_534;
@@ -63,6 +63,22 @@ impl Nodes {
     ) -> Answer {
         loop {
             let answer = commit(circuit, plan, scratch, &mut self.list, result);
+            if answer.number != TOO_FEW || !self.grow() {
+                return answer;
+            }
+        }
+    }
+
+    /// Spreads a network as `spread` does.
+    pub fn spread(
+        &mut self,
+        network: &[u8],
+        schedule: &Schedule,
+        scratch: &mut [u16],
+        result: &mut [u8],
+    ) -> Answer {
+        loop {
+            let answer = spread(network, schedule, scratch, &mut self.list, result);
             if answer.number != TOO_FEW || !self.grow() {
                 return answer;
             }

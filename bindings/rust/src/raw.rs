@@ -83,6 +83,26 @@ extern "C" {
         answer_len: usize,
     );
 
+    pub fn tff_spread(
+        network: *const u8,
+        network_len: usize,
+        n: u16,
+        m: u16,
+        t: u16,
+        input_places: *const u16,
+        input_places_len: usize,
+        output_places: *const u16,
+        output_places_len: usize,
+        scratch: *mut u16,
+        scratch_len: usize,
+        nodes: *mut Node,
+        nodes_len: usize,
+        result: *mut u8,
+        result_len: usize,
+        answer: *mut u64,
+        answer_len: usize,
+    );
+
     pub fn tff_check_table(table: *const u8, table_len: usize, answer: *mut u64, answer_len: usize);
 
     pub fn tff_run(

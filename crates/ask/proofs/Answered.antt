@@ -1,5 +1,5 @@
 -- What asking answers of a circuit that was judged and surveyed, and what it leaves. Assumes nothing.
-use mathlib.Core.Path.{_≡_, refl, sym, ap, _∙_}
+use mathlib.Core.Path.{_≡_, refl, sym, ap, _∙_, subst}
 use mathlib.Core.Bool.{true, false}
 use mathlib.Core.List.{List, _++_}
 use Prim.Native.Nat.{ℕ, zero, suc, _+_, _*_, _-_, _^_, _≤_, _<_, min}
@@ -17,14 +17,19 @@ use Rattle.verdict.specs.declared.Verdict.the-variants as judgement
 use Rattle.verdict.proofs.Laws.{never}
 use Rattle.layered.proofs.Rows.{pow-mul}
 use Rattle.sizes.specs.Sizes.{inputs, frames}
-use Rattle.circuit.specs.Circuit.{gates, allInputs, checked}
-use Rattle.circuit.specs.WellFormed.{WellFormed}
+use Rattle.circuit.specs.Circuit.{gates, allInputs}
+use Rattle.circuit.specs.WellFormed.{CircuitHeaded, WellFormed, Formed}
 use Rattle.circuit.specs.declared.Head.{Head}
+use Rattle.circuit.proofs.Accepted.{accepted as circuitAccepted}
+use Rattle.source.specs.Source.{sourced, WholeOf, SourceOf}
+use Rattle.source.specs.declared.Source.{Source}
+use Rattle.source.proofs.Sources.{sourced-whole, whole-source}
+use Rattle.lent.proofs.Needed.{needed-is, bits-fit}
 use Rattle.nodes.specs.declared.Node.{Node}
 use Rattle.records.specs.Records.{none}
 use Rattle.survey.specs.Survey.{workLength, mostRecords, Surveyable, Surveyed}
 use Rattle.survey.specs.declared.Survey.{Survey}
-use Rattle.folded.specs.Folded.{scratchNeeded, scratchChecked, nodesChecked, cleared, scratchAfter, nodesAfter}
+use Rattle.folded.specs.Folded.{scratchNeeded, scratchChecked, nodesChecked, clearedTo, cleared, scratchAfter, nodesAfter}
 use Rattle.folded.specs.Planned.{planLength, foldedPlan, asked}
 use Rattle.folded.specs.Theorems.{Asking, Askings}
 use Rattle.folded.proofs.Counting.{firstAbove, first-most, nodes-refused, nodes-pass, capped}
@@ -34,10 +39,6 @@ use Rattle.ask.specs.declared.plan.Plan.{Plan}
 use Rattle.ask.specs.declared.plan.Asked.{Asked}
 use Rattle.ask.specs.declared.plan.Asked.the-variants.{Planned, Refused}
 use Rattle.ask.specs.Plan.{planNumbers, askPlan, askNumbers, Found, Answers, Refuses}
-
--- the place of an acceptance
-pub zero-number : (b : List ℕ) → checked b .number ≡ 0 → checked b ≡ answer 0 (checked b .place)
-zero-number b e = ap (λ n. answer n (checked b .place)) e
 
 module _ (b : List ℕ) (h : Head) (W : WellFormed b h) (survey : Survey) where
   -- counting nodes, by the survey's place
@@ -139,13 +140,23 @@ module _ (b s : List ℕ) (ys : List Node) (v : Verdict) (judged : figures v ≡
     pub judged-passed : scratchChecked b (length s) ≡ answer 0 0
     judged-passed = scratch-passed b (length s) (ap (λ (f : Figures). eqb (f .number) 0) (sym judged) ∙ yes)
 
+    pub headed-all : Formed b
+    headed-all = circuitAccepted b _ (scratch-tells b (length s) judged-passed .0) .form
+
+    pub headed : CircuitHeaded b
+    headed = headed-all .head
+
+    -- what is needed of the scratch can be cleared
+    pub clearable : (h : Source) → WholeOf b h → (s₂ : List ℕ) → length s₂ ≡ length s → (h .inputs * h .frames ≤ 16) × (2 * 2 ^ (h .inputs * h .frames) ≤ length s₂)
+    clearable h O s₂ l = (bits-fit b h headed (O .head-is), omega (arith, needed-is b h (O .head-is), scratch-tells b (length s) judged-passed .1))
+
     module _ (s₁ : List ℕ) (l₁ : length s₁ ≡ length s) (left : s₁ ≡ scratchAfter b s) where
       s₁-is : s₁ ≡ cleared b s
       s₁-is = left ∙ used b s judged-passed
 
       pub surveyable : (ws : List ℕ) → ws ≡ replicate workLength 0 → Surveyable b s₁ ws
       surveyable ws e = let t = scratch-tells b (length s) judged-passed in record {
-        accepted = ap (λ (f : Figures). f .number) (t .0);
+        accepted = circuitAccepted b _ (t .0);
         room = omega (arith, needed-as b, t .1, l₁);
         clean = λ j l. ap (λ (r : List ℕ). getD r j 0) s₁-is ∙ cleared-zero b s j (omega (arith, needed-as b));
         zeros = λ i. ap (λ (r : List ℕ). getD r i 0) e ∙ zeros-at workLength i;
@@ -156,7 +167,7 @@ module _ (b s : List ℕ) (ys : List Node) (v : Verdict) (judged : figures v ≡
       module _ (ns : List Node) (s₂ ws : List ℕ) (found : Survey) (l₂ : length s₂ ≡ length s) (S : Surveyed b (length ys) ns s₁ s₂ ws found) where
         pub found-is : Found b found
         found-is = record {
-          accepted = ap (λ (f : Figures). f .number) (scratch-tells b (length s) judged-passed .0);
+          accepted = circuitAccepted b _ (scratch-tells b (length s) judged-passed .0);
           most = omega (arith, S .place-is, first-most b (min (length ys) mostRecords));
           counted = λ e. S .known e .counted;
         }
@@ -176,3 +187,19 @@ module _ (b s : List ℕ) (ys : List Node) (v : Verdict) (judged : figures v ≡
         pub answered : (a : Asked) → Answers b found a → askNumbers a ≡ asked b (length s) (length ys)
         unfolding Answers
         answered a h = h (length s) (length ys) judged-passed (S .place-is)
+
+-- ---- the source of a circuit as it stands
+
+module _ (b : List ℕ) (h : Source) where
+  pub sourced-survey : (s ws : List ℕ) → Formed b → WholeOf b h → Surveyable b s ws → SourceOf b h × Surveyable (sourced h b) s ws
+  sourced-survey s ws F O S = (whole-source b h F O, subst (λ b. Surveyable b s ws) (sym (sourced-whole b h (O .whole-is))) S)
+
+  pub sourced-found : (survey : Survey) → Formed b → WholeOf b h → Found b survey → SourceOf b h × Found (sourced h b) survey
+  sourced-found survey F O S = (whole-source b h F O, subst (λ b. Found b survey) (sym (sourced-whole b h (O .whole-is))) S)
+
+  pub sourced-answers : WholeOf b h → (survey : Survey) (a : Asked) → Answers (sourced h b) survey a → Answers b survey a
+  sourced-answers O survey a = subst (λ b. Answers b survey a) (sourced-whole b h (O .whole-is))
+
+  pub cleared-is : WholeOf b h → (s s′ : List ℕ) → s′ ≡ clearedTo (2 * 2 ^ (h .inputs * h .frames)) s → s′ ≡ cleared b s
+  unfolding cleared
+  cleared-is O s s′ e = e ∙ ap (λ k. clearedTo k s) (needed-is b h (O .head-is))

@@ -3,19 +3,18 @@ use mathlib.Core.Path.{_≡_, refl, sym, ap, ap₂, _∙_}
 use mathlib.Core.Bool.{cond}
 use mathlib.Core.Logic.{⊎-elim}
 use mathlib.Core.List.{List, [], _∷_, _++_}
-use Prim.Native.Nat.{ℕ, _^_, _≤_, _<_}
+use Prim.Native.Nat.{ℕ, _*_, _^_, _≤_, _<_}
 use native.Mathlib.Omega.{arith}
 use native.Mathlib.Decide.{decLt}
-use native.Mathlib.Nat.{eq-or-lt-of-le}
+use native.Mathlib.Nat.{mul-le-mul-left, eq-or-lt-of-le}
 use lib.Dec.{ltb}
 use lib.Pow.{pow-pos, pow-mono}
 use lib.ListN.{length, getD}
 use borrow.Author.Tests.{le-ltb, lt-ltb}
-use Rattle.verdict.specs.Judgements.{answer}
 use Rattle.sizes.specs.Sizes.{inputs, outputs, frames}
 use Rattle.layered.specs.Search.{join, tabulate}
 use Rattle.layered.proofs.Lists.{tabulated}
-use Rattle.circuit.specs.Circuit.{checked}
+use Rattle.circuit.specs.WellFormed.{CircuitHeaded, Accepted}
 use Rattle.circuit.specs.Theorems.{response}
 use Rattle.layered.specs.States.{count}
 use Rattle.layered.proofs.States.{count-last}
@@ -52,18 +51,22 @@ counts-to b counts h C = tabulated 17 (λ k. cond (ltb (frames b) k) 0 (stateCou
 
 -- ---- the plan
 
-pub plan-is : (b counts : List ℕ) (cs : Counts) (p n m T x : ℕ) → checked b ≡ answer 0 p → 1 ≤ frames b → Counted b counts
+pub plan-is : (b counts : List ℕ) (cs : Counts) (n m T x : ℕ) → Accepted b → 1 ≤ frames b → Counted b counts
     → n ≡ inputs b → m ≡ outputs b → T ≡ frames b → cs ≡ countsOf counts → x ≡ length (foldedBytes b)
     → n ∷ m ∷ T ∷ (countList cs ++ (x ∷ [])) ≡ foldedPlan b
-plan-is b counts cs p n m T x e h C en em eT ec ex =
+plan-is b counts cs n m T x A h C en em eT ec ex =
     ap₂ (λ (n : ℕ) (l : List ℕ). n ∷ l) en
     (ap₂ (λ (m : ℕ) (l : List ℕ). m ∷ l) em
     (ap₂ (λ (T : ℕ) (l : List ℕ). T ∷ l) eT
     (ap₂ (λ (c : List ℕ) (x : ℕ). c ++ (x ∷ [])) (ap countList ec ∙ counts-back counts (C .places) ∙ counts-to b counts h C) ex)))
-    ∙ sym (folded-plan b p e)
+    ∙ sym (folded-plan b A)
 
 -- ---- sizes
 
 -- two words at least are below 2^n
 pub two-words : (n : ℕ) → 1 ≤ n → 2 ≤ 2 ^ n
 two-words n h = pow-mono {i = 1} h
+
+-- the bits of t words
+pub bits-below : (b : List ℕ) → CircuitHeaded b → (t : ℕ) → t ≤ frames b → inputs b * t ≤ 16
+bits-below b H t h = omega (arith, mul-le-mul-left (inputs b) h, H .sizes .bits-to)

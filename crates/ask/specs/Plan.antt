@@ -9,7 +9,8 @@ use Rattle.verdict.specs.declared.Refusal.{Refusal}
 use Rattle.verdict.specs.declared.Verdict.{Verdict}
 use Rattle.verdict.specs.declared.Verdict.the-variants as judgement
 use Rattle.sizes.specs.Sizes.{inputs, outputs, frames}
-use Rattle.circuit.specs.Circuit.{gates, allInputs, checked}
+use Rattle.circuit.specs.Circuit.{gates, allInputs}
+use Rattle.circuit.specs.WellFormed.{Accepted}
 use Rattle.circuit.specs.Theorems.{response}
 use Rattle.diagrams.specs.Building.{firstOver}
 use Rattle.functions.specs.Functions.{signalOn}
@@ -73,7 +74,7 @@ Counted b counts = CountsTo (inputs b) (outputs b) (frames b) (response b) count
 
 -- the circuit is accepted, and where the records were enough, its states are counted
 pub record Found (b : List ℕ) (survey : Survey) : Type 0 where
-  pub accepted : checked b .number ≡ 0
+  pub accepted : Accepted b
   pub most : survey .place ≤ gates b + 1
   pub counted : survey .place ≡ gates b + 1 → Counted b (survey .counts)
 

@@ -1,7 +1,6 @@
 // Asks for the plan of a circuit's table: its sizes, counts and bytes, before it is written.
 pub mod plan;
 
-use circuit::Head;
 use lent::accepts;
 use lent::clear_needed;
 use lent::judge_lent;
@@ -11,6 +10,7 @@ use plan::Counts;
 use plan::Plan;
 use records::clear as empty;
 use sizes::power;
+use source::Source;
 use survey::Survey;
 use survey::no_work;
 use survey::survey_circuit;
@@ -19,8 +19,8 @@ use verdict::Refusal;
 use verdict::Verdict;
 ghost use mathlib.Core.Path.{_≡_};
 ghost use lib.ListN.{length};
-ghost use Rattle.circuit.specs.Circuit.{checked};
-ghost use Rattle.circuit.specs.WellFormed.{WellFormed};
+ghost use Rattle.circuit.specs.WellFormed.{Accepted};
+ghost use Rattle.source.specs.Source.{sourced, SourceOf};
 ghost use Rattle.folded.specs.Folded.{foldedBytes, scratchAfter, nodesAfter};
 ghost use Rattle.folded.specs.Planned.{foldedPlan, asked};
 ghost use Rattle.folded.specs.Theorems.{Asking};
@@ -29,46 +29,45 @@ ghost use Rattle.ask.specs.declared.plan.Asked.the-variants.{Planned};
 ghost use Rattle.ask.specs.Plan.{Counted, Found, Answers, Refuses, planNumbers, askNumbers};
 
 // How many bytes the table takes.
-fn bytes_needed(circuit: &[u8], head: Head, counts: &[u16]) -> usize
-    requires { ⌜ WellFormed (now circuit) head ⌝ }
-    requires { ⌜ Counted (now circuit) (now counts) ⌝ }
-    ensures { λ r. ⌜ r ≡ length (foldedBytes (now (circuit .entry))) ⌝ }
+fn bytes_needed(circuit: &[u8], source: Source, counts: &[u16]) -> usize
+    requires { ⌜ SourceOf (now circuit) source ⌝ }
+    requires { ⌜ Counted (sourced source (now circuit)) (now counts) ⌝ }
+    ensures { λ r. ⌜ r ≡ length (foldedBytes (sourced source (now (circuit .entry)))) ⌝ }
 {
-    let frames = head.frames;
+    let frames = source.frames;
     let mut states = 0;
     for t in 0..frames {
         states += counts[t] as usize;
     }
-    head_length(frames) + 4 * (states * power(head.inputs))
+    head_length(frames) + 4 * (states * power(source.inputs))
 }
 
-// The plan of an accepted circuit whose states are counted.
-pub fn plan_of(circuit: &[u8], survey: Survey) -> Plan
-    requires { ⌜ (checked (now circuit) .number ≡ 0) × Counted (now circuit) (survey .counts) ⌝ }
-    ensures { λ r. ⌜ planNumbers r ≡ foldedPlan (now (circuit .entry)) ⌝ }
+// The plan of an accepted circuit, or of a network by its source, whose states are counted.
+pub fn plan_of(circuit: &[u8], survey: Survey, source: Source) -> Plan
+    requires { ⌜ SourceOf (now circuit) source × Accepted (sourced source (now circuit)) × Counted (sourced source (now circuit)) (survey .counts) ⌝ }
+    ensures { λ r. ⌜ planNumbers r ≡ foldedPlan (sourced source (now (circuit .entry))) ⌝ }
 {
-    let head = Head::read(circuit);
     let counts = survey.counts;
-    let bytes = bytes_needed(circuit, head, &counts);
+    let bytes = bytes_needed(circuit, source, &counts);
     Plan {
-        inputs: head.inputs,
-        outputs: head.outputs,
-        frames: head.frames,
+        inputs: source.inputs,
+        outputs: source.outputs,
+        frames: source.frames,
         counts: Counts::of(counts),
         bytes,
     }
 }
 
 // What asking answers of a circuit that was judged and surveyed: 18, or its plan.
-pub fn asked_of(circuit: &[u8], survey: Survey) -> Asked
-    requires { ⌜ Found (now circuit) survey ⌝ }
-    ensures { λ r. ⌜ Answers (now (circuit .entry)) survey r ⌝ }
+pub fn asked_of(circuit: &[u8], survey: Survey, source: Source) -> Asked
+    requires { ⌜ SourceOf (now circuit) source × Found (sourced source (now circuit)) survey ⌝ }
+    ensures { λ r. ⌜ Answers (sourced source (now (circuit .entry))) survey r ⌝ }
 {
     let place = survey.place;
-    if place <= Head::read(circuit).gates {
+    if place <= source.gates {
         return Asked::Refused(Refusal::Nodes(place));
     }
-    Asked::Planned(plan_of(circuit, survey))
+    Asked::Planned(plan_of(circuit, survey, source))
 }
 
 // What asking answers where a judgement refuses.
@@ -92,9 +91,10 @@ pub fn ask(circuit: &[u8], scratch: &mut [u16], nodes: &mut [Node]) -> Asked
     if !accepts(judged) {
         return refused(judged);
     }
+    let source = Source::of(circuit);
     let mut work = no_work();
-    let found = survey_circuit(circuit, scratch, nodes, &mut work);
+    let found = survey_circuit(circuit, scratch, nodes, &mut work, source);
     empty(nodes);
-    clear_needed(circuit, scratch);
-    asked_of(circuit, found)
+    clear_needed(scratch, source);
+    asked_of(circuit, found, source)
 }

@@ -30,9 +30,11 @@ use denote.Triple.Spec.{tripleOf}
 use denote.Triple.Statement.{Contract, Triple}
 use denote.Triple.Clauses.{ensured, lasts}
 use denote.Triple.Walked.{says}
-use Rattle.circuit.specs.declared.Head.{Head}
-use Rattle.circuit.proofs.Head as D
-use Rattle.circuit.proofs.Head.Laws as D′
+use Rattle.source.specs.declared.Source.{Source}
+use Rattle.source.specs.Source.{headOf, sourced, SourceOf}
+use Rattle.source.proofs.Source as D
+use Rattle.source.proofs.Source.Laws as D′
+use Rattle.source.proofs.Values.{sourceVal}
 use Rattle.nodes.specs.declared.Node.{Node}
 use Rattle.nodes.proofs.Node as T
 use Rattle.conjoin.specs.declared.Shape.{Shape}
@@ -47,13 +49,13 @@ use Rattle.build.proofs.build.Symbol.{name as #build}
 
 -- what it says of its result and the last lists
 abbrev pub Told : List ℕ → Shape → ℕ → List Node → List ℕ → Type 0
-Told cs m r zs us = Building cs (m .room) zs us r
+Told b m r zs us = Building b (m .room) zs us r
 
 module _ {M : Type 1} (𝓤 : URA M) (H : Heap 𝓤) (A : Atoms 𝓤) (mem : Memory → SProp 𝓤) (run : Routine → Fun 𝓤) where
   abbrev pub BuildFn : Contract 𝓤
   BuildFn = tripleOf 𝓤 H A g.signature (g.spec 𝓤 H A mem run)
 
-  module _ (W : Given 𝓤 H A) (κ₀ : Lft) (q₀ : Share) (b₀ o₀ : ℕ) (γ₀ : GName) (cs : List ℕ) (h : Head) (b o n : ℕ) (ys : List Node) (b′ o′ n′ : ℕ) (ws : List ℕ) (m : Shape) (gh : Is D.the-row h (LL.vals D.the-type D′.the-laws h)) (gm : Is S.the-row m (LL.vals S.the-type S′.the-laws m)) where
+  module _ (W : Given 𝓤 H A) (κ₀ : Lft) (q₀ : Share) (b₀ o₀ : ℕ) (γ₀ : GName) (cs : List ℕ) (h : Source) (b o n : ℕ) (ys : List Node) (b′ o′ n′ : ℕ) (ws : List ℕ) (m : Shape) (gh : Is D.the-row h (LL.vals D.the-type D′.the-laws h)) (gm : Is S.the-row m (LL.vals S.the-type S′.the-laws m)) where
     abbrev n₀ : ℕ
     n₀ = length cs
 
@@ -70,7 +72,7 @@ module _ {M : Type 1} (𝓤 : URA M) (H : Heap 𝓤) (A : Atoms 𝓤) (mem : Mem
     to ν δ ν′ δ′ = (((κ₀, (ν ∷ [], (ν′ ∷ [], tt))), (q₀, (fullShare, (fullShare, tt))), tt, (x₀, (h, (x δ, (y δ′, (m, tt))))), (sliceVal (b₀, o₀) n₀ ∷ [], (LL.vals D.the-type D′.the-laws h, (sliceVal (b, o) n ∷ [], (sliceVal (b′, o′) n′ ∷ [], (LL.vals S.the-type S′.the-laws m, tt)))))), tt)
 
     abbrev pub args : List Val
-    args = sliceVal (b₀, o₀) n₀ ∷ D′.lowered h ∷ sliceVal (b, o) n ∷ sliceVal (b′, o′) n′ ∷ S′.lowered m ∷ []
+    args = sliceVal (b₀, o₀) n₀ ∷ sourceVal h ∷ sliceVal (b, o) n ∷ sliceVal (b′, o′) n′ ∷ S′.lowered m ∷ []
 
     -- what it takes, and what it gives back
     abbrev pub Takes : ℕ → GName → ℕ → GName → SProp 𝓤
@@ -78,13 +80,13 @@ module _ {M : Type 1} (𝓤 : URA M) (H : Heap 𝓤) (A : Atoms 𝓤) (mem : Mem
 
     abbrev pub Back : ℕ → GName → ℕ → GName → Val → ℕ → List Node → List ℕ → SProp 𝓤
     Back ν δ ν′ δ′ w r zs us =
-        guard 𝓤 ((length zs ≡ length ys) × ((length us ≡ length ws) × Told cs m r zs us))
+        guard 𝓤 ((length zs ≡ length ys) × ((length us ≡ length ws) × Told (sourced h cs) m r zs us))
         (sep 𝓤 (A .lft κ₀ q₀) (sep 𝓤 (A .lft (ν ∷ []) fullShare) (sep 𝓤 (sem 𝓤 H A (finally T.the-row δ zs)) (sep 𝓤 (A .lft (ν′ ∷ []) fullShare) (sep 𝓤 (sem 𝓤 H A (finally u32 δ′ us)) (sem 𝓤 H A (usize .own r (w ∷ []))))))))
 
     abbrev pub Answers : ℕ → GName → ℕ → GName → Val → SProp 𝓤
     Answers ν δ ν′ δ′ w = H .⇛ (ex 𝓤 (λ (r : ℕ). ex 𝓤 (λ (zs : List Node). ex 𝓤 (λ (us : List ℕ). Back ν δ ν′ δ′ w r zs us))))
 
-    goes : Buildable cs h ys ws m → (ν : ℕ) (δ : GName) (ν′ : ℕ) (δ′ : GName) → ent 𝓤 (Takes ν δ ν′ δ′) (BuildFn .pre (to ν δ ν′ δ′))
+    goes : SourceOf cs h × Buildable (sourced h cs) (headOf h) ys ws m → (ν : ℕ) (δ : GName) (ν′ : ℕ) (δ′ : GName) → ent 𝓤 (Takes ν δ ν′ δ′) (BuildFn .pre (to ν δ ν′ δ′))
     goes pre ν δ ν′ δ′ =
         qed W (‵ (flft κ₀ q₀) ∷ ‵ (shr-at u8 b₀ o₀ n₀ κ₀ γ₀ cs) ∷ ‵ (flft (ν ∷ []) fullShare) ∷ ‵ (own-at T.the-row b o n (ν ∷ []) δ ys) ∷ ‵ (flft (ν′ ∷ []) fullShare) ∷ ‵ (own-at u32 b′ o′ n′ (ν′ ∷ []) δ′ ws) ∷ []) ∵ says ! pre $
         nothing ! $ move ! (5 ∷ 0 ∷ []) $ join ! $ move ! (3 ∷ 0 ∷ []) $ join ! $ move ! (1 ∷ 0 ∷ []) $ join ! $ frame ! $
@@ -95,8 +97,8 @@ module _ {M : Type 1} (𝓤 : URA M) (H : Heap 𝓤) (A : Atoms 𝓤) (mem : Mem
     gives ν δ ν′ δ′ w =
         qed W (raw (BuildFn .post (to ν δ ν′ δ′) w) ∷ []) ∵ updating ! $
         use1 W (later (some (λ (r : ℕ). ((‵ (flft κ₀ q₀) ⊛ ‵ (flft (ν ∷ []) fullShare) ⊛ ‵ (flft (ν′ ∷ []) fullShare) ⊛ ‵ ftrue) ⊛ ‵ (usize .own r (w ∷ []))) ⊛ raw (ensured 𝓤 H A g.ended (g.clauses 𝓤 H A mem run) (κ₀, (ν ∷ [], (ν′ ∷ [], tt))) (x₀, (h, (x δ, (y δ′, (m, tt))))) tt r)))) (id⊢ 𝓤 _) $ await ! tt $ pick ! (λ r.
-        split ! $ move ! (1 ∷ []) $ use1 W (some (λ (ls : Unit {0} × (Unit {0} × (List Node × (List ℕ × (Unit {0} × Unit {0}))))). ‵ (lasts g.ended (κ₀, (ν ∷ [], (ν′ ∷ [], tt))) (x₀, (h, (x δ, (y δ′, (m, tt))))) ls) ⊛ raw (fact 𝓤 (Told cs m r (ls .1 .1 .0) (ls .1 .1 .1 .0))))) (id⊢ 𝓤 _) $ pick ! (λ ls.
-        split ! $ move ! (1 ∷ []) $ heard ! (Told cs m r (ls .1 .1 .0) (ls .1 .1 .1 .0)) (λ e. fsplit ! $ drop ! $ fsplit ! $ drop ! $ fsplit ! $ fsplit ! $ move ! (1 ∷ []) $ feqL ! (λ l. move ! (1 ∷ []) $ fsplit ! $ fsplit ! $ move ! (1 ∷ []) $ feqL ! (λ l′.
+        split ! $ move ! (1 ∷ []) $ use1 W (some (λ (ls : Unit {0} × (Unit {0} × (List Node × (List ℕ × (Unit {0} × Unit {0}))))). ‵ (lasts g.ended (κ₀, (ν ∷ [], (ν′ ∷ [], tt))) (x₀, (h, (x δ, (y δ′, (m, tt))))) ls) ⊛ raw (fact 𝓤 (Told (sourced h cs) m r (ls .1 .1 .0) (ls .1 .1 .1 .0))))) (id⊢ 𝓤 _) $ pick ! (λ ls.
+        split ! $ move ! (1 ∷ []) $ heard ! (Told (sourced h cs) m r (ls .1 .1 .0) (ls .1 .1 .1 .0)) (λ e. fsplit ! $ drop ! $ fsplit ! $ drop ! $ fsplit ! $ fsplit ! $ move ! (1 ∷ []) $ feqL ! (λ l. move ! (1 ∷ []) $ fsplit ! $ fsplit ! $ move ! (1 ∷ []) $ feqL ! (λ l′.
         -- [the last of `work`; …; the last of `nodes`; the tokens and what r owns]
         move ! (3 ∷ []) $ split ! $ split ! $ move ! (1 ∷ []) $ split ! $ move ! (1 ∷ []) $ split ! $
         -- [the tokens of ν′; …; of ν; of the circuit; what r owns; the last of `work`; …; the last of `nodes`]
@@ -105,14 +107,14 @@ module _ {M : Type 1} (𝓤 : URA M) (H : Heap 𝓤) (A : Atoms 𝓤) (mem : Mem
         show ! (λ (us : List ℕ). Back ν δ ν′ δ′ w r (ls .1 .1 .0) us) (ls .1 .1 .1 .0) $
         check ! (l, (l′, e)) $ keep ! (3 ∷ 2 ∷ 7 ∷ 0 ∷ 5 ∷ 4 ∷ []) $ done !)))))
 
-    pub met : (C : Calls 𝓤 H) → FmC 𝓤 H (W .laws) C → Triple 𝓤 (C #build) BuildFn → Buildable cs h ys ws m → (ν : ℕ) (δ : GName) (ν′ : ℕ) (δ′ : GName) → ent 𝓤 (Takes ν δ ν′ δ′) (C #build args (Answers ν δ ν′ δ′))
+    pub met : (C : Calls 𝓤 H) → FmC 𝓤 H (W .laws) C → Triple 𝓤 (C #build) BuildFn → SourceOf cs h × Buildable (sourced h cs) (headOf h) ys ws m → (ν : ℕ) (δ : GName) (ν′ : ℕ) (δ′ : GName) → ent 𝓤 (Takes ν δ ν′ δ′) (C #build args (Answers ν δ ν′ δ′))
     met C fm known pre ν δ ν′ δ′ = via 𝓤 (BuildFn .pre (to ν δ ν′ δ′)) (goes pre ν δ ν′ δ′) (via 𝓤 _ (known (to ν δ ν′ δ′)) (fm→monoC 𝓤 H (W .laws) C fm #build _ _ _ (gives ν δ ν′ δ′)))
 
     module _ {K : Type 0} {Γ : List (Item 𝓤)} {E : Env 𝓤 H} {C : Calls 𝓤 H} {xs : List Operand} {Λ : Loops 𝓤 H} {p : Post 𝓤 H} {d : Place} where
-      pub calls-build : K → FmC 𝓤 H (W .laws) C → {rest : Body} → Triple 𝓤 (C #build) BuildFn → Buildable cs h ys ws m
+      pub calls-build : K → FmC 𝓤 H (W .laws) C → {rest : Body} → Triple 𝓤 (C #build) BuildFn → SourceOf cs h × Buildable (sourced h cs) (headOf h) ys ws m
           → (κ : Lft) (q : Share) (γ : GName) → Room T.the-row n → length ys ≡ n → (κ′ : Lft) (q′ : Share) (γ′ : GName) → Room u32 n′ → length ws ≡ n′
           → ((ν : ℕ) (δ : GName) (ν′ : ℕ) (δ′ : GName) → Opds K W (raw (Takes ν δ ν′ δ′) ∷ ‵ (shr-at u8 b₀ o₀ n₀ κ₀ γ₀ cs) ∷ ‵ (LentAgain u32 κ′ (ν′ ∷ []) q′ γ′ b′ o′ δ′ ws) ∷ ‵ (LentAgain T.the-row κ (ν ∷ []) q γ b o δ ys) ∷ Γ) E xs args)
-          → ((w : Val) (r : ℕ) (zs : List Node) (us : List ℕ) → length zs ≡ n → length us ≡ n′ → Told cs m r zs us
+          → ((w : Val) (r : ℕ) (zs : List Node) (us : List ℕ) → length zs ≡ n → length us ≡ n′ → Told (sourced h cs) m r zs us
           → Seq K W (‵ (usize .own r (w ∷ [])) ∷ ‵ (shr-at u8 b₀ o₀ n₀ κ₀ γ₀ cs) ∷ ‵ (flft κ₀ q₀) ∷ ‵ (own-at T.the-row b o n κ γ zs) ∷ ‵ (flft κ q) ∷ ‵ (own-at u32 b′ o′ n′ κ′ γ′ us) ∷ ‵ (flft κ′ q′) ∷ Γ) (lands C Λ E d w rest p))
           → Seq K W (‵ (shr-at u8 b₀ o₀ n₀ κ₀ γ₀ cs) ∷ ‵ (flft κ₀ q₀) ∷ ‵ (own-at T.the-row b o n κ γ ys) ∷ ‵ (flft κ q) ∷ ‵ (own-at u32 b′ o′ n′ κ′ γ′ ws) ∷ ‵ (flft κ′ q′) ∷ Γ) (runs C Λ E (seq (call #build xs d) rest) p)
       calls-build t fm known pre κ q γ room e κ′ q′ γ′ room′ e′ os k =
@@ -123,7 +125,7 @@ module _ {M : Type 1} (𝓤 : URA M) (H : Heap 𝓤) (A : Atoms 𝓤) (mem : Mem
           move t (2 ∷ 3 ∷ []) $ join t $ move t (5 ∷ 0 ∷ []) $ join t $ move t (4 ∷ 0 ∷ []) $ join t $ move t (1 ∷ 0 ∷ []) $ join t $ move t (4 ∷ 0 ∷ []) $ join t $
           use1 W (raw (Takes ν δ ν′ δ′)) (id⊢ 𝓤 _) $
           calls-from t fm (raw (Takes ν δ ν′ δ′)) args (Answers ν δ ν′ δ′) (met C fm known pre ν δ ν′ δ′) (os ν δ ν′ δ′) (λ w.
-          use1 W (later (some (λ (r : ℕ). some (λ (zs : List Node). some (λ (us : List ℕ). given ((length zs ≡ length ys) × ((length us ≡ length ws) × Told cs m r zs us))
+          use1 W (later (some (λ (r : ℕ). some (λ (zs : List Node). some (λ (us : List ℕ). given ((length zs ≡ length ys) × ((length us ≡ length ws) × Told (sourced h cs) m r zs us))
           (‵ (flft κ₀ q₀) ⊛ ‵ (flft (ν ∷ []) fullShare) ⊛ ‵ (finally T.the-row δ zs) ⊛ ‵ (flft (ν′ ∷ []) fullShare) ⊛ ‵ (finally u32 δ′ us) ⊛ ‵ (usize .own r (w ∷ [])))))))) (id⊢ 𝓤 _) $ await t tt $ pick t (λ r. pick t (λ zs. pick t (λ us. learn t (λ f.
           split t $ move t (1 ∷ []) $ split t $ move t (1 ∷ []) $ split t $ move t (1 ∷ []) $ split t $ move t (1 ∷ []) $ split t $
           -- [the last of `work`; what r owns; the token of ν′; the last of `nodes`; the token of ν; the circuit's; circuit; what is kept of `work`; of `nodes`; …]

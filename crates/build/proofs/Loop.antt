@@ -12,7 +12,7 @@ use Rattle.circuit.specs.Circuit.{gates, allInputs}
 use Rattle.circuit.specs.declared.Head.{Head}
 use Rattle.diagrams.specs.Making.{noId}
 use Rattle.nodes.specs.declared.Node.{Node}
-use Rattle.nodes.proofs.Laws.{below-or}
+use Rattle.layered.proofs.Search.{below-or}
 use Rattle.records.specs.Records.{none, nodesIn}
 use Rattle.records.proofs.Laws.{of-record, of-constant}
 use Rattle.conjoin.specs.declared.Shape.{Shape}

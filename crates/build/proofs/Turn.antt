@@ -26,7 +26,7 @@ use Rattle.functions.proofs.Signals.{signals-family}
 use Rattle.circuit.proofs.Literals.{operand-before}
 use Rattle.build.proofs.Laws.{number-input, number-gate}
 use Rattle.nodes.specs.declared.Node.{Node}
-use Rattle.nodes.proofs.Laws.{below-or}
+use Rattle.layered.proofs.Search.{below-or}
 use Rattle.records.specs.Records.{nodesIn}
 use Rattle.conjoin.specs.Cache.{cacheLength, Cached}
 use Rattle.conjoin.proofs.Laws.{cached-kept, cached-none, cached-same}

@@ -1,21 +1,21 @@
 // The diagrams of a circuit's signals: of its inputs, then of its gates, one after the other. The ids of the signals lie in `work`, signal by signal,
 // with the cache of the AND behind them.
-use circuit::Head;
-use circuit::read_gate;
 use conjoin::Shape;
 use conjoin::conjoin;
 use nodes::NONE;
 use nodes::Node;
 use nodes::Pair;
 use records::join;
+use source::Source;
+use source::gate_of;
 ghost use mathlib.Core.Path.{_≡_};
 ghost use mathlib.Core.Bool.{cond};
 ghost use Prim.Native.Nat.{_+_, _-_, _<_, _≤_};
 ghost use lib.Dec.{ltb};
 ghost use lib.ListN.{length, set};
 ghost use Rattle.circuit.specs.Circuit.{gates, allInputs};
-ghost use Rattle.circuit.specs.WellFormed.{WellFormed};
 ghost use Rattle.circuit.specs.Limits.{mostSignals};
+ghost use Rattle.source.specs.Source.{headOf, sourced, SourceOf};
 ghost use Rattle.records.specs.Records.{nodesIn};
 ghost use Rattle.build.specs.Build.{OriginOf, Makeable, Makes, Buildable, Building};
 
@@ -27,12 +27,12 @@ pub struct Origin {
 }
 
 // What is to be made of signal s + 1, given the ids of the signals before it.
-fn origin_of(circuit: &[u8], head: Head, work: &[u32], s: usize) -> Origin
-    requires { ⌜ WellFormed (now circuit) head ⌝ }
-    requires { ⌜ (s < allInputs (now circuit) + gates (now circuit)) × (mostSignals ≤ length (now work)) ⌝ }
-    ensures { λ r. ⌜ OriginOf (now (circuit .entry)) (now (work .entry)) s r ⌝ }
+fn origin_of(circuit: &[u8], source: Source, work: &[u32], s: usize) -> Origin
+    requires { ⌜ SourceOf (now circuit) source ⌝ }
+    requires { ⌜ (s < allInputs (sourced source (now circuit)) + gates (sourced source (now circuit))) × (mostSignals ≤ length (now work)) ⌝ }
+    ensures { λ r. ⌜ OriginOf (sourced source (now (circuit .entry))) (now (work .entry)) s r ⌝ }
 {
-    let base = head.base;
+    let base = source.base;
     if s + 1 < base {
         return Origin {
             input: true,
@@ -45,7 +45,7 @@ fn origin_of(circuit: &[u8], head: Head, work: &[u32], s: usize) -> Origin
             },
         };
     }
-    let gate = read_gate(circuit, head, s + 1 - base);
+    let gate = gate_of(circuit, source, s + 1 - base);
     let left = gate.left;
     let right = gate.right;
     Origin {
@@ -94,18 +94,18 @@ fn make(nodes: &mut [Node], work: &mut [u32], shape: Shape, origin: Origin) -> u
 // nodes there is no room (0: for the inputs' alone), or one more than there are gates.
 pub fn build(
     circuit: &[u8],
-    head: Head,
+    source: Source,
     nodes: &mut [Node],
     work: &mut [u32],
     shape: Shape,
 ) -> usize
-    requires { ⌜ Buildable (now circuit) head (now nodes) (now work) shape ⌝ }
-    ensures { λ r. ⌜ Building (now (circuit .entry)) (shape .room) (now (nodes .exit)) (now (work .exit)) r ⌝ }
+    requires { ⌜ SourceOf (now circuit) source × Buildable (sourced source (now circuit)) (headOf source) (now nodes) (now work) shape ⌝ }
+    ensures { λ r. ⌜ Building (sourced source (now (circuit .entry))) (shape .room) (now (nodes .exit)) (now (work .exit)) r ⌝ }
 {
-    let count = head.base - 1 + head.gates;
+    let count = source.base - 1 + source.gates;
     let mut s = 0;
     while s < count {
-        let origin = origin_of(circuit, head, work, s);
+        let origin = origin_of(circuit, source, work, s);
         let id = make(nodes, work, shape, origin);
         if id == NONE {
             return gate_number(shape.inputs, s);
@@ -113,5 +113,5 @@ pub fn build(
         set_id(work, s, id);
         s += 1;
     }
-    head.gates + 1
+    source.gates + 1
 }

@@ -1,4 +1,4 @@
--- A part of neighbouring sequences: the lanes that are played, the comparison of one output, and what is kept. Assumes nothing.
+-- A part of neighbouring sequences: the comparison of one output, and what is kept. Assumes nothing.
 use mathlib.Core.Path.{_≡_, refl, sym, ap, _∙_, subst}
 use mathlib.Core.Bool.{Bool, true, false}
 use mathlib.Core.List.{List}
@@ -7,55 +7,28 @@ use native.Mathlib.Nat.{mul-le-mul, mul-le-mul-left}
 use native.Mathlib.Decide.{decLt}
 use native.Mathlib.Omega.{arith}
 use lib.ListN.{length, getD, set}
-use lib.Seq.{getD-take, getD-set-same, getD-set-other}
+use lib.Seq.{getD-set-same, getD-set-other}
 use Rattle.sizes.specs.Limits.{mostBits}
 use Rattle.sizes.specs.Sizes.{inputs, outputs, frames}
 use Rattle.layered.specs.Search.{every}
-use Rattle.layered.specs.Histories.{historyWords}
 use Rattle.layered.proofs.Search.{every-true, every-each}
-use Rattle.circuit.specs.Limits.{mostSignals}
 use Rattle.circuit.specs.Lists.{bit, blockStart}
-use Rattle.circuit.specs.Circuit.{gates, gateSignal, allOutputs, outputSignal, frameOf, signalValues, outputOn, laterInputs, asFirst}
+use Rattle.circuit.specs.Circuit.{allOutputs, frameOf, outputOn, laterInputs, asFirst}
 use Rattle.circuit.specs.WellFormed.{CircuitHeaded, HeadOf}
 use Rattle.circuit.specs.declared.Head.{Head}
-use Rattle.circuit.proofs.Laws.{output-at, output-in, signals-fit}
-use Rattle.circuit.proofs.Ahead.{beq-same, same-beq, output-parts, output-value}
+use Rattle.circuit.proofs.Ahead.{beq-same, same-beq, output-parts}
 use Rattle.lanes.specs.Limits.{laneCount}
-use Rattle.lanes.specs.Lanes.{lane, sequence, Lanes, SignalLanes}
-use Rattle.lanes.proofs.Laws.{lane-at, whole}
 use Rattle.blocks.specs.Blocks.{Holds}
 use Rattle.blocks.proofs.Holds.{holds-apart}
 use Rattle.causal.specs.Limits.{mostAllOutputs}
-use Rattle.causal.specs.Played.{Outputs, Firsts, partAsFirst}
+use Rattle.causal.specs.Played.{Firsts, partAsFirst}
 
--- ---- the lanes of a part
-
--- the lanes of all signals, played on the sequences from `at` on, have the outputs
-pub outputs-played : (b : List ℕ) → CircuitHeaded b → (at T : ℕ) (v : List ℕ) → T ≡ frames b → SignalLanes b T (λ j. at + j) v → Outputs b at v
-unfolding Outputs Holds Lanes outputOn
-outputs-played b H at T v eT L q h j l =
-    let s : ℕ = outputSignal b q in
-    let G : ℕ = gateSignal b (gates b) in
-    let words : sequence (2 ^ inputs b) (frames b) T (at + j) ≡ historyWords (2 ^ inputs b) (frames b) (at + j) =
-    ap (λ k. sequence (2 ^ inputs b) (frames b) k (at + j)) eT ∙ whole (2 ^ inputs b) (frames b) (at + j) in
-    sym (lane-at v j s)
-    ∙ sym (getD-take G (lane j v) s false (output-in b q (H .outputs-to) h))
-    ∙ ap (λ l. getD l s false) (L j l)
-    ∙ ap (λ c. getD (signalValues b c (gates b)) s false) words
-    ∙ sym (output-value b H q h (historyWords (2 ^ inputs b) (frames b) (at + j)))
-
--- ---- an output's place among the signals, and the inputs of the frames after its own
+-- ---- an output's place, and the inputs of the frames after its own
 
 module _ (b : List ℕ) (H : CircuitHeaded b) (s : Head) (O : HeadOf b s) (q : ℕ) (h : q < allOutputs b) where
   pub output-few : q < mostAllOutputs
   unfolding allOutputs
   output-few = omega (arith, mul-le-mul (H .sizes .outputs-to) (H .sizes .frames-to))
-
-  pub signal-is : s .base + (s .gates - s .total) + q ≡ outputSignal b q
-  signal-is = output-at b (s .base) (s .gates) (s .total) q (O .base-is) (O .gates-is) (O .total-is)
-
-  pub signal-in : outputSignal b q < mostSignals
-  signal-in = omega (arith, output-in b q (H .outputs-to) h, signals-fit b H)
 
   module _ (f : ℕ) (ef : f ≡ frameOf (s .outputs) q) where
     pub frame-in : f ≤ s .frames

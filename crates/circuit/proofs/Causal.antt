@@ -16,10 +16,11 @@ use Rattle.layered.proofs.Feeding.{words-whole}
 use Rattle.layered.proofs.Histories.{history-more, history-words}
 use Rattle.circuit.specs.Lists.{grown, listed, bit}
 use Rattle.circuit.specs.Circuit.{allOutputs, frameOf, outputWord, outputWords, outputBit}
-use Rattle.circuit.specs.Theorems.{response, AcceptedCausal}
+use Rattle.circuit.specs.Theorems.{response, Causal, AcceptedCausal}
 use Rattle.circuit.proofs.Bits.{equal-bits}
 use Rattle.circuit.proofs.Unconnected.{word-below, word-clear}
-use Rattle.circuit.proofs.Accepted.{Accepted, accepted}
+use Rattle.circuit.specs.WellFormed.{Accepted}
+use Rattle.circuit.proofs.Accepted.{accepted}
 use Rattle.circuit.proofs.Ahead.{none-depends}
 
 -- ---- an output word depends on no later word
@@ -91,6 +92,11 @@ module _ (b : List ℕ) (A : Accepted b) where
   unfolding outputWords historyWords
   follows c W = listed-up (outputWord b c) (frames b) ∙ sym (rest-follows [] c (frames b) 0 0 refl (omega arith) refl W)
 
+-- what acceptance tells makes it causal
+pub causal-of : (b : List ℕ) → Accepted b → Causal b
+unfolding response
+causal-of b A = record { follows = follows b A; below = λ t h. word-below b _ _; clear = λ t h l. let i : suc t - 1 ≡ t = omega arith in rw i (word-clear b (A .form .head) _ t l) }
+
 pub causal : (b : List ℕ) → AcceptedCausal b
-unfolding AcceptedCausal response
-causal b p e = let A = accepted b p e in record { follows = follows b A; below = λ t h. word-below b _ _; clear = λ t h l. let i : suc t - 1 ≡ t = omega arith in rw i (word-clear b (A .form .head) _ t l) }
+unfolding AcceptedCausal
+causal b p e = causal-of b (accepted b p e)

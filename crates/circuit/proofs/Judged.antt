@@ -22,15 +22,16 @@ use Rattle.layered.proofs.Search.{every-cong, least-le, least-tells}
 use Rattle.layered.proofs.Histories.{history-words}
 use Rattle.circuit.specs.Limits.{circuitHead, mostGates}
 use Rattle.circuit.specs.Lists.{bit, blockStart}
-use Rattle.circuit.specs.Circuit.{gates, leftsAt, rightsAt, circuitLength, allInputs, allOutputs, headChecked, literalsChecked, formChecked, outputWord, outputWords, outputBit, outputOn, laterInputs, asFirst, looksAhead, lookAheadChecked, checked}
+use Rattle.circuit.specs.Circuit.{gates, leftsAt, rightsAt, circuitLength, allInputs, allOutputs, headChecked, literalsChecked, formWithin, formChecked, outputWord, outputWords, outputBit, outputOn, laterInputs, asFirst, looksAhead, lookAheadChecked, checked}
 use Rattle.circuit.specs.Theorems.{DependsOnLater, FirstAhead, JudgedAlike}
 use Rattle.circuit.proofs.Lists.{listed-at}
-use Rattle.circuit.proofs.Accepted.{Formed, formed}
+use Rattle.circuit.specs.WellFormed.{Formed}
+use Rattle.circuit.proofs.Accepted.{formed}
 use Rattle.circuit.proofs.Ahead.{output-parts, ahead-depends, none-depends}
 
 -- ---- the numbers that the check can answer
 
-sizes-number : (most n m T : ℕ) → sizesChecked most n m T .number < 4
+pub sizes-number : (most n m T : ℕ) → sizesChecked most n m T .number < 4
 unfolding sizesChecked
 sizes-number most n m T =
     under-refuse 4 (outside 1 most n) 2 0 _ (lit< tt)
@@ -38,23 +39,28 @@ sizes-number most n m T =
     (under-refuse 4 (outside 1 mostFrames T) 2 4 _ (lit< tt)
     (under-refuse 4 (ltb mostBits (n * T)) 2 4 _ (lit< tt) (lit< tt))))
 
-head-number : (most : ℕ) (b : List ℕ) → headChecked most b .number < 4
+head-number : (most long : ℕ) (b : List ℕ) → headChecked most long b .number < 4
 unfolding headChecked
-head-number most b =
+head-number most long b =
     under-refuse 4 (ltb (length b) circuitHead) 1 (length b) _ (lit< tt)
     (under-then 4 (sizesChecked most (inputs b) (outputs b) (frames b)) _ (sizes-number most _ _ _)
+    (under-refuse 4 (ltb long (frames b)) 2 4 _ (lit< tt)
     (under-refuse 4 (outside (allOutputs b) mostGates (gates b)) 2 6 _ (lit< tt)
-    (under-refuse 4 (not (eqb (length b) (circuitLength b))) 1 (length b) _ (lit< tt) (lit< tt))))
+    (under-refuse 4 (not (eqb (length b) (circuitLength b))) 1 (length b) _ (lit< tt) (lit< tt)))))
 
 literals-number : (b : List ℕ) (start : ℕ) → literalsChecked b start .number < 4
 unfolding literalsChecked
 literals-number b start = under-first 4 _ 3 _ (answer 0 0) 0 (gates b) (lit< tt) (lit< tt)
 
+pub within-number : (most long : ℕ) (b : List ℕ) → formWithin most long b .number < 4
+unfolding formWithin
+within-number most long b =
+    under-then 4 (headChecked most long b) _ (head-number most long b)
+    (under-then 4 (literalsChecked b (leftsAt b)) (literalsChecked b (rightsAt b)) (literals-number b (leftsAt b)) (literals-number b (rightsAt b)))
+
 form-number : (b : List ℕ) → formChecked b .number < 4
 unfolding formChecked
-form-number b =
-    under-then 4 (headChecked mostInputs b) _ (head-number mostInputs b)
-    (under-then 4 (literalsChecked b (leftsAt b)) (literalsChecked b (rightsAt b)) (literals-number b (leftsAt b)) (literals-number b (rightsAt b)))
+form-number b = within-number mostInputs mostFrames b
 
 -- it is 4 at most
 pub checked-number : (b : List ℕ) → checked b .number < 5
@@ -65,12 +71,16 @@ checked-number b =
 -- ---- the first output that looks ahead
 
 -- the place of the form's acceptance
-form-place : (b : List ℕ) (p : ℕ) → formChecked b ≡ answer 0 p → formChecked b ≡ answer 0 0
-unfolding formChecked literalsChecked
-form-place b p e =
-    let h = both-accept (headChecked mostInputs b) _ p e in
+within-place : (most long : ℕ) (b : List ℕ) (p : ℕ) → formWithin most long b ≡ answer 0 p → formWithin most long b ≡ answer 0 0
+unfolding formWithin literalsChecked
+within-place most long b p e =
+    let h = both-accept (headChecked most long b) _ p e in
     let l = both-accept (literalsChecked b (leftsAt b)) (literalsChecked b (rightsAt b)) p (h .2) in
     e ∙ sym (none-found _ 3 _ (answer 0 0) p 0 (gates b) refl (l .2) .1)
+
+form-place : (b : List ℕ) (p : ℕ) → formChecked b ≡ answer 0 p → formChecked b ≡ answer 0 0
+unfolding formChecked
+form-place b p e = within-place mostInputs mostFrames b p e
 
 -- where the check answers 4, the form is accepted, and 4 is the answer of the look-ahead
 four : (f g : Figures) (q : ℕ) → f .number < 4 → andThen f g ≡ answer 4 q → (f ≡ answer 0 (f .place)) × (g ≡ answer 4 q)

@@ -10,3 +10,5 @@ pub mod Ahead
 pub mod Unconnected
 pub mod Judged
 pub mod Causal
+pub mod Gates
+pub mod Written

@@ -1,9 +1,10 @@
 -- The stages of the head's judgement, and the products of its sizes. Assumes nothing.
-use mathlib.Core.Path.{_≡_, sym, ap, ap₂, _∙_}
+use mathlib.Core.Path.{_≡_, sym, ap, ap₂, _∙_, subst}
 use mathlib.Core.Bool.{true, false}
 use mathlib.Core.List.{List}
 use Prim.Native.Nat.{ℕ, _+_, _*_, _≤_, _<_}
 use native.Mathlib.Nat.{mul-le-mul}
+use lib.Dec.{ltb}
 use lib.ListN.{length}
 use borrow.Author.Tests.{lt-ltb, le-ltb, eq-eqb, ne-eqb}
 use Rattle.circuit.specs.Limits.{mostGates, circuitHead}
@@ -29,8 +30,8 @@ module _ (s : Sizes) (b : List ℕ) (e : s ≡ sizesOf b) where
   unfolding allOutputs
   outputs-product = ap (λ (s : Sizes). s .outputs * s .frames) e
 
-module _ (most : ℕ) (b : List ℕ) where
-  pub head-short : length b < circuitHead → answer 1 (length b) ≡ headChecked most b
+module _ (most long : ℕ) (b : List ℕ) where
+  pub head-short : length b < circuitHead → answer 1 (length b) ≡ headChecked most long b
   unfolding headChecked
   head-short h = simp (lt-ltb _ _ h)
 
@@ -38,7 +39,7 @@ module _ (most : ℕ) (b : List ℕ) where
     of-b : figures x ≡ sizesChecked most (inputs b) (outputs b) (frames b)
     of-b = ex ∙ ap (λ (s : Sizes). sizesChecked most (s .inputs) (s .outputs) (s .frames)) es
 
-    pub head-sizes : (r : Refusal) → x ≡ Refused r → figures x ≡ headChecked most b
+    pub head-sizes : (r : Refusal) → x ≡ Refused r → figures x ≡ headChecked most long b
     unfolding headChecked
     head-sizes r q = rw (le-ltb _ _ h) (stop x _ _ r of-b q)
 
@@ -49,20 +50,28 @@ module _ (most : ℕ) (b : List ℕ) where
           let z = sized most (s .inputs) (s .outputs) (s .frames) p (accepts x _ p ex q) in
           mul-le-mul (z .outputs-to) (z .frames-to)
 
-      module _ (g : ℕ) (eg : g ≡ wordAt b 6) where
+      -- too many frames
+      pub head-long : long < s .frames → answer 2 4 ≡ headChecked most long b
+      unfolding headChecked
+      head-long l = rw (le-ltb _ _ h) (go-on x _ _ _ p of-b q (rw (lt-ltb long (frames b) (subst (λ (s : Sizes). long < s .frames) es l))))
+
+      module _ (k : s .frames ≤ long) (g : ℕ) (eg : g ≡ wordAt b 6) where
+        few : ltb long (frames b) ≡ false
+        few = le-ltb long (frames b) (subst (λ (s : Sizes). s .frames ≤ long) es k)
+
         asked : outside (s .outputs * s .frames) mostGates g ≡ outside (allOutputs b) mostGates (gates b)
         unfolding gates
         asked = ap₂ (λ (t g : ℕ). outside t mostGates g) (outputs-product s b es) eg
 
-        pub head-gates : outside (s .outputs * s .frames) mostGates g ≡ true → answer 2 6 ≡ headChecked most b
+        pub head-gates : outside (s .outputs * s .frames) mostGates g ≡ true → answer 2 6 ≡ headChecked most long b
         unfolding headChecked
-        head-gates t = rw (le-ltb _ _ h) (go-on x _ _ _ p of-b q (rw (sym asked ∙ t)))
+        head-gates t = rw (le-ltb _ _ h) (go-on x _ _ _ p of-b q (rw (few, sym asked ∙ t)))
 
         module _ (t : outside (s .outputs * s .frames) mostGates g ≡ false) where
-          pub head-length : ¬ (length b ≡ circuitHead + 4 * g) → answer 1 (length b) ≡ headChecked most b
+          pub head-length : ¬ (length b ≡ circuitHead + 4 * g) → answer 1 (length b) ≡ headChecked most long b
           unfolding headChecked circuitLength gates
-          head-length n = rw (le-ltb _ _ h) (go-on x _ _ _ p of-b q (rw (sym asked ∙ t, ne-eqb (length b) (circuitHead + 4 * wordAt b 6) (λ e. n (e ∙ ap (λ (g : ℕ). circuitHead + 4 * g) (sym eg))))))
+          head-length n = rw (le-ltb _ _ h) (go-on x _ _ _ p of-b q (rw (few, sym asked ∙ t, ne-eqb (length b) (circuitHead + 4 * wordAt b 6) (λ e. n (e ∙ ap (λ (g : ℕ). circuitHead + 4 * g) (sym eg))))))
 
-          pub head-whole : length b ≡ circuitHead + 4 * g → answer 0 0 ≡ headChecked most b
+          pub head-whole : length b ≡ circuitHead + 4 * g → answer 0 0 ≡ headChecked most long b
           unfolding headChecked circuitLength gates
-          head-whole e = rw (le-ltb _ _ h) (go-on x _ _ _ p of-b q (rw (sym asked ∙ t, eq-eqb (length b) (circuitHead + 4 * wordAt b 6) (e ∙ ap (λ (g : ℕ). circuitHead + 4 * g) eg))))
+          head-whole e = rw (le-ltb _ _ h) (go-on x _ _ _ p of-b q (rw (few, sym asked ∙ t, eq-eqb (length b) (circuitHead + 4 * wordAt b 6) (e ∙ ap (λ (g : ℕ). circuitHead + 4 * g) eg))))

@@ -1,7 +1,7 @@
 -- The circuit format (document 01's chart), its judgement, and its outputs on a sequence. Gates, inputs and outputs are counted from 0 here, and from 1
 -- in document 01; frames are counted from 1 by `frameOf`, and from 0 where an output word is meant.
 use Prim.Native.Nat.{ℕ, suc, _+_, _*_, _-_, _/_, _%_, _^_}
-use mathlib.Core.List.{List, [], _∷_}
+use mathlib.Core.List.{List, [], _∷_, _++_, map}
 use mathlib.Core.Bool.{Bool, false, not, _&&_, cond, Bool·beq}
 use lib.ListN.{length, getD, take, drop}
 use lib.Dec.{ltb, leb, eqb}
@@ -9,7 +9,7 @@ use Rattle.words.specs.Words.{wordAt}
 use Rattle.verdict.specs.Judgements.{answer, refuse, andThen, refuseFirst}
 use Rattle.verdict.specs.declared.Figures.{Figures}
 use Rattle.sizes.specs.Sizes.{inputs, outputs, frames, outside, sizesChecked}
-use Rattle.sizes.specs.Limits.{mostInputs}
+use Rattle.sizes.specs.Limits.{mostInputs, mostFrames, mostBits}
 use Rattle.layered.specs.Search.{every}
 use Rattle.layered.specs.Histories.{historyWords}
 use Rattle.circuit.specs.Limits.{circuitHead, mostGates, mark}
@@ -69,16 +69,27 @@ connectedOutputs b t = packed (listed [] (connects b t) (outputs b))
 unfoldable pub frameOf : (per i : ℕ) → ℕ
 frameOf per i = suc (i / per)
 
+-- ---- writing one
+
+-- n, m, T, G, the left literals, the right literals
+unfoldable pub circuitWords : (n m T : ℕ) → List (ℕ × ℕ) → List ℕ
+circuitWords n m T gs = n ∷ m ∷ T ∷ length gs ∷ (map (λ g. g .0) gs ++ map (λ g. g .1) gs)
+
+-- an output gate that shows a literal: right literal 1; both the mark where the output is unconnected
+abbrev pub outputGate : (connected : Bool) (literal : ℕ) → ℕ × ℕ
+outputGate connected literal = cond connected (literal, 1) (mark, mark)
+
 -- ---- the check
 
--- 1 (head), 2, 1; `most` is the largest n
-unfoldable pub headChecked : (most : ℕ) → List ℕ → Figures
-headChecked most b =
+-- 1 (head), 2, 1; `most` is the largest n, and `long` the largest T
+unfoldable pub headChecked : (most long : ℕ) → List ℕ → Figures
+headChecked most long b =
     refuse (ltb (length b) circuitHead) 1 (length b)
     (andThen (sizesChecked most (inputs b) (outputs b) (frames b))
+    (refuse (ltb long (frames b)) 2 4
     (refuse (outside (allOutputs b) mostGates (gates b)) 2 6
     (refuse (not (eqb (length b) (circuitLength b))) 1 (length b)
-    (answer 0 0))))
+    (answer 0 0)))))
 
 -- a literal is of an unconnected output
 unfoldable pub ofUnconnected : List ℕ → (literal : ℕ) → Bool
@@ -97,11 +108,18 @@ unfoldable pub literalsChecked : List ℕ → (start : ℕ) → Figures
 literalsChecked b start = literalsFrom b start 0 (gates b)
 
 -- every check but 4: 1 (head), 2, 1, 3
-unfoldable pub formChecked : List ℕ → Figures
-formChecked b =
-    andThen (headChecked mostInputs b)
+unfoldable pub formWithin : (most long : ℕ) → List ℕ → Figures
+formWithin most long b =
+    andThen (headChecked most long b)
     (andThen (literalsChecked b (leftsAt b))
     (literalsChecked b (rightsAt b)))
+
+-- of a circuit, and of a plain network, which has one frame and up to 16 inputs (document 02, Point 11)
+unfoldable pub formChecked : List ℕ → Figures
+formChecked b = formWithin mostInputs mostFrames b
+
+unfoldable pub networkChecked : List ℕ → Figures
+networkChecked b = formWithin mostBits 1 b
 
 -- ---- the outputs on a sequence
 

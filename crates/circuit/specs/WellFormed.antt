@@ -2,13 +2,13 @@
 use Prim.Native.Nat.{ℕ, _+_, _*_, _/_, _≤_, _<_}
 use mathlib.Core.Path.{_≡_}
 use mathlib.Core.List.{List}
-use mathlib.Core.Bool.{true}
+use mathlib.Core.Bool.{true, false}
 use lib.ListN.{length}
 use Rattle.sizes.specs.Sizes.{inputs, outputs, frames}
 use Rattle.sizes.specs.Sized.{Sized}
-use Rattle.sizes.specs.Limits.{mostBits}
-use Rattle.circuit.specs.Limits.{circuitHead, mostGates}
-use Rattle.circuit.specs.Circuit.{gates, leftsAt, rightsAt, literalAt, allInputs, allOutputs, admissible, operand}
+use Rattle.sizes.specs.Limits.{mostInputs, mostBits}
+use Rattle.circuit.specs.Limits.{circuitHead, mostWired}
+use Rattle.circuit.specs.Circuit.{gates, leftsAt, rightsAt, literalAt, allInputs, allOutputs, admissible, operand, looksAhead}
 use Rattle.circuit.specs.declared.Head.{Head}
 use Rattle.circuit.specs.declared.Gate.{Gate}
 
@@ -17,7 +17,7 @@ pub record CircuitHeaded (b : List ℕ) : Type 0 where
   pub sizes : Sized mostBits (inputs b) (outputs b) (frames b)
   pub inputs-to : allInputs b ≤ mostBits
   pub outputs-to : allOutputs b ≤ gates b
-  pub gates-to : gates b ≤ mostGates
+  pub gates-to : gates b ≤ mostWired
   pub whole : length b ≡ circuitHead + 4 * gates b
 
 -- h holds the sizes of b
@@ -39,6 +39,17 @@ pub record WellFormed (b : List ℕ) (h : Head) : Type 0 where
   pub headed : CircuitHeaded b
   pub head-is : HeadOf b h
   pub legal : LegalGates b
+
+-- all that passing every check but 4 tells of a circuit
+pub record Formed (b : List ℕ) : Type 0 where
+  pub head : CircuitHeaded b
+  pub sizes : Sized mostInputs (inputs b) (outputs b) (frames b)
+  pub literals : LegalGates b
+
+-- and all that acceptance tells: what all that folds asks for
+pub record Accepted (b : List ℕ) : Type 0 where
+  pub form : Formed b
+  pub causal : (q : ℕ) → q < allOutputs b → looksAhead b q ≡ false
 
 -- the literals of gate g, as they stand
 abbrev pub literalsOf : List ℕ → (g : ℕ) → Gate

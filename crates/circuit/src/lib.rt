@@ -9,14 +9,14 @@ ghost use mathlib.Core.Bool.{false};
 ghost use Prim.Native.Nat.{ℕ, _+_, _*_, _-_, _≤_, _<_};
 ghost use lib.ListN.{length};
 ghost use Rattle.verdict.specs.Judgements.{figures};
-ghost use Rattle.sizes.specs.Sizes.{frames};
 ghost use Rattle.sizes.specs.Limits.{mostOutputs, mostBits};
 ghost use Rattle.layered.specs.Search.{least};
 ghost use Rattle.circuit.specs.Lists.{bit};
-ghost use Rattle.circuit.specs.Circuit.{gates, gateOfOutput, unconnected, connectedOutputs, admissible, headChecked, literalsFrom, literalsChecked, formChecked};
+ghost use Rattle.circuit.specs.Circuit.{gates, gateOfOutput, unconnected, admissible, headChecked, literalsFrom, literalsChecked, formWithin};
 ghost use Rattle.circuit.specs.WellFormed.{CircuitHeaded, HeadOf, WellFormed, GateOf, literalsOf};
 
-// The length of a circuit's head, the limit on its gates, the most signals there can be, and the mark of an unconnected output.
+// The length of a circuit's head, the limit on its gates, the most gates that are folded (those of a network, and one for each place of an output), the
+// most signals there can be, and the mark of an unconnected output.
 pub struct Limits;
 
 impl Limits {
@@ -24,7 +24,9 @@ impl Limits {
 
     pub const GATES: usize = 4096;
 
-    pub const SIGNALS: usize = 1 + sizes::Limits::BITS + Limits::GATES;
+    pub const WIRED: usize = Limits::GATES + sizes::Limits::OUTPUTS * sizes::Limits::FRAMES;
+
+    pub const SIGNALS: usize = 1 + sizes::Limits::BITS + Limits::WIRED;
 
     pub const MARK: usize = 65535;
 }
@@ -63,10 +65,10 @@ pub struct Gate {
     pub right: usize,
 }
 
-// Numbers 1 (head), 2 and 1 of document 01. `most` is the largest n.
-pub fn check_head(circuit: &[u8], most: usize) -> Verdict
+// Numbers 1 (head), 2 and 1 of document 01. `most` is the largest n, and `long` the largest T.
+pub fn check_head(circuit: &[u8], most: usize, long: usize) -> Verdict
     requires { ⌜ most ≤ mostBits ⌝ }
-    ensures { λ r. ⌜ figures r ≡ headChecked most (now (circuit .entry)) ⌝ }
+    ensures { λ r. ⌜ figures r ≡ headChecked most long (now (circuit .entry)) ⌝ }
 {
     let length = circuit.len();
     if length < Limits::HEAD {
@@ -77,6 +79,9 @@ pub fn check_head(circuit: &[u8], most: usize) -> Verdict
     let Verdict::Accepted(_) = sized else {
         return sized;
     };
+    if long < sizes.frames {
+        return Verdict::Refused(Refusal::Size(4));
+    }
     let gates = read(circuit, 6);
     if is_outside(sizes.outputs * sizes.frames, Limits::GATES, gates) {
         return Verdict::Refused(Refusal::Size(6));
@@ -100,7 +105,7 @@ fn read_literals(circuit: &[u8], head: Head, g: usize) -> Gate
 }
 
 // Whether the output with gate g is unconnected.
-fn is_unconnected(circuit: &[u8], head: Head, g: usize) -> bool
+pub fn is_unconnected(circuit: &[u8], head: Head, g: usize) -> bool
     requires { ⌜ CircuitHeaded (now circuit) ⌝ }
     requires { ⌜ HeadOf (now circuit) head ⌝ }
     requires { ⌜ (gateOfOutput (now circuit) 0 ≤ g) × (g < gates (now circuit)) ⌝ }
@@ -208,11 +213,12 @@ pub fn read_gate(circuit: &[u8], head: Head, g: usize) -> Gate
     gate
 }
 
-// Every check of a circuit but that of number 4.
-pub fn check_form(circuit: &[u8]) -> Verdict
-    ensures { λ r. ⌜ figures r ≡ formChecked (now (circuit .entry)) ⌝ }
+// Every check of a circuit but that of number 4. `most` is the largest n, and `long` the largest T.
+pub fn check_form(circuit: &[u8], most: usize, long: usize) -> Verdict
+    requires { ⌜ most ≤ mostBits ⌝ }
+    ensures { λ r. ⌜ figures r ≡ formWithin most long (now (circuit .entry)) ⌝ }
 {
-    let judged = check_head(circuit, sizes::Limits::INPUTS);
+    let judged = check_head(circuit, most, long);
     let Verdict::Accepted(_) = judged else {
         return judged;
     };
@@ -224,25 +230,6 @@ pub fn check_form(circuit: &[u8]) -> Verdict
     };
     let rights_at = Limits::HEAD + 2 * head.gates;
     check_literals(circuit, head, rights_at, first)
-}
-
-// The connected outputs of frame t, from 0.
-pub fn connected_outputs(circuit: &[u8], head: Head, t: usize) -> usize
-    requires { ⌜ CircuitHeaded (now circuit) ⌝ }
-    requires { ⌜ HeadOf (now circuit) head ⌝ }
-    requires { ⌜ t < frames (now circuit) ⌝ }
-    ensures { λ r. ⌜ (r ≡ connectedOutputs (now (circuit .entry)) t) × (r < 65536) ⌝ }
-{
-    let mut word = 0;
-    let end = head.gates - head.total + head.outputs * (t + 1);
-    let count = head.outputs;
-    for j in 0..count {
-        word *= 2;
-        if !is_unconnected(circuit, head, end - 1 - j) {
-            word += 1;
-        }
-    }
-    word
 }
 
 // Bit j of a word.

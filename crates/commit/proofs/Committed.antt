@@ -14,10 +14,10 @@ use Rattle.fold.proofs.Judged.{promised, numbers-figures, numbers-result}
 
 module _ (b numbers : List ℕ) (w : Wanted) (s s′ : List ℕ) (ns ns′ : List Node) (r r′ : List ℕ) (v : Verdict) (W : WantedOf numbers w) (F : Folds b w s s′ ns ns′ r r′ v) where
   pub commit-answered : figures v ≡ commitChecked b numbers (length s) (length ns) (length r)
-  commit-answered = F .ends .answered ∙ numbers-figures b w (length s) (length ns) r numbers W
+  commit-answered = F .answered ∙ numbers-figures b w (length s) (length ns) r numbers W
 
   pub commit-written : r′ ≡ commitResult b numbers (length s) (length ns) r
-  commit-written = F .ends .written ∙ numbers-result b w (length s) (length ns) r numbers W
+  commit-written = F .written ∙ numbers-result b w (length s) (length ns) r numbers W
 
   pub commit-promised : Promised b (figures v) r′
-  commit-promised = promised b w (length s) (length ns) r (figures v) r′ (F .ends .answered) (F .ends .written)
+  commit-promised = promised b w (length s) (length ns) r (figures v) r′ (F .answered) (F .written)

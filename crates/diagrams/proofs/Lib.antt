@@ -4,6 +4,7 @@ pub mod Canonical
 pub mod Tallies
 pub mod Blocks
 pub mod Counted
+pub mod Repeated
 pub mod Bound
 pub mod Growth
 pub mod Making

@@ -19,7 +19,8 @@ use Rattle.circuit.specs.Lists.{listed}
 use Rattle.table.specs.Table.{states, entryCount, outputsAt, nextsAt, entryAt, layerPart}
 use Rattle.table.specs.Sound.{TableHeaded}
 use Rattle.table.proofs.Offsets.{arrays-stand}
-use Rattle.unfolded.specs.Unfolded.{lastOf, chainsFrom, ending, inverted, Frame, matching, matchGates, matchLiteral, edgesAt, edgeGate, edgeGates, invertedEdges, nextGatesAt, entering, nextGates, nextLiteral, outGatesAt, withBit, outGates, outLiteral, frameGates, Drawing, tableFrame, drawing, withFrame, isConnected, outputGate, drawn, gatesNeeded}
+use Rattle.circuit.specs.Circuit.{outputGate}
+use Rattle.unfolded.specs.Unfolded.{lastOf, chainsFrom, ending, inverted, Frame, matching, matchGates, matchLiteral, edgesAt, edgeGate, edgeGates, invertedEdges, nextGatesAt, entering, nextGates, nextLiteral, outGatesAt, withBit, outGates, outLiteral, frameGates, Drawing, tableFrame, drawing, withFrame, isConnected, drawn, gatesNeeded}
 use Rattle.circuit.proofs.Lists.{listed-length, listed-cong}
 use Rattle.unfolded.proofs.Drawings.{drawn-length, frame-nexts}
 use Rattle.unfolded.proofs.Counts.{matches-length, match-count, edge-count, frame-count}

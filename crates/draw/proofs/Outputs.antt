@@ -12,7 +12,8 @@ use Rattle.circuit.specs.Lists.{listed, bit}
 use Rattle.circuit.specs.declared.Gate.{Gate}
 use Rattle.circuit.proofs.Lists.{listed-length, listed-cong, listed-add}
 use Rattle.table.specs.Table.{connected}
-use Rattle.unfolded.specs.Unfolded.{isConnected, outputGate}
+use Rattle.circuit.specs.Circuit.{outputGate}
+use Rattle.unfolded.specs.Unfolded.{isConnected}
 use Rattle.unfolded.proofs.Drawings.{connected-at}
 use Rattle.chains.specs.Chains.{gatesStored}
 use Rattle.chains.proofs.Stored.{gates-append}

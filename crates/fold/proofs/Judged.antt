@@ -6,36 +6,35 @@ use Prim.Native.Nat.{ℕ, _+_, _≤_, min}
 use native.Mathlib.Omega.{arith}
 use native.Mathlib.Nat.{eq-or-lt-of-le}
 use mathlib.Core.Logic.{⊎-elim}
-use borrow.Author.Tests.{eqb-true}
-use lib.Dec.{T, eqb}
+use borrow.Author.Tests.{eqb-true, ltb-false}
+use lib.Dec.{T, eqb, ltb}
 use lib.ListN.{length, drop}
 use Rattle.verdict.specs.Judgements.{answer, figures, refuse, andThen, resultAfter}
 use Rattle.verdict.specs.declared.Figures.{Figures}
 use Rattle.verdict.specs.declared.Verdict.{Verdict}
 use Rattle.verdict.proofs.Laws.{both-accept, passed, left}
 use Rattle.sizes.specs.Sizes.{inputs, outputs, frames}
-use Rattle.circuit.specs.Circuit.{gates, allInputs, allOutputs, checked}
+use Rattle.circuit.specs.Circuit.{gates, allInputs, allOutputs}
 use Rattle.circuit.specs.WellFormed.{HeadOf}
 use Rattle.circuit.specs.declared.Head.{Head}
-use Rattle.circuit.proofs.Accepted.{well-formed, accepted as circuitAccepted}
+use Rattle.circuit.proofs.Accepted.{well-formed}
 use Rattle.nodes.specs.declared.Node.{Node}
 use Rattle.diagrams.specs.Building.{firstOver}
 use Rattle.functions.specs.Functions.{signalOn}
 use Rattle.survey.specs.Survey.{mostRecords}
 use Rattle.survey.specs.declared.Survey.{Survey}
-use Rattle.folded.specs.Folded.{foldedBytes, scratchChecked, askChecked, roomChecked, foldChecked, foldResult}
+use Rattle.folded.specs.Folded.{foldedBytes, scratchChecked, nodesChecked, askChecked, roomChecked, foldChecked, foldResult}
 use Rattle.folded.specs.Planned.{foldedPlan, commitChecked, commitResult}
 use Rattle.folded.specs.Theorems.{Foldings}
-use Rattle.folded.proofs.Asked.{plan-length, scratch-tells, ask-counts}
+use Rattle.folded.proofs.Asked.{plan-length, ask-counts}
 use Rattle.folded.proofs.Counting.{first-most}
-use Rattle.folded.proofs.Outcomes.{accepted}
 use Rattle.folded.proofs.Theorems.{foldings}
-use Rattle.ask.proofs.Answered.{zero-number, counted-refused, place-is}
+use Rattle.ask.proofs.Answered.{counted-refused}
 use Rattle.ask.specs.Plan.{Found}
 use Rattle.admit.specs.declared.wanted.Wanted.{Wanted}
 use Rattle.admit.specs.Admit.{agreedOn, WantedOf, tableChecked, Judges}
 use Rattle.write.specs.Write.{Tabled}
-use Rattle.fold.specs.Fold.{Findings, Ends, wantedChecked, wantedResult, Promised}
+use Rattle.fold.specs.Fold.{Findings, Ends, surveyChecked, surveyResult, wantedChecked, wantedResult, Promised}
 
 pub is-true : (t : Bool) → T t → t ≡ true
 is-true true y = refl
@@ -49,22 +48,57 @@ pub twice-not : (t : Bool) → T (not (not t)) → T t
 twice-not true y = y
 twice-not false y = y
 
--- ---- what is answered, and what the result holds
+-- ---- what is answered, and what the result holds, once the circuit is accepted
 
-module _ (b : List ℕ) (w : Wanted) (room nodes : ℕ) (r : List ℕ) where
-  -- where both are accepted, and the circuit was surveyed
-  pub judged-is : (survey : Survey) (v : Verdict) → scratchChecked b room ≡ answer 0 0 → Judges b survey w (length r) v
-      → survey .place ≡ firstOver (allInputs b) (min nodes mostRecords) (gates b) (signalOn b)
-      → figures v ≡ wantedChecked b w room nodes (length r)
-  unfolding wantedChecked Judges
-  judged-is survey v e J at = J nodes at ∙ ap (λ f. andThen f (tableChecked b w (length r))) (sym (ask-counts b room nodes e))
+module _ (b : List ℕ) (w : Wanted) (nodes : ℕ) (r : List ℕ) where
+  -- where the circuit was surveyed
+  judged-is : (survey : Survey) (v : Verdict) → Judges b survey w (length r) v → survey .place ≡ firstOver (allInputs b) (min nodes mostRecords) (gates b) (signalOn b)
+      → figures v ≡ surveyChecked b w nodes (length r)
+  unfolding surveyChecked Judges
+  judged-is survey v J at = J nodes at
 
   -- a refusal leaves the result
-  pub result-kept : (f : Figures) → f ≡ wantedChecked b w room nodes (length r) → eqb (f .number) 0 ≡ false → r ≡ wantedResult b w room nodes r
-  unfolding wantedResult
+  result-kept : (f : Figures) → f ≡ surveyChecked b w nodes (length r) → eqb (f .number) 0 ≡ false → r ≡ surveyResult b w nodes r
+  unfolding surveyResult
   result-kept f e z = rw (← e, z)
 
-  -- folding accepts where this does
+  module _ (p : ℕ) (e : surveyChecked b w nodes (length r) ≡ answer 0 p) where
+    -- the nodes were enough, and the bytes fit
+    nodes-enough : (q : ℕ) × (nodesChecked b nodes ≡ answer 0 q)
+    unfolding surveyChecked
+    nodes-enough = let (q, a, c) = both-accept (nodesChecked b nodes) _ p e in (q, a)
+
+    roomy : (length (foldedBytes b) ≤ length r) × (p ≡ length (foldedBytes b))
+    unfolding surveyChecked roomChecked
+    roomy =
+        let (q, a, c) = both-accept (nodesChecked b nodes) _ p e in
+        let k = passed (not (agreedOn w (foldedPlan b))) 14 0 (roomChecked b (length r)) p refl c .1 in
+        let l = passed (ltb (length r) (length (foldedBytes b))) 7 _ _ p refl k in
+        (ltb-false (length r) _ (l .0), sym (ap (λ (f : Figures). f .place) (l .1)))
+
+    -- the bytes at the front are what the result holds
+    result-written : (r′ : List ℕ) → r′ ≡ foldedBytes b ++ drop (length (foldedBytes b)) r → r′ ≡ surveyResult b w nodes r
+    unfolding surveyResult
+    result-written r′ q = left (surveyChecked b w nodes (length r)) p (foldedBytes b) r r′ (sym e) (q ∙ ap (λ (n : ℕ). foldedBytes b ++ drop n r) (sym (roomy .1)))
+
+-- ---- and with all that is judged before
+
+module _ (b : List ℕ) (w : Wanted) (room nodes : ℕ) (r : List ℕ) where
+  -- where the circuit's checks and 6 pass, the rest is answered
+  pub passed-figures : scratchChecked b room ≡ answer 0 0 → wantedChecked b w room nodes (length r) ≡ surveyChecked b w nodes (length r)
+  unfolding wantedChecked surveyChecked
+  passed-figures e = ap (λ f. andThen f (tableChecked b w (length r))) (ask-counts b room nodes e)
+
+  pub passed-result : scratchChecked b room ≡ answer 0 0 → wantedResult b w room nodes r ≡ surveyResult b w nodes r
+  unfolding wantedResult surveyResult
+  passed-result e = ap (λ f. resultAfter f (foldedBytes b) r) (passed-figures e)
+
+  -- a refusal before it leaves the result
+  pub wanted-kept : (f : Figures) → f ≡ wantedChecked b w room nodes (length r) → eqb (f .number) 0 ≡ false → r ≡ wantedResult b w room nodes r
+  unfolding wantedResult
+  wanted-kept f e z = rw (← e, z)
+
+  -- folding accepts where this does, and the result is the same
   module _ (p : ℕ) (e : wantedChecked b w room nodes (length r) ≡ answer 0 p) where
     fold-accepts : foldChecked b room nodes (length r) ≡ answer 0 p
     unfolding wantedChecked foldChecked
@@ -72,22 +106,6 @@ module _ (b : List ℕ) (w : Wanted) (room nodes : ℕ) (r : List ℕ) where
         let (q, a, c) = both-accept (askChecked b room nodes) _ p e in
         let k = passed (not (agreedOn w (foldedPlan b))) 14 0 (roomChecked b (length r)) p refl c .1 in
         ap (λ (t : Figures). andThen t (roomChecked b (length r))) a ∙ k
-
-    -- the nodes were enough, and the bytes fit
-    pub nodes-enough : (q : ℕ) × (askChecked b room nodes ≡ answer 0 q)
-    unfolding wantedChecked
-    nodes-enough = let (q, a, c) = both-accept (askChecked b room nodes) _ p e in (q, a)
-
-    pub bytes-fit : length (foldedBytes b) ≤ length r
-    bytes-fit = accepted b room nodes (length r) p fold-accepts .room-enough
-
-    pub place-bytes : p ≡ length (foldedBytes b)
-    place-bytes = accepted b room nodes (length r) p fold-accepts .place-is
-
-    -- the bytes at the front are what the result holds
-    pub result-written : (r′ : List ℕ) → r′ ≡ foldedBytes b ++ drop (length (foldedBytes b)) r → r′ ≡ wantedResult b w room nodes r
-    unfolding wantedResult
-    result-written r′ q = left (wantedChecked b w room nodes (length r)) p (foldedBytes b) r r′ (sym e) (q ∙ ap (λ (n : ℕ). foldedBytes b ++ drop n r) (sym place-bytes))
 
     same-result : wantedResult b w room nodes r ≡ foldResult b room nodes r
     unfolding wantedResult foldResult
@@ -127,33 +145,30 @@ head-of b = record { inputs-is = refl; outputs-is = refl; frames-is = refl; gate
 -- ---- a circuit that was surveyed: r is the result, v what is judged, t whether that accepts
 
 module _ (b : List ℕ) (survey : Survey) (w : Wanted) (ns : List Node) (s ws r : List ℕ) (F : Findings b survey ns s ws) where
-  circuit-accepted : checked b .number ≡ 0
-  circuit-accepted = ap (λ (f : Figures). f .number) (scratch-tells b (length s) (F .lent) .0)
-
   pub found : Found b survey
   found = record {
-    accepted = circuit-accepted;
+    accepted = F .accepted;
     most = omega (arith, F .place-is, first-most b (min (length ns) mostRecords));
     counted = λ e. F .known e .counted;
   }
 
   module _ (v : Verdict) (J : Judges b survey w (length r) v) (t : Bool) (q : t ≡ eqb (figures v .number) 0) where
-    answers : figures v ≡ wantedChecked b w (length s) (length ns) (length r)
-    answers = judged-is b w (length s) (length ns) r survey v (F .lent) J (F .place-is)
+    answers : figures v ≡ surveyChecked b w (length ns) (length r)
+    answers = judged-is b w (length ns) r survey v J (F .place-is)
 
     -- what is refused is not written
-    pub ends-refused : T (not t) → Ends b w (length s) (length ns) r r v
-    ends-refused n = record { answered = answers; written = result-kept b w (length s) (length ns) r (figures v) answers (sym q ∙ not-true t n) }
+    pub ends-refused : T (not t) → Ends b w (length ns) r r v
+    ends-refused n = record { answered = answers; written = result-kept b w (length ns) r (figures v) answers (sym q ∙ not-true t n) }
 
     module _ (y : T t) where
-      accepts-at : wantedChecked b w (length s) (length ns) (length r) ≡ answer 0 (figures v .place)
+      accepts-at : surveyChecked b w (length ns) (length r) ≡ answer 0 (figures v .place)
       accepts-at = sym answers ∙ ap (λ n. answer n (figures v .place)) (eqb-true (figures v .number) 0 (sym q ∙ is-true t y))
 
       all-counted : survey .place ≡ gates b + 1
       all-counted =
-          let h = well-formed (circuitAccepted b _ (zero-number b circuit-accepted) .form) (head-of b) in
-          let (p, e) = nodes-enough b w (length s) (length ns) r (figures v .place) accepts-at in
-          ⊎-elim (λ x. x) (λ l. absurd (refused-not p (sym (counted-refused b _ h survey (length ns) (F .place-is) (omega arith)) ∙ sym (ask-counts b (length s) (length ns) (F .lent)) ∙ e)))
+          let h = well-formed (F .accepted .form) (head-of b) in
+          let (p, e) = nodes-enough b w (length ns) r (figures v .place) accepts-at in
+          ⊎-elim (λ x. x) (λ l. absurd (refused-not p (sym (counted-refused b _ h survey (length ns) (F .place-is) (omega arith)) ∙ e)))
           (eq-or-lt-of-le (found .most))
         where
           refused-not : (p : ℕ) → answer 18 (survey .place) ≡ answer 0 p → ⊥
@@ -162,13 +177,13 @@ module _ (b : List ℕ) (survey : Survey) (w : Wanted) (ns : List Node) (s ws r 
       -- what is accepted can be written
       pub tabled : Tabled b survey ns s ws r
       tabled = record {
-        accepted = circuit-accepted;
+        accepted = F .accepted;
         records = min (length ns) mostRecords;
         known = F .known all-counted;
-        enough = scratch-tells b (length s) (F .lent) .1;
+        enough = F .enough;
         space = F .space;
-        room = bytes-fit b w (length s) (length ns) r (figures v .place) accepts-at;
+        room = roomy b w (length ns) r (figures v .place) accepts-at .0;
       }
 
-      pub ends-written : (r′ : List ℕ) → r′ ≡ foldedBytes b ++ drop (length (foldedBytes b)) r → Ends b w (length s) (length ns) r r′ v
-      ends-written r′ e = record { answered = answers; written = result-written b w (length s) (length ns) r (figures v .place) accepts-at r′ e }
+      pub ends-written : (r′ : List ℕ) → r′ ≡ foldedBytes b ++ drop (length (foldedBytes b)) r → Ends b w (length ns) r r′ v
+      ends-written r′ e = record { answered = answers; written = result-written b w (length ns) r (figures v .place) accepts-at r′ e }

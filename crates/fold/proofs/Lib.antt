@@ -3,7 +3,7 @@ pub mod Judged
 pub mod Finished
 mod JudgeCall
 mod FoundCall
-mod JudgedCall
+pub mod JudgedCall
 pub mod FoldCall
-mod AnyCall
+pub mod AnyCall
 pub mod FoldingCall

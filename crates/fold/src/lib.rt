@@ -6,6 +6,7 @@ use lent::clear_needed;
 use lent::judge_lent;
 use nodes::Node;
 use records::clear as empty;
+use source::Source;
 use survey::Survey;
 use survey::no_work;
 use survey::survey_circuit;
@@ -15,6 +16,7 @@ ghost use mathlib.Core.Path.{_≡_};
 ghost use mathlib.Core.List.{_++_};
 ghost use lib.ListN.{length, drop};
 ghost use Rattle.verdict.specs.Judgements.{figures};
+ghost use Rattle.source.specs.Source.{sourced, SourceOf};
 ghost use Rattle.folded.specs.Folded.{foldChecked, foldResult, scratchAfter, nodesAfter};
 ghost use Rattle.fold.specs.Fold.{Findings, Ends, Clean, Finishes, Folds, Promised};
 
@@ -27,35 +29,46 @@ fn write_found(
     scratch: &[u16],
     work: &mut [u32],
     result: &mut [u8],
+    source: Source,
 ) -> Verdict
-    requires { ⌜ Findings (now circuit) found (now nodes) (now scratch) (now work) ⌝ }
-    ensures { λ r. ⌜ Ends (now (circuit .entry)) wanted (length (now (scratch .entry))) (length (now (nodes .entry))) (now (result .entry)) (now (result .exit)) r ⌝ }
+    requires { ⌜ SourceOf (now circuit) source × Findings (sourced source (now circuit)) found (now nodes) (now scratch) (now work) ⌝ }
+    ensures { λ r. ⌜ Ends (sourced source (now (circuit .entry))) wanted (length (now (nodes .entry))) (now (result .entry)) (now (result .exit)) r ⌝ }
 {
-    let verdict = judge_survey(circuit, found, wanted, result.len());
+    let verdict = judge_survey(circuit, found, wanted, result.len(), source);
     if !accepts(verdict) {
         return verdict;
     }
-    write_table(circuit, found, nodes, scratch, work, result);
+    write_table(circuit, found, nodes, scratch, work, result, source);
     verdict
 }
 
-// Surveys a circuit that was judged, with the scratch that was cleared, and writes its table where it is accepted. The records, and what is needed of the
-// scratch, end zero.
-fn fold_judged(
+// Surveys a circuit, or a network by its source, that is accepted, with the scratch that was cleared, and writes its table where 18, 14 and 7 are passed. The
+// records, and what is needed of the scratch, end zero.
+pub fn fold_judged(
     circuit: &[u8],
     wanted: Wanted,
     scratch: &mut [u16],
     nodes: &mut [Node],
     result: &mut [u8],
+    source: Source,
 ) -> Verdict
-    requires { ⌜ Clean (now circuit) (now scratch) ⌝ }
-    ensures { λ r. ⌜ Finishes (now (circuit .entry)) wanted (now (scratch .entry)) (now (scratch .exit)) (now (nodes .entry)) (now (nodes .exit)) (now (result .entry)) (now (result .exit)) r ⌝ }
+    requires { ⌜ SourceOf (now circuit) source × Clean (sourced source (now circuit)) (now scratch) ⌝ }
+    ensures { λ r. ⌜ Finishes (sourced source (now (circuit .entry))) wanted (now (scratch .entry)) (now (scratch .exit)) (now (nodes .entry)) (now (nodes .exit)) (now (result .entry)) (now (result .exit)) r ⌝ }
 {
     let mut work = no_work();
-    let found = survey_circuit(circuit, scratch, nodes, &mut work);
-    let verdict = write_found(circuit, found, wanted, nodes, scratch, &mut work, result);
+    let found = survey_circuit(circuit, scratch, nodes, &mut work, source);
+    let verdict = write_found(
+        circuit,
+        found,
+        wanted,
+        nodes,
+        scratch,
+        &mut work,
+        result,
+        source,
+    );
     empty(nodes);
-    clear_needed(circuit, scratch);
+    clear_needed(scratch, source);
     verdict
 }
 
@@ -73,7 +86,8 @@ pub fn fold_wanted(
     if !accepts(judged) {
         return judged;
     }
-    fold_judged(circuit, wanted, scratch, nodes, result)
+    let source = Source::of(circuit);
+    fold_judged(circuit, wanted, scratch, nodes, result, source)
 }
 
 // Folds a circuit. The scratch and the records are lent: what is needed of the one, and all of the other, end zero once they are used.

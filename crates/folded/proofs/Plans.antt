@@ -14,15 +14,16 @@ use Rattle.sizes.specs.Limits.{mostFrames}
 use Rattle.sizes.specs.Sizes.{inputs, outputs, frames}
 use Rattle.layered.proofs.Lists.{tabulate-cong, tabulate-at}
 use Rattle.circuit.specs.Circuit.{checked}
-use Rattle.circuit.specs.Theorems.{AcceptedCausal}
-use Rattle.circuit.proofs.Causal.{causal}
+use Rattle.circuit.specs.WellFormed.{Accepted}
+use Rattle.circuit.proofs.Accepted.{accepted as circuitAccepted}
+use Rattle.circuit.proofs.Causal.{causal-of}
 use Rattle.table.specs.Table.{states}
 use Rattle.folded.specs.Folded.{foldedBytes, askChecked}
 use Rattle.folded.specs.Planned.{countsTo, planOf, foldedPlan}
 use Rattle.folded.specs.Theorems.{Folding, Askings, Committing}
 use Rattle.folded.proofs.Written.{tableBytes, machine-back}
 use Rattle.folded.proofs.Tables.{foldedMachine, table-writable}
-use Rattle.folded.proofs.Outcomes.{circuit-sized, written-bytes}
+use Rattle.folded.proofs.Outcomes.{written-bytes}
 use Rattle.folded.proofs.Asked.{counts-length, ask-tells, ask-passed, asked-figures, asked-plan, used, used-refused, commit-refused, other-answer, commit-keeps, own-figures, own-result, fold-accepts, fold-refuses}
 use Rattle.folded.proofs.Theorems.{folding}
 
@@ -62,15 +63,14 @@ planParts b = inputs b ∷ outputs b ∷ frames b ∷ (countsTo (frames b) (fold
 
 -- ---- of an accepted circuit: its plan is these
 
-module _ (b : List ℕ) (p : ℕ) (e : checked b ≡ answer 0 p) where
+module _ (b : List ℕ) (A : Accepted b) where
   is-folding : Folding (2 ^ inputs b) (outputs b) (frames b) b (foldedBytes b)
-  unfolding AcceptedCausal
-  is-folding = folding b (causal b p e) (circuit-sized b p e)
+  is-folding = folding b (causal-of b A) (A .form .sizes)
 
   -- a layer's count, as it is written
   states-are : (k : ℕ) → k ≤ frames b → states (foldedBytes b) k ≡ foldedMachine b .states k
-  unfolding foldedBytes tableBytes AcceptedCausal
-  states-are k h = sym (machine-back (table-writable b (causal b p e) (circuit-sized b p e)) .states-are k h)
+  unfolding foldedBytes tableBytes
+  states-are k h = sym (machine-back (table-writable b (causal-of b A) (A .form .sizes)) .states-are k h)
 
   pub folded-plan : foldedPlan b ≡ planParts b
   unfolding foldedPlan planOf
@@ -92,8 +92,9 @@ askings b room nodes plan e =
     let a : askChecked b room nodes ≡ answer 0 0 = asked-figures b room nodes 0 0 plan e in
     let own : plan ≡ planOf (foldedBytes b) = asked-plan b room nodes plan e in
     let c : checked b ≡ answer 0 (checked b .place) = ask-tells b room nodes a .0 in
-    let F = is-folding b _ c in
-    let z = circuit-sized b _ c .frames-to in
+    let A = circuitAccepted b _ c in
+    let F = is-folding b A in
+    let z = A .form .sizes .frames-to in
     let bytes : getD plan 20 0 ≡ length (foldedBytes b) = ap (λ l. getD l 20 0) own ∙ plan-bytes (foldedBytes b) in
     record {
       enough = λ x l. fold-accepts b room nodes x (getD plan 20 0) a bytes (omega arith);

@@ -150,7 +150,7 @@ same-bytes b d C D Z i o f =
 
 -- ---- whatever folding accepts
 
-known : (b : List ℕ) (scratchRoom nodeRoom resultRoom p : ℕ) → foldChecked b scratchRoom nodeRoom resultRoom ≡ answer 0 p → Causal b × Sized 8 (inputs b) (outputs b) (frames b)
+pub known : (b : List ℕ) (scratchRoom nodeRoom resultRoom p : ℕ) → foldChecked b scratchRoom nodeRoom resultRoom ≡ answer 0 p → Causal b × Sized 8 (inputs b) (outputs b) (frames b)
 unfolding AcceptedCausal
 known b s n r p e =
     let a = accepted b s n r p e in

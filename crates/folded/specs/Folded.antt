@@ -23,12 +23,13 @@ foldedBytes b = wordBytes (tableWords (inputs b) (outputs b) (2 ^ inputs b) (fra
 unfoldable pub scratchNeeded : List ℕ → ℕ
 scratchNeeded b = 2 * 2 ^ allInputs b
 
+-- 6
+abbrev pub sixChecked : (needed scratchRoom : ℕ) → Figures
+sixChecked needed scratchRoom = refuse (ltb scratchRoom needed) 6 needed (answer 0 0)
+
 -- what is judged before anything that is lent is used: the circuit's checks, then 6
 unfoldable pub scratchChecked : List ℕ → (scratchRoom : ℕ) → Figures
-scratchChecked b scratchRoom =
-    andThen (checked b)
-    (refuse (ltb scratchRoom (scratchNeeded b)) 6 (scratchNeeded b)
-    (answer 0 0))
+scratchChecked b scratchRoom = andThen (checked b) (sixChecked (scratchNeeded b) scratchRoom)
 
 -- 18 at g: the inputs and gates 1 to g have more distinct nodes than there are records, and g is the smallest such (document 02, Point 10)
 unfoldable pub nodesChecked : List ℕ → (nodeRoom : ℕ) → Figures
@@ -53,8 +54,11 @@ unfoldable pub foldResult : List ℕ → (scratchRoom nodeRoom : ℕ) (before : 
 foldResult b scratchRoom nodeRoom before = resultAfter (foldChecked b scratchRoom nodeRoom (length before)) (foldedBytes b) before
 
 -- the scratch with the needed numbers zero, the rest as before
+abbrev pub clearedTo : (needed : ℕ) (before : List ℕ) → List ℕ
+clearedTo needed before = replicate needed 0 ++ drop needed before
+
 unfoldable pub cleared : (b before : List ℕ) → List ℕ
-cleared b before = replicate (scratchNeeded b) 0 ++ drop (scratchNeeded b) before
+cleared b before = clearedTo (scratchNeeded b) before
 
 -- what the scratch holds after it: cleared where the circuit's checks and 6 pass, whatever is judged then; else as before
 unfoldable pub scratchAfter : (b before : List ℕ) → List ℕ

@@ -16,11 +16,10 @@ use Rattle.layered.proofs.States.{some-words}
 use Rattle.layered.proofs.Histories.{history-words}
 use Rattle.circuit.specs.Lists.{grown, listed, bit}
 use Rattle.circuit.specs.Circuit.{gates, allInputs, gateSignal, gateOfOutput, inputValues, gateValue, signalValues, outputWord}
-use Rattle.circuit.specs.WellFormed.{CircuitHeaded}
+use Rattle.circuit.specs.WellFormed.{CircuitHeaded, Accepted}
 use Rattle.circuit.specs.Theorems.{response}
 use Rattle.circuit.proofs.Bits.{equal-bits, packed-bits}
 use Rattle.circuit.proofs.Lists.{listed-cons, listed-length, listed-at}
-use Rattle.circuit.proofs.Accepted.{Accepted, accepted}
 use Rattle.circuit.proofs.Unconnected.{word-below, word-bit}
 use Rattle.circuit.proofs.Causal.{word-agrees}
 use Rattle.diagrams.specs.Frames.{historyBits}
@@ -44,7 +43,7 @@ response-below b t h = word-below b _ _
 
 module _ (b : List ℕ) (H : CircuitHeaded b) where
   -- the signals on a sequence are those on its bits
-  values-on : (c : List ℕ) → length c ≡ frames b → signalValues b c (gates b) ≡ grown (false ∷ bitsOf (inputs b) c) (gateValue b) (gates b)
+  pub values-on : (c : List ℕ) → length c ≡ frames b → signalValues b c (gates b) ≡ grown (false ∷ bitsOf (inputs b) c) (gateValue b) (gates b)
   unfolding signalValues inputValues allInputs
   values-on c e =
       ap (λ s. grown s (gateValue b) (gates b))
@@ -102,8 +101,7 @@ module _ (b : List ℕ) (A : Accepted b) (t i : ℕ) (h : t < frames b) (k : i <
 
 pub outputs-respond : OutputsRespond
 unfolding OutputsRespond
-outputs-respond b p e =
-    let A = accepted b p e in
+outputs-respond b A =
     let H = A .form .head in
     record {
       told = λ t g h l. (

@@ -6,15 +6,15 @@ use Prim.Native.Nat.{ℕ, zero, suc, _+_, _*_, _/_, _%_, _^_, _<_}
 use native.Mathlib.Nat.{mul-zero, mul-suc, div-eq-of-lt, mod-eq-of-lt, add-div-left, add-mod-left}
 use native.Mathlib.Numerals.{one-add, add-one}
 use native.Mathlib.Omega.{arith}
-use lib.ListN.{length, getD, take, drop, replicate, length-drop, take-append-drop, replicate-append-replicate}
+use lib.ListN.{length, getD, take, drop, replicate, length-append, length-drop, take-append-drop, replicate-append-replicate}
 use lib.Seq.{length-take-le}
 use Rattle.layered.specs.States.{Words, none, more}
 use Rattle.layered.specs.Histories.{historyWords}
 use Rattle.circuit.specs.Lists.{grown, listed, bit}
 use Rattle.circuit.proofs.Bits.{bit-zero, bit-suc}
-use Rattle.circuit.proofs.Lists.{listed-cong, listed-add}
+use Rattle.circuit.proofs.Lists.{listed-at, listed-cong, listed-add}
 use Rattle.diagrams.specs.Frames.{wordBits, historyBits}
-use Rattle.diagrams.proofs.Frames.{word-of}
+use Rattle.diagrams.proofs.Frames.{word-length, word-of}
 
 -- the bits of the words c, n to a word
 unfoldable pub bitsOf : (n : ℕ) → List ℕ → List Bool
@@ -43,6 +43,15 @@ words-listed n p (w ∷ c) (suc k) e =
     ∙ ap₂ (λ (l r : List Bool). l ++ r)
     (listed-cong f (bit w) n (λ i l. ap₂ (λ q r. bit (getD (w ∷ c) q 0) r) (div-eq-of-lt l) (mod-eq-of-lt l)) ∙ word-listed n w)
     (listed-cong _ _ (n * k) (λ j _. ap₂ (λ q r. bit (getD (w ∷ c) q 0) r) (add-div-left j p ∙ add-one (j / n)) (add-mod-left n j)) ∙ words-listed n p c k (omega arith))
+
+-- how many there are, and each
+pub bits-length : (n : ℕ) (c : List ℕ) → length (bitsOf n c) ≡ n * length c
+unfolding bitsOf
+bits-length n [] = sym (mul-zero n)
+bits-length n (w ∷ c) = length-append (wordBits n w) (bitsOf n c) ∙ omega (arith, word-length n w, bits-length n c, mul-suc n (length c))
+
+pub bits-at : (n : ℕ) → 0 < n → (c : List ℕ) (i : ℕ) → i < n * length c → getD (bitsOf n c) i false ≡ bit (getD c (i / n) 0) (i % n)
+bits-at n p c i h = ap (λ l. getD l i false) (sym (words-listed n p c (length c) refl)) ∙ listed-at _ false (n * length c) i h
 
 -- ---- parts, zeros and histories
 

@@ -61,7 +61,7 @@ pub few-nodes : FewNodes
 unfolding FewNodes nodesTo
 few-nodes b h W k l =
     let M : ℕ = allInputs b + k in
-    let few : M ≤ 4112 = omega (arith, W .headed .inputs-to, W .headed .gates-to) in
-    let all : M * 2 ^ allInputs b ≤ 4112 * 2 ^ 16 = mul-le-mul few (pow-mono (W .headed .inputs-to)) in
-    let whole : _≡_ {A = ℕ} (4112 * 2 ^ 16) 269484032 = refl in
+    let few : M ≤ 4368 = omega (arith, W .headed .inputs-to, W .headed .gates-to) in
+    let all : M * 2 ^ allInputs b ≤ 4368 * 2 ^ 16 = mul-le-mul few (pow-mono (W .headed .inputs-to)) in
+    let whole : _≡_ {A = ℕ} (4368 * 2 ^ 16) 286261248 = refl in
     omega (arith, nodes-bound (allInputs b) M (signalOn b), all, whole)

@@ -4,11 +4,10 @@ use mathlib.Core.Bool.{false}
 use mathlib.Core.List.{List, [], _++_}
 use Prim.Native.Nat.{ℕ, suc, _+_, _*_, _-_, _≤_, _<_}
 use lib.ListN.{replicate}
-use Rattle.verdict.specs.Judgements.{answer}
 use Rattle.sizes.specs.Sizes.{inputs, outputs, frames}
 use Rattle.circuit.specs.Lists.{listed, packed}
-use Rattle.circuit.specs.Circuit.{gates, leftsAt, rightsAt, allInputs, operand, checked}
-use Rattle.circuit.specs.WellFormed.{CircuitHeaded, WellFormed}
+use Rattle.circuit.specs.Circuit.{gates, leftsAt, rightsAt, allInputs, operand}
+use Rattle.circuit.specs.WellFormed.{CircuitHeaded, WellFormed, Accepted}
 use Rattle.circuit.specs.Theorems.{response}
 use Rattle.circuit.specs.declared.Head.{Head}
 use Rattle.diagrams.specs.Building.{Family}
@@ -21,7 +20,7 @@ SignalsFamily = (b : List ℕ) (h : Head) → WellFormed b h → Family (allInpu
 
 -- an accepted circuit's response is that of its outputs
 unfoldable pub OutputsRespond : Type 0
-OutputsRespond = (b : List ℕ) (p : ℕ) → checked b ≡ answer 0 p → Responds (inputs b) (outputs b) (frames b) (response b) (outputOn b)
+OutputsRespond = (b : List ℕ) → Accepted b → Responds (inputs b) (outputs b) (frames b) (response b) (outputOn b)
 
 -- the response to any number h as history is the word of the frame's outputs, where all later inputs are false
 unfoldable pub ResponsesRead : Type 0

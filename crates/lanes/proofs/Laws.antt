@@ -12,6 +12,7 @@ use lib.ListN.{length, getD, set, replicate, length-map, length-set, getD-replic
 use lib.Seq.{getD-take, getD-append-add, getD-set-same, getD-set-other, set-getD, take-set-le}
 use borrow.Author.Tests.{eqb-true, lt-ltb}
 use lib.Bits.{bitAnd}
+use Rattle.sizes.specs.Limits.{mostBits}
 use Rattle.sizes.specs.Sizes.{inputs, frames}
 use Rattle.layered.specs.Search.{every}
 use Rattle.layered.specs.Histories.{historyWords}
@@ -19,17 +20,17 @@ use Rattle.layered.proofs.Rows.{pow-mul}
 use Rattle.layered.proofs.Search.{every-each}
 use Rattle.layered.proofs.Histories.{history-length, history-word}
 use Rattle.circuit.specs.Limits.{mostSignals}
-use Rattle.circuit.specs.Lists.{grown, bit, packed}
+use Rattle.circuit.specs.Lists.{grown, listed, bit, packed}
 use Rattle.circuit.specs.Circuit.{gates, leftsAt, rightsAt, operand, allInputs, gateSignal, inputValues, literalValue, gateValue}
 use Rattle.circuit.specs.WellFormed.{LegalGates}
 use Rattle.circuit.proofs.Ahead.{beq-same}
 use Rattle.circuit.proofs.Bits.{digit, bit-none, bit-packed, bit-and}
 use Rattle.circuit.proofs.Literals.{operand-before}
 use Rattle.circuit.proofs.Laws.{fill-grown, values-grow}
-use Rattle.circuit.proofs.Lists.{listed-after}
+use Rattle.circuit.proofs.Lists.{listed-after, listed-at}
 use Rattle.circuit.proofs.Frames.{ends, inputs-are, from-first, only-input}
 use Rattle.lanes.specs.Limits.{laneBits, laneCount}
-use Rattle.lanes.specs.Lanes.{lane, literalLanes, sequence, Lanes, InputLanes, FrameLanes, Settled, Ready, Unnamed, FirstUses, SignalLanes}
+use Rattle.lanes.specs.Lanes.{lane, literalLanes, sequence, picked, Lanes, InputLanes, FrameLanes, Settled, Ready, Unnamed, FirstUses, SignalLanes}
 use Rattle.lanes.proofs.Bits.{bit-not, bit-part, bit-low, bit-high}
 
 -- ---- a lane of a list
@@ -276,6 +277,11 @@ settled-signals b L t h v room S base eb I j lj =
     (λ g l. lane-at v j (gateSignal b g) ∙ S g j l lj)
 
 -- room that was not used yet is ready for any circuit
+-- a bit of what is picked
+pub picked-bit : (bits : List ℕ) (x p : ℕ) → p < mostBits → bit (picked bits x) p ≡ bit x (getD bits p 0)
+unfolding picked
+picked-bit bits x p h = bit-packed (listed [] (λ p. bit x (getD bits p 0)) mostBits) p ∙ listed-at (λ p. bit x (getD bits p 0)) false mostBits p h
+
 pub room-ready : (b v : List ℕ) → v ≡ replicate mostSignals 1 → Ready b v
 room-ready b v e z =
     let one : getD v 0 0 ≡ 1 = ap (λ l. getD l 0 0) e ∙ getD-replicate mostSignals 0 1 0 (omega arith) in

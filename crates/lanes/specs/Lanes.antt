@@ -2,12 +2,12 @@
 use Prim.Native.Nat.{ℕ, _+_, _*_, _-_, _/_, _%_, _^_, _≤_, _<_}
 use mathlib.Core.Path.{_≡_}
 use mathlib.Core.Bool.{Bool, cond}
-use mathlib.Core.List.{List, _++_, map}
+use mathlib.Core.List.{List, [], _++_, map}
 use lib.ListN.{getD, take, replicate}
 use lib.Dec.{eqb}
 use Rattle.sizes.specs.Limits.{mostBits}
 use Rattle.sizes.specs.Sizes.{inputs, frames}
-use Rattle.circuit.specs.Lists.{bit}
+use Rattle.circuit.specs.Lists.{listed, bit, packed}
 use Rattle.circuit.specs.Circuit.{gates, leftsAt, rightsAt, operand, allInputs, gateSignal, inputValues, gateValue, signalValues}
 use Rattle.circuit.specs.Frames.{InputOf, OnlyInputOf}
 use Rattle.layered.specs.Histories.{historyWords}
@@ -28,6 +28,10 @@ sequence K T t h = historyWords K t h ++ replicate (T - t) 0
 -- lane j of v is the number h j: number p of v has its bit p
 unfoldable pub NumberLanes : (v : List ℕ) (h : ℕ → ℕ) → Type 0
 NumberLanes v h = (j p : ℕ) → j < laneCount → p < mostBits → bit (getD v p 0) j ≡ bit (h j) p
+
+-- the number whose bits are those of x that `bits` names, one for each place
+unfoldable pub picked : (bits : List ℕ) (x : ℕ) → ℕ
+picked bits x = packed (listed [] (λ p. bit x (getD bits p 0)) mostBits)
 
 -- in the first k numbers of v, lane j holds these values
 unfoldable pub Lanes : (v : List ℕ) (k : ℕ) (values : ℕ → List Bool) → Type 0

@@ -15,7 +15,7 @@ ghost use Rattle.circuit.specs.Lists.{listed, bit, packed};
 ghost use Rattle.circuit.specs.Circuit.{allInputs};
 ghost use Rattle.circuit.specs.WellFormed.{WellFormed};
 ghost use Rattle.lanes.specs.Limits.{laneCount};
-ghost use Rattle.lanes.specs.Lanes.{lane, literalLanes, sequence, NumberLanes, InputLanes, FrameLanes, Settled, Ready, FirstUses, SignalLanes};
+ghost use Rattle.lanes.specs.Lanes.{lane, literalLanes, sequence, NumberLanes, picked, InputLanes, FrameLanes, Settled, Ready, FirstUses, SignalLanes};
 
 // How many sequences are simulated side by side, a lane each: the bits of a number; and the bits of a lane's number.
 pub struct Limits;
@@ -53,14 +53,14 @@ fn counting_lanes(at: usize, place: usize) -> u32
     if is_set(at, place) { u32::MAX } else { 0 }
 }
 
-// The lanes of the histories `at`, `at` + 1, ..: a number for each bit.
-pub fn neighbours(at: usize) -> [u32; sizes::Limits::BITS]
-    requires { ⌜ at % laneCount ≡ 0 ⌝ }
-    ensures { λ r. ⌜ NumberLanes r (λ j. at + j) ⌝ }
+// The lanes of the numbers `at`, `at` + 1, ..: one for each of the bits that are named.
+pub fn neighbours(at: usize, bits: &[usize]) -> [u32; sizes::Limits::BITS]
+    requires { ⌜ (at % laneCount ≡ 0) × (mostBits ≤ length (now bits)) × ((p : ℕ) → p < mostBits → getD (now bits) p 0 < mostBits) ⌝ }
+    ensures { λ r. ⌜ NumberLanes r (λ j. picked (now (bits .entry)) (at + j)) ⌝ }
 {
     let mut numbers = [0; sizes::Limits::BITS];
     for place in 0..sizes::Limits::BITS {
-        numbers[place] = counting_lanes(at, place);
+        numbers[place] = counting_lanes(at, bits[place]);
     }
     numbers
 }

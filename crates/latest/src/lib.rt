@@ -1,21 +1,21 @@
-// The latest frames that a circuit's signals depend on by their gates, and the first output whose gates reach a later frame than its own.
-use circuit::Head;
+// The latest frames that the signals of a circuit, or of a network by its source, depend on by their gates, and the first output whose gates reach a later frame than its own.
 use circuit::Limits;
-use circuit::read_gate;
+use source::Source;
+use source::gate_of;
 ghost use mathlib.Core.Path.{_≡_};
 ghost use Prim.Native.Nat.{ℕ, _+_, _*_, _≤_, _<_, max};
 ghost use lib.ListN.{length, getD, take, replicate};
 ghost use Rattle.sizes.specs.Limits.{mostOutputs, mostBits};
 ghost use Rattle.layered.specs.Search.{least};
-ghost use Rattle.circuit.specs.Limits.{mostGates, mostSignals};
+ghost use Rattle.circuit.specs.Limits.{mostWired, mostSignals};
 ghost use Rattle.circuit.specs.Circuit.{gates, gateSignal, allOutputs, frameOf};
 ghost use Rattle.circuit.specs.Frames.{NotAfter, OnlyInputOf, OnlyOutputOf};
-ghost use Rattle.circuit.specs.WellFormed.{WellFormed};
+ghost use Rattle.source.specs.Source.{sourced, SourceOf};
 ghost use Rattle.latest.specs.Latest.{inputFrames, InputsTo, latestFrames, reachesLater};
 
 // The frame, from 1, of output q, counted along from a frame that is not later.
 pub fn output_frame(outputs: usize, from: usize, q: usize) -> usize
-    requires { ⌜ (1 ≤ outputs) × (outputs ≤ mostOutputs) × (q ≤ mostGates) ⌝ }
+    requires { ⌜ (1 ≤ outputs) × (outputs ≤ mostOutputs) × (q ≤ mostWired) ⌝ }
     requires { ⌜ NotAfter outputs from q ⌝ }
     ensures frame { λ r. ⌜ r ≡ frameOf outputs q ⌝ }
     ensures only { λ r. ⌜ OnlyOutputOf outputs r q ⌝ }
@@ -67,16 +67,16 @@ fn store_inputs(inputs: usize, frames: usize, latest: &mut [u8])
 }
 
 // Stores the latest frames of all signals.
-fn store_signals(circuit: &[u8], head: Head, latest: &mut [u8])
-    requires { ⌜ WellFormed (now circuit) head ⌝ }
+fn store_signals(circuit: &[u8], source: Source, latest: &mut [u8])
+    requires { ⌜ SourceOf (now circuit) source ⌝ }
     requires { ⌜ mostSignals ≤ length (now latest) ⌝ }
-    ensures { λ _. ⌜ take (gateSignal (now (circuit .entry)) (gates (now (circuit .entry)))) (now (latest .exit)) ≡ latestFrames (now (circuit .entry)) (gates (now (circuit .entry))) ⌝ }
+    ensures { λ _. ⌜ take (gateSignal (sourced source (now (circuit .entry))) (gates (sourced source (now (circuit .entry))))) (now (latest .exit)) ≡ latestFrames (sourced source (now (circuit .entry))) (gates (sourced source (now (circuit .entry)))) ⌝ }
 {
-    let count = head.gates;
-    let base = head.base;
-    store_inputs(head.inputs, head.frames, latest);
+    let count = source.gates;
+    let base = source.base;
+    store_inputs(source.inputs, source.frames, latest);
     for g in 0..count {
-        let gate = read_gate(circuit, head, g);
+        let gate = gate_of(circuit, source, g);
         let left = gate.left / 2;
         let right = gate.right / 2;
         latest[base + g] = later(latest[left], latest[right]);
@@ -84,18 +84,17 @@ fn store_signals(circuit: &[u8], head: Head, latest: &mut [u8])
 }
 
 // The first output whose gates reach an input of a later frame; the number of outputs where there is none.
-pub fn first_reaching(circuit: &[u8], head: Head) -> usize
-    requires { ⌜ WellFormed (now circuit) head ⌝ }
-    ensures { λ r. ⌜ r ≡ least (allOutputs (now (circuit .entry))) (reachesLater (now (circuit .entry))) ⌝ }
+pub fn first_reaching(circuit: &[u8], source: Source) -> usize
+    requires { ⌜ SourceOf (now circuit) source ⌝ }
+    ensures { λ r. ⌜ r ≡ least (allOutputs (sourced source (now (circuit .entry)))) (reachesLater (sourced source (now (circuit .entry)))) ⌝ }
 {
     let mut latest = room();
-    store_signals(circuit, head, &mut latest);
-    let outputs = head.outputs;
-    let total = head.total;
-    let first = head.base + (head.gates - total);
+    store_signals(circuit, source, &mut latest);
+    let total = source.total;
+    let first = source.base + (source.gates - total);
     let mut frame = 1;
     for q in 0..total {
-        frame = output_frame(outputs, frame, q);
+        frame = output_frame(source.outputs, frame, q);
         if (frame as u8) < latest[first + q] {
             return q;
         }

@@ -1,16 +1,17 @@
 // The circuit and the scratch, judged before anything that is lent is used, and what is needed of the scratch cleared.
 use causal::check;
-use circuit::Head;
 use sizes::power;
+use source::Source;
 use verdict::Refusal;
 use verdict::Verdict;
 ghost use mathlib.Core.Path.{_≡_};
 ghost use Prim.Native.Nat.{_*_, _^_, _≤_};
 ghost use lib.Dec.{eqb};
 ghost use lib.ListN.{length, replicate};
-ghost use Rattle.verdict.specs.Judgements.{answer, figures};
+ghost use Rattle.verdict.specs.Judgements.{figures};
 ghost use Rattle.sizes.specs.Limits.{mostBits};
-ghost use Rattle.folded.specs.Folded.{scratchChecked, cleared, scratchAfter};
+ghost use Rattle.folded.specs.Folded.{scratchChecked, clearedTo, scratchAfter};
+ghost use Rattle.lent.specs.Lent.{Takes};
 
 // Whether a judgement accepts.
 pub fn accepts(judged: Verdict) -> bool
@@ -23,12 +24,12 @@ pub fn accepts(judged: Verdict) -> bool
     }
 }
 
-// How many scratch numbers a circuit of these sizes needs.
-fn scratch_needed(inputs: usize, frames: usize) -> usize
-    requires { ⌜ inputs * frames ≤ mostBits ⌝ }
-    ensures { λ r. ⌜ r ≡ 2 * 2 ^ (inputs * frames) ⌝ }
+// How many scratch numbers a source needs.
+fn scratch_needed(source: Source) -> usize
+    requires { ⌜ source .inputs * source .frames ≤ mostBits ⌝ }
+    ensures { λ r. ⌜ r ≡ 2 * 2 ^ (source .inputs * source .frames) ⌝ }
 {
-    2 * power(inputs * frames)
+    2 * power(source.inputs * source.frames)
 }
 
 // Sets all numbers to zero.
@@ -42,6 +43,19 @@ fn clear(scratch: &mut [u16])
     }
 }
 
+// Number 6; what a source needs of the scratch is cleared where it is enough.
+pub fn judge_scratch(scratch: &mut [u16], source: Source) -> Verdict
+    requires { ⌜ source .inputs * source .frames ≤ mostBits ⌝ }
+    ensures { λ r. ⌜ Takes (2 * 2 ^ (source .inputs * source .frames)) (now (scratch .entry)) (now (scratch .exit)) r ⌝ }
+{
+    let needed = scratch_needed(source);
+    if scratch.len() < needed {
+        return Verdict::Refused(Refusal::Scratch(needed));
+    }
+    clear(&mut scratch[..needed]);
+    Verdict::Accepted(0)
+}
+
 // Judges the circuit and the scratch, before anything that is lent is used; what is needed of the scratch is cleared where it accepts.
 pub fn judge_lent(circuit: &[u8], scratch: &mut [u16]) -> Verdict
     ensures verdict { λ r. ⌜ figures r ≡ scratchChecked (now (circuit .entry)) (length (now (scratch .entry))) ⌝ }
@@ -51,21 +65,15 @@ pub fn judge_lent(circuit: &[u8], scratch: &mut [u16]) -> Verdict
     if let Verdict::Refused(_) = judged {
         return judged;
     }
-    let head = Head::read(circuit);
-    let needed = scratch_needed(head.inputs, head.frames);
-    if scratch.len() < needed {
-        return Verdict::Refused(Refusal::Scratch(needed));
-    }
-    clear(&mut scratch[..needed]);
-    Verdict::Accepted(0)
+    let source = Source::of(circuit);
+    judge_scratch(scratch, source)
 }
 
-// Clears what is needed of the scratch, of a circuit that was judged.
-pub fn clear_needed(circuit: &[u8], scratch: &mut [u16])
-    requires { ⌜ scratchChecked (now circuit) (length (now scratch)) ≡ answer 0 0 ⌝ }
-    ensures { λ _. ⌜ now (scratch .exit) ≡ cleared (now (circuit .entry)) (now (scratch .entry)) ⌝ }
+// Clears what a source needs of the scratch.
+pub fn clear_needed(scratch: &mut [u16], source: Source)
+    requires { ⌜ (source .inputs * source .frames ≤ mostBits) × (2 * 2 ^ (source .inputs * source .frames) ≤ length (now scratch)) ⌝ }
+    ensures { λ _. ⌜ now (scratch .exit) ≡ clearedTo (2 * 2 ^ (source .inputs * source .frames)) (now (scratch .entry)) ⌝ }
 {
-    let head = Head::read(circuit);
-    let needed = scratch_needed(head.inputs, head.frames);
+    let needed = scratch_needed(source);
     clear(&mut scratch[..needed]);
 }

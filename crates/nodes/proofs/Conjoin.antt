@@ -14,7 +14,7 @@ use Rattle.nodes.specs.declared.Node.{Node}
 use Rattle.nodes.specs.declared.Pair.{Pair}
 use Rattle.nodes.specs.declared.Halves.{Halves}
 use Rattle.nodes.specs.Nodes.{Shows, halvesOf}
-use Rattle.nodes.proofs.Laws.{below-or}
+use Rattle.layered.proofs.Search.{below-or}
 
 halved-by : (D : Nodes) (l : ℕ) (p : Pair) (x y : Node) → Shows D (p .f) x → Shows D (p .g) y → (h : Halves) → h ≡ halvesOf x y l p → Halved D l (p .f) (p .g) (h .low .f) (h .high .f) (h .low .g) (h .high .g)
 unfolding branch

@@ -10,7 +10,7 @@ use Rattle.diagrams.proofs.Laws.{cond-yes, cond-no}
 use Rattle.nodes.specs.declared.Halves.{Halves}
 use Rattle.nodes.specs.declared.Node.{Node}
 use Rattle.nodes.specs.Nodes.{Stops, Merges, nextId}
-use Rattle.layered.proofs.Search.{eq-eqb, case, both}
+use Rattle.layered.proofs.Search.{eq-eqb, both, below-or}
 
 pub not-yes : (b : Bool) → not b ≡ true → b ≡ false
 not-yes true e = absurd (false≢true e)
@@ -76,9 +76,6 @@ merges-by x y n = record { yes = λ e. inr (eqb→eq y 4294967295 (go (eqb y 429
     stop false e t = t
 
 -- ---- which of two is the lower
-
-pub below-or : (m n : ℕ) → (m < n) ⊎ (n ≤ m)
-below-or m n = ⊎-elim (λ t. inl (ltb→lt m n t)) (λ f. let g : ¬ (m < n) = λ l. f (lt→ltb m n l) in inr (omega arith)) (case (ltb m n))
 
 pub next-is : (R i : ℕ) → ((i + 1 < R + 2) × (nextId R i ≡ i + 1)) ⊎ ((R + 2 ≤ i + 1) × (nextId R i ≡ 2))
 next-is R i = ⊎-elim

@@ -19,9 +19,11 @@ use denote.Triple.Spec.{tripleOf}
 use denote.Triple.Statement.{Contract, Triple}
 use denote.Triple.Clauses.{ensured, lasts}
 use denote.Triple.Walked.{says}
-use Rattle.circuit.specs.declared.Head.{Head}
-use Rattle.circuit.proofs.Head as D
-use Rattle.circuit.proofs.Head.Laws as D′
+use Rattle.source.specs.declared.Source.{Source}
+use Rattle.source.specs.Source.{headOf}
+use Rattle.source.proofs.Source as D
+use Rattle.source.proofs.Source.Laws as D′
+use Rattle.source.proofs.Values.{sourceVal}
 use Rattle.explore.specs.declared.Layout.{Layout}
 use Rattle.explore.proofs.Layout as L
 use Rattle.survey.specs.Survey.{LayoutOf}
@@ -29,23 +31,23 @@ use Rattle.verdict.proofs.Pass.{GivesPlain}
 use Rattle.survey.proofs.layout_of as g
 use Rattle.survey.proofs.layout_of.Symbol.{name as #layout}
 
-abbrev pub Pre : Head → Type 0
-Pre h = (h .inputs ≤ 16) × (h .inputs * h .frames ≤ 16) × (h .total ≤ h .gates) × (h .gates ≤ 4096) × (h .base ≤ 17)
+abbrev pub Pre : Source → Type 0
+Pre h = (h .inputs ≤ 16) × (h .inputs * h .frames ≤ 16) × (h .total ≤ h .gates) × (h .gates ≤ 4352) × (h .base ≤ 17)
 
 -- what it says of its result
-abbrev pub Told : Head → Layout → Type 0
-Told h r = LayoutOf h r
+abbrev pub Told : Source → Layout → Type 0
+Told h r = LayoutOf (headOf h) r
 
 module _ {M : Type 1} (𝓤 : URA M) (H : Heap 𝓤) (A : Atoms 𝓤) (mem : Memory → SProp 𝓤) (run : Routine → Fun 𝓤) where
   abbrev pub LayoutFn : Contract 𝓤
   LayoutFn = tripleOf 𝓤 H A g.signature (g.spec 𝓤 H A mem run)
 
-  module _ (W : Given 𝓤 H A) (h : Head) (gh : Is D.the-row h (LL.vals D.the-type D′.the-laws h)) where
+  module _ (W : Given 𝓤 H A) (h : Source) (gh : Is D.the-row h (LL.vals D.the-type D′.the-laws h)) where
     abbrev to : LayoutFn .Ghost
     to = ((tt, tt, tt, (h, tt), (LL.vals D.the-type D′.the-laws h, tt)), tt)
 
     abbrev pub args : List Val
-    args = D′.lowered h ∷ []
+    args = sourceVal h ∷ []
 
     goes : Pre h → ent 𝓤 (emp 𝓤) (LayoutFn .pre to)
     goes within = qed W [] ∵ says ! within $ nothing ! $ frame ! $ nothing ! $ owned ! D.the-row (Is D.the-row) (LL.makes D.the-type D′.the-plain 𝓤 H A) h _ gh $ fjoin ! $ done !

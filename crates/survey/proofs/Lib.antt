@@ -1,9 +1,8 @@
 -- The proofs of `survey`: what is explored of a circuit whose signals are built, the stages of a survey, a module for each callee, and a call of it.
 pub mod Subject
 pub mod Surveying
-mod HeadCall
 mod ShapeCall
-mod LayoutCall
+pub mod LayoutCall
 mod NoneCall
 mod FoundCall
 pub mod NoWorkCall

@@ -28,7 +28,7 @@ use Rattle.survey.proofs.no_work.Symbol.{name as #survey·no-work}
 
 -- what it gives: the array of a survey's work
 abbrev pub Work : RattleType
-Work = Array u32 36881
+Work = Array u32 37137
 
 -- what it says of its result
 abbrev pub Told : List ℕ → Type 0

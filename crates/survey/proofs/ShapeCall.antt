@@ -23,9 +23,11 @@ use denote.Triple.Spec.{tripleOf}
 use denote.Triple.Statement.{Contract, Triple}
 use denote.Triple.Clauses.{ensured, lasts}
 use denote.Triple.Walked.{says}
-use Rattle.circuit.specs.declared.Head.{Head}
-use Rattle.circuit.proofs.Head as D
-use Rattle.circuit.proofs.Head.Laws as D′
+use Rattle.source.specs.declared.Source.{Source}
+use Rattle.source.specs.Source.{headOf}
+use Rattle.source.proofs.Source as D
+use Rattle.source.proofs.Source.Laws as D′
+use Rattle.source.proofs.Values.{sourceVal}
 use Rattle.conjoin.specs.declared.Shape.{Shape}
 use Rattle.conjoin.proofs.Shape as S
 use Rattle.survey.specs.Survey.{ShapeOf}
@@ -33,23 +35,23 @@ use Rattle.verdict.proofs.Pass.{GivesPlain}
 use Rattle.survey.proofs.shape_of as g
 use Rattle.survey.proofs.shape_of.Symbol.{name as #shape}
 
-abbrev pub Pre : Head → Type 0
+abbrev pub Pre : Source → Type 0
 Pre h = (1 ≤ h .base) × (h .base ≤ 17)
 
 -- what it says of its result
-abbrev pub Told : Head → ℕ → Shape → Type 0
-Told h k r = ShapeOf h k r
+abbrev pub Told : Source → ℕ → Shape → Type 0
+Told h k r = ShapeOf (headOf h) k r
 
 module _ {M : Type 1} (𝓤 : URA M) (H : Heap 𝓤) (A : Atoms 𝓤) (mem : Memory → SProp 𝓤) (run : Routine → Fun 𝓤) where
   abbrev pub ShapeFn : Contract 𝓤
   ShapeFn = tripleOf 𝓤 H A g.signature (g.spec 𝓤 H A mem run)
 
-  module _ (W : Given 𝓤 H A) (h : Head) (k : ℕ) (gh : Is D.the-row h (LL.vals D.the-type D′.the-laws h)) (gk : k < 2 ^ 64) where
+  module _ (W : Given 𝓤 H A) (h : Source) (k : ℕ) (gh : Is D.the-row h (LL.vals D.the-type D′.the-laws h)) (gk : k < 2 ^ 64) where
     abbrev to : ShapeFn .Ghost
     to = ((tt, tt, tt, (h, (k, tt)), (LL.vals D.the-type D′.the-laws h, (vint w64 k ∷ [], tt))), tt)
 
     abbrev pub args : List Val
-    args = D′.lowered h ∷ vint w64 k ∷ []
+    args = sourceVal h ∷ vint w64 k ∷ []
 
     goes : Pre h → ent 𝓤 (emp 𝓤) (ShapeFn .pre to)
     goes within = qed W [] ∵ says ! within $ nothing ! $ frame ! $ nothing ! $ owned ! usize (Is usize) (uint-makes 𝓤 H A W w64) k _ (refl, gk) $ fjoin ! $ owned ! D.the-row (Is D.the-row) (LL.makes D.the-type D′.the-plain 𝓤 H A) h _ gh $ fjoin ! $ done !

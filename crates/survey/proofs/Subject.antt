@@ -4,12 +4,11 @@ use mathlib.Core.List.{List}
 use Prim.Native.Nat.{ℕ, suc, _+_, _*_, _-_, _^_, _≤_, _<_}
 use native.Mathlib.Omega.{arith}
 use lib.ListN.{length, getD}
-use Rattle.verdict.specs.Judgements.{answer}
 use Rattle.sizes.specs.Sizes.{inputs, outputs, frames}
 use Rattle.layered.proofs.Rows.{pow-mul}
 use Rattle.circuit.specs.Limits.{mostSignals}
-use Rattle.circuit.specs.Circuit.{gates, allInputs, allOutputs, gateOfOutput, gateSignal, outputSignal, checked}
-use Rattle.circuit.specs.WellFormed.{WellFormed}
+use Rattle.circuit.specs.Circuit.{gates, allInputs, allOutputs, gateOfOutput, gateSignal, outputSignal}
+use Rattle.circuit.specs.WellFormed.{WellFormed, Accepted}
 use Rattle.circuit.specs.Theorems.{response}
 use Rattle.circuit.specs.declared.Head.{Head}
 use Rattle.diagrams.specs.Diagrams.{value, Reduced, Denotes}
@@ -62,7 +61,7 @@ module _ (b : List ℕ) (h : Head) (W : WellFormed b h) (l : Layout) (L : Layout
     near = omega (arith, L .columns-is);
   }
 
-  module _ (p : ℕ) (e : checked b ≡ answer 0 p) (R : ℕ) (ns : List Node) (ws : List ℕ) (B : Built (allInputs b) (allInputs b + gates b) R (signalOn b) (nodesIn ns) ws) where
+  module _ (A : Accepted b) (R : ℕ) (ns : List Node) (ws : List ℕ) (B : Built (allInputs b) (allInputs b + gates b) R (signalOn b) (nodesIn ns) ws) where
     -- the ids of the outputs
     holds : Holds (allInputs b) (allOutputs b) (outputOn b) (nodesIn ns) (λ o. getD ws (outputSignal b o) 0)
     unfolding Holds Denotes outputOn outputSignal gateSignal
@@ -78,7 +77,7 @@ module _ (b : List ℕ) (h : Head) (W : WellFormed b h) (l : Layout) (L : Layout
     given = record {
       reduced = subst (λ N. Reduced N (nodesIn ns)) (sym all-inputs) (B .table .reduced);
       holds = subst (λ N. Holds N (l .outputs * l .frames) (outputOn b) (nodesIn ns) (λ o. getD ws (outputSignal b o) 0)) (sym all-inputs) (subst (λ M. Holds (allInputs b) M (outputOn b) (nodesIn ns) (λ o. getD ws (outputSignal b o) 0)) (sym all-outputs) holds);
-      responds = subst (λ n. Responds n (l .outputs) (l .frames) (response b) (outputOn b)) (sym bits) (subst (λ m. Responds (inputs b) m (l .frames) (response b) (outputOn b)) (sym outputs-are) (subst (λ T. Responds (inputs b) (outputs b) T (response b) (outputOn b)) (sym frames-are) (outputs-respond b p e)));
+      responds = subst (λ n. Responds n (l .outputs) (l .frames) (response b) (outputOn b)) (sym bits) (subst (λ m. Responds (inputs b) m (l .frames) (response b) (outputOn b)) (sym outputs-are) (subst (λ T. Responds (inputs b) (outputs b) T (response b) (outputOn b)) (sym frames-are) (outputs-respond b A)));
     }
 
     pub startable : (s : List ℕ) → 2 * l .half ≤ length s → mostSignals + columnCount ≤ length ws → ((j : ℕ) → j < 2 * l .half → getD s j 0 ≡ 0) → Startable l (subjectOf b ns ws) s ws

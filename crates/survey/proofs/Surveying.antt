@@ -5,13 +5,12 @@ use Prim.Native.Nat.{ℕ, suc, _+_, _*_, _-_, _^_, _≤_, _<_, min}
 use native.Mathlib.Omega.{arith}
 use lib.ListN.{length, replicate}
 use Rattle.layered.proofs.Search.{least-le}
-use Rattle.verdict.specs.Judgements.{answer}
 use Rattle.sizes.specs.Sizes.{inputs, outputs, frames}
-use Rattle.circuit.specs.Circuit.{gates, allInputs, checked}
-use Rattle.circuit.specs.WellFormed.{CircuitHeaded, HeadOf, WellFormed}
+use Rattle.circuit.specs.Circuit.{gates, allInputs}
+use Rattle.circuit.specs.WellFormed.{CircuitHeaded, HeadOf, WellFormed, Formed}
 use Rattle.circuit.specs.Theorems.{response}
 use Rattle.circuit.specs.declared.Head.{Head}
-use Rattle.circuit.proofs.Accepted.{Formed, accepted, well-formed}
+use Rattle.circuit.proofs.Accepted.{well-formed}
 use Rattle.diagrams.specs.Building.{firstOver}
 use Rattle.functions.specs.Functions.{signalOn}
 use Rattle.nodes.specs.declared.Node.{Node}
@@ -37,15 +36,8 @@ unfolding firstOver
 place-most b R = least-le (suc (gates b)) _
 
 module _ (b s ws : List ℕ) (P : Surveyable b s ws) where
-  place : ℕ
-  place = checked b .place
-
-  passed : checked b ≡ answer 0 place
-  unfolding place
-  passed = ap (λ n. answer n (checked b .place)) (P .accepted)
-
   formed : Formed b
-  formed = accepted b place passed .form
+  formed = P .accepted .form
 
   pub headed : CircuitHeaded b
   headed = formed .head
@@ -57,7 +49,7 @@ module _ (b s ws : List ℕ) (P : Surveyable b s ws) where
     pub shapeable : (1 ≤ h .base) × (h .base ≤ 17)
     shapeable = (omega (arith, O .base-is), omega (arith, O .base-is, headed .inputs-to))
 
-    pub layable : (h .inputs ≤ 16) × (h .inputs * h .frames ≤ 16) × (h .total ≤ h .gates) × (h .gates ≤ 4096) × (h .base ≤ 17)
+    pub layable : (h .inputs ≤ 16) × (h .inputs * h .frames ≤ 16) × (h .total ≤ h .gates) × (h .gates ≤ 4352) × (h .base ≤ 17)
     unfolding allInputs
     layable =
         let all : h .inputs * h .frames ≡ allInputs b = ap₂ _*_ (O .inputs-is) (O .frames-is) in
@@ -99,9 +91,9 @@ module _ (b s ws : List ℕ) (P : Surveyable b s ws) where
             pub explorable : Explorable y zs s us
             explorable = record {
               subject = subjectOf b zs us;
-              startable = startable b h well y L place passed (m .room) zs us (signals .built) s (omega (arith, half-is, P .room)) (omega (arith, long, P .space)) (λ j i. P .clean j (omega (arith, i, half-is)));
+              startable = startable b h well y L (P .accepted) (m .room) zs us (signals .built) s (omega (arith, half-is, P .room)) (omega (arith, long, P .space)) (λ j i. P .clean j (omega (arith, i, half-is)));
               diagrams = refl;
-              standing = standing b h well y L place passed (m .room) zs us (signals .built) (signals .within) (signals .room);
+              standing = standing b h well y L (P .accepted) (m .room) zs us (signals .built) (signals .within) (signals .room);
             }
 
             module _ (t vs : List ℕ) (c : Cursor) (E : Ends y zs s t us vs c) where

@@ -5,7 +5,8 @@ use Prim.Native.Nat.{ℕ, _+_, _*_, _-_, _^_, _≤_, _<_, min}
 use lib.ListN.{length, getD}
 use Rattle.circuit.specs.Limits.{mostSignals}
 use Rattle.sizes.specs.Sizes.{inputs, outputs, frames}
-use Rattle.circuit.specs.Circuit.{gates, allInputs, outputSignal, checked}
+use Rattle.circuit.specs.Circuit.{gates, allInputs, outputSignal}
+use Rattle.circuit.specs.WellFormed.{Accepted}
 use Rattle.circuit.specs.Theorems.{response}
 use Rattle.circuit.specs.declared.Head.{Head}
 use Rattle.diagrams.specs.Making.{noId}
@@ -47,7 +48,7 @@ subjectOf b ns ws = record { y = response b; F = outputOn b; D = nodesIn ns; roo
 
 -- what it may be asked: an accepted circuit, a scratch that is zero as far as it needs it, and a work that is all zero
 pub record Surveyable (b s ws : List ℕ) : Type 0 where
-  pub accepted : checked b .number ≡ 0
+  pub accepted : Accepted b
   pub room : 2 * (2 ^ inputs b) ^ frames b ≤ length s
   pub clean : (j : ℕ) → j < 2 * (2 ^ inputs b) ^ frames b → getD s j 0 ≡ 0
   pub zeros : (i : ℕ) → getD ws i 0 ≡ 0

@@ -1,6 +1,5 @@
-// Surveys a circuit: builds the diagrams of its signals, and explores its states.
+// Surveys the circuit that a source is: builds the diagrams of its signals, and explores its states.
 use build::build;
-use circuit::Head;
 use circuit::Limits as Circuit;
 use conjoin::Shape;
 use explore::Cursor;
@@ -10,9 +9,12 @@ use explore::explore;
 use nodes::Node;
 use records::clear;
 use sizes::power;
+use source::Source;
 ghost use mathlib.Core.Path.{_≡_};
 ghost use Prim.Native.Nat.{_*_, _≤_, min};
 ghost use lib.ListN.{length, replicate};
+ghost use Rattle.circuit.specs.Limits.{mostWired};
+ghost use Rattle.source.specs.Source.{headOf, sourced, SourceOf};
 ghost use Rattle.survey.specs.Survey.{workLength, mostRecords, ShapeOf, LayoutOf, Surveyable, Surveyed};
 
 // How many numbers the work of a survey takes: the ids of all signals, and room for those of candidates; and how many records any circuit can need.
@@ -49,29 +51,29 @@ fn room_of(records: usize) -> u32
 }
 
 // As many of the records as any circuit can need, the inputs of all frames, and the cache behind the ids of all signals.
-fn shape_of(head: Head, records: usize) -> Shape
-    requires { ⌜ (1 ≤ head .base) × (head .base ≤ 17) ⌝ }
-    ensures { λ r. ⌜ ShapeOf head records r ⌝ }
+fn shape_of(source: Source, records: usize) -> Shape
+    requires { ⌜ (1 ≤ source .base) × (source .base ≤ 17) ⌝ }
+    ensures { λ r. ⌜ ShapeOf (headOf source) records r ⌝ }
 {
     Shape {
         room: room_of(records),
-        inputs: (head.base - 1) as u32,
+        inputs: (source.base - 1) as u32,
         cache: Circuit::SIGNALS,
     }
 }
 
 // The sizes, and where things lie.
-pub fn layout_of(head: Head) -> Layout
-    requires { ⌜ (head .inputs ≤ 16) × (head .inputs * head .frames ≤ 16) × (head .total ≤ head .gates) × (head .gates ≤ 4096) × (head .base ≤ 17) ⌝ }
-    ensures { λ r. ⌜ LayoutOf head r ⌝ }
+pub fn layout_of(source: Source) -> Layout
+    requires { ⌜ (source .inputs ≤ 16) × (source .inputs * source .frames ≤ 16) × (source .total ≤ source .gates) × (source .gates ≤ mostWired) × (source .base ≤ 17) ⌝ }
+    ensures { λ r. ⌜ LayoutOf (headOf source) r ⌝ }
 {
     Layout {
-        fan: power(head.inputs),
-        bits: head.inputs,
-        frames: head.frames,
-        outputs: head.outputs,
-        half: power(head.inputs * head.frames),
-        roots: head.base + (head.gates - head.total),
+        fan: power(source.inputs),
+        bits: source.inputs,
+        frames: source.frames,
+        outputs: source.outputs,
+        half: power(source.inputs * source.frames),
+        roots: source.base + (source.gates - source.total),
         columns: Circuit::SIGNALS,
     }
 }
@@ -94,23 +96,23 @@ fn none_found(place: usize) -> Survey
     }
 }
 
-// Surveys an accepted circuit, with a clean scratch and a clean work: builds its diagrams in the list, whatever that holds, and explores its states.
+// Surveys a circuit, or a network by its source, that is accepted, with a clean scratch and a clean work: builds its diagrams in the list, whatever that holds, and explores its states.
 pub fn survey_circuit(
     circuit: &[u8],
     scratch: &mut [u16],
     nodes: &mut [Node],
     work: &mut [u32],
+    source: Source,
 ) -> Survey
-    requires { ⌜ Surveyable (now circuit) (now scratch) (now work) ⌝ }
-    ensures { λ r. ⌜ Surveyed (now (circuit .entry)) (length (now (nodes .entry))) (now (nodes .exit)) (now (scratch .entry)) (now (scratch .exit)) (now (work .exit)) r ⌝ }
+    requires { ⌜ SourceOf (now circuit) source × Surveyable (sourced source (now circuit)) (now scratch) (now work) ⌝ }
+    ensures { λ r. ⌜ Surveyed (sourced source (now (circuit .entry))) (length (now (nodes .entry))) (now (nodes .exit)) (now (scratch .entry)) (now (scratch .exit)) (now (work .exit)) r ⌝ }
 {
-    let head = Head::read(circuit);
     clear(nodes);
-    let shape = shape_of(head, nodes.len());
-    let place = build(circuit, head, nodes, work, shape);
-    if place <= head.gates {
+    let shape = shape_of(source, nodes.len());
+    let place = build(circuit, source, nodes, work, shape);
+    if place <= source.gates {
         return none_found(place);
     }
-    let cursor = explore(nodes, scratch, work, layout_of(head));
+    let cursor = explore(nodes, scratch, work, layout_of(source));
     found(place, cursor)
 }

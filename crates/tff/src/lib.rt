@@ -22,6 +22,7 @@ ghost use Rattle.view.specs.View.{viewed, viewResult};
 ghost use Rattle.view.specs.Layers.{located};
 ghost use Rattle.folded.specs.Folded.{foldChecked, foldResult, scratchAfter, nodesAfter};
 ghost use Rattle.folded.specs.Planned.{asked, commitChecked, commitResult};
+ghost use Rattle.spreading.specs.Spread.{spreadChecked, spreadResult, spreadScratch, spreadNodes};
 ghost use Rattle.price.specs.Price.{priced};
 ghost use Rattle.reach.specs.Reach.{reachChecked, reachResult};
 ghost use Rattle.unfolded.specs.Unfolded.{unfoldChecked, unfoldResult};
@@ -198,6 +199,41 @@ pub extern "C" fn tff_commit(
         return;
     }
     let verdict: Verdict = commit::commit_numbers(circuit, plan, scratch, nodes, result);
+    put(verdict, answer);
+}
+
+#[no_mangle]
+pub extern "C" fn tff_spread(
+    network: &[u8],
+    inputs: u16,
+    outputs: u16,
+    frames: u16,
+    places: &[u16],
+    shown: &[u16],
+    scratch: &mut [u16],
+    nodes: &mut [Node],
+    result: &mut [u8],
+    answer: &mut [u64],
+)
+    ensures answer { λ _. ⌜ now (answer .exit) ≡ answerAfter (verdictNumbers (spreadChecked (now (network .entry)) inputs outputs frames (now (places .entry)) (now (shown .entry)) (length (now (scratch .entry))) (length (now (nodes .entry))) (length (now (result .entry))))) (now (answer .entry)) ⌝ }
+    ensures result { λ _. ⌜ now (result .exit) ≡ lentAfter verdictLength (now (answer .entry)) (spreadResult (now (network .entry)) inputs outputs frames (now (places .entry)) (now (shown .entry)) (length (now (scratch .entry))) (length (now (nodes .entry))) (now (result .entry))) (now (result .entry)) ⌝ }
+    ensures scratch { λ _. ⌜ now (scratch .exit) ≡ lentAfter verdictLength (now (answer .entry)) (spreadScratch (now (network .entry)) inputs outputs frames (now (places .entry)) (now (shown .entry)) (now (scratch .entry))) (now (scratch .entry)) ⌝ }
+    ensures nodes { λ _. ⌜ now (nodes .exit) ≡ lentAfter verdictLength (now (answer .entry)) (spreadNodes (now (network .entry)) inputs outputs frames (now (places .entry)) (now (shown .entry)) (length (now (scratch .entry))) (now (nodes .entry))) (now (nodes .entry)) ⌝ }
+{
+    if answer.len() < Limits::VERDICT {
+        return;
+    }
+    let verdict: Verdict = spread::spread(
+        network,
+        inputs,
+        outputs,
+        frames,
+        places,
+        shown,
+        scratch,
+        nodes,
+        result,
+    );
     put(verdict, answer);
 }
 

@@ -8,7 +8,8 @@ use Rattle.words.specs.Words.{allBytes, stored, wordBytes}
 use Rattle.words.proofs.Laws.{allBytes-length, stored-front, stored-behind}
 use Rattle.verdict.specs.declared.Figures.{Figures}
 use Rattle.sizes.specs.Sizes.{inputs, outputs, frames}
-use Rattle.unfolded.specs.Unfolded.{drawn, gatesNeeded, circuitWords, unfoldedBytes, unfoldChecked, unfoldResult}
+use Rattle.circuit.specs.Circuit.{circuitWords}
+use Rattle.unfolded.specs.Unfolded.{drawn, gatesNeeded, unfoldedBytes, unfoldChecked, unfoldResult}
 use Rattle.unfolded.specs.Theorems.{Unfoldings}
 use Rattle.unfolded.proofs.Outcomes.{Outcome}
 use Rattle.unfolded.proofs.Theorems.{unfoldings}

@@ -18,7 +18,8 @@ ghost use Rattle.sizes.specs.Sizes.{inputs, outputs, frames};
 ghost use Rattle.sizes.specs.Sized.{sizesOf};
 ghost use Rattle.circuit.specs.Limits.{circuitHead, mostGates};
 ghost use Rattle.table.specs.Sound.{Sound, layoutOf};
-ghost use Rattle.unfolded.specs.Unfolded.{drawn, gatesNeeded, circuitWords, drawnChecked, unfoldChecked, unfoldResult};
+ghost use Rattle.circuit.specs.Circuit.{circuitWords};
+ghost use Rattle.unfolded.specs.Unfolded.{drawn, gatesNeeded, drawnChecked, unfoldChecked, unfoldResult};
 ghost use Rattle.unfold.specs.Unfold.{Promised};
 
 // Writes the circuit to the front of the result: its head, then its gates.

@@ -18,7 +18,7 @@ use Rattle.table.specs.Table.{states, connected}
 use Rattle.unfolded.specs.Unfolded.{Frame, inputLiteral, frameGates, nextLiteral, outLiteral, Drawing, tableFrame, withFrame, drawing, isConnected, drawn}
 use Rattle.circuit.proofs.Lists.{listed-length, listed-at}
 use Rattle.unfolded.proofs.Lists.{Under, none, under-more, under-widen, under-listed, under-at}
-use Rattle.unfolded.proofs.Gates.{Admitted, no-gate, admitted-append, Reads, run, run-append, run-length, run-read, each-reads, closing, closed, closed-length, closing-either}
+use Rattle.circuit.proofs.Gates.{Admitted, no-gate, admitted-append, Reads, run, run-append, run-length, run-read, each-reads, closing, closed, closed-length, closing-either}
 use Rattle.unfolded.proofs.Frames.{input-half, Placed, frame-admitted, next-below, out-below}
 
 -- ---- the output gates

@@ -13,7 +13,8 @@ use Rattle.circuit.specs.Lists.{bit}
 use Rattle.unfolded.specs.Unfolded.{ending, inverted, Frame, inputLiteral, matching, matchGates, matchLiteral, edgesAt, edgeGate, edgeGates, invertedEdges, nextGatesAt, entering, nextGates, nextLiteral, outGatesAt, withBit, outGates, outLiteral, frameGates}
 use Rattle.circuit.proofs.Lists.{listed-length}
 use Rattle.unfolded.proofs.Lists.{Under, none, more, under-more, under-widen, under-listed}
-use Rattle.unfolded.proofs.Gates.{Admitted, admitted-append, chains-admitted, each-admitted, ending-below, Reads, run, run-append, run-length, run-read, together, together-cong, chains-read, each-reads}
+use Rattle.circuit.proofs.Gates.{Admitted, admitted-append, each-admitted, Reads, run, run-append, run-length, run-read, each-reads}
+use Rattle.unfolded.proofs.Gates.{chains-admitted, ending-below, together, together-cong, chains-read}
 
 -- ---- where literals are
 

@@ -3,7 +3,6 @@ pub mod Lists
 pub mod Gates
 pub mod Frames
 pub mod Drawings
-pub mod Written
 pub mod Bits
 pub mod Values
 pub mod Counts

@@ -15,7 +15,7 @@ use Rattle.layered.specs.States.{Words}
 use Rattle.layered.specs.Machines.{feed, Gives}
 use Rattle.circuit.specs.Limits.{mostGates, mark}
 use Rattle.circuit.specs.Lists.{listed, bit}
-use Rattle.circuit.specs.Circuit.{allInputs, allOutputs, gateOfOutput, outputSignal, unconnected, connectedOutputs, frameOf, inputValues, literalValue, outputWord, outputWords, outputBit, looksAhead, lookAheadChecked, formChecked, checked as circuitChecked}
+use Rattle.circuit.specs.Circuit.{circuitWords, allInputs, allOutputs, gateOfOutput, outputSignal, unconnected, connectedOutputs, frameOf, inputValues, literalValue, outputWord, outputWords, outputBit, looksAhead, lookAheadChecked, formChecked, checked as circuitChecked}
 use Rattle.circuit.specs.Theorems.{AcceptedCausal}
 use Rattle.circuit.proofs.Bits.{equal-bits}
 use Rattle.circuit.proofs.Accepted.{formed}
@@ -30,12 +30,12 @@ use Rattle.layered.proofs.Feeding.{words-length, feed-length, words-at}
 use Rattle.folded.proofs.Asked.{scratch-accepts, ask-counts, fold-accepts}
 use Rattle.folded.proofs.Outcomes.{circuit-sized, accepted as foldAccepted, written-bytes as foldWritten}
 use Rattle.folded.proofs.Theorems.{folding, same-bytes}
-use Rattle.unfolded.specs.Unfolded.{drawing, isConnected, drawn, gatesNeeded, circuitWords, unfoldedBytes}
+use Rattle.unfolded.specs.Unfolded.{drawing, isConnected, drawn, gatesNeeded, unfoldedBytes}
 use Rattle.unfolded.specs.Theorems.{Unfolding, Unfoldings}
 use Rattle.circuit.proofs.Lists.{listed-length, listed-at}
-use Rattle.unfolded.proofs.Gates.{run}
+use Rattle.circuit.proofs.Gates.{run}
 use Rattle.unfolded.proofs.Drawings.{outputLiteral, connected-at, allGates, drawn-marked, drawn-length, base, behind, gates-admitted, outputs-low}
-use Rattle.unfolded.proofs.Written.{circuitBytes, inputs-back, outputs-back, frames-back, Drawable, fitting, values-run, form-passes, output-at, unconnected-is}
+use Rattle.circuit.proofs.Written.{circuitBytes, inputs-back, outputs-back, frames-back, Drawable, fitting, values-run, form-passes, output-at, unconnected-is}
 use Rattle.unfolded.proofs.Bits.{not-not}
 use Rattle.unfolded.proofs.Outcomes.{accepted, written-bytes}
 use Rattle.unfolded.proofs.Values.{feed-at, stateAfter, state-below, output-value}
@@ -51,7 +51,7 @@ module _ (b : List ℕ) (S : Sound b) (G : length (drawn b) ≤ mostGates) where
   drawable = record {
     sizes = S .headed .sized;
     inner-admitted = gates-admitted b (S .headed .one-first);
-    lefts-low = outputs-low b (S .headed .one-first);
+    lefts-low = λ q l _. outputs-low b (S .headed .one-first) q l;
     gates-to = omega (arith, drawn-length b);
   }
 
@@ -86,7 +86,7 @@ module _ (b : List ℕ) (S : Sound b) (G : length (drawn b) ≤ mostGates) where
   -- it passes every check but 4
   form : formChecked circuit ≡ answer 0 0
   unfolding circuit
-  form = form-passes drawable
+  form = form-passes drawable (omega (arith, drawn-length b))
 
   -- its output words are the machine's outputs
   module _ (c : List ℕ) (W : Words (2 ^ inputs b) (frames b) c) where

@@ -25,7 +25,8 @@ use Rattle.layered.specs.Machines.{reached}
 use Rattle.layered.proofs.Feeding.{words-length, words-at}
 use Rattle.unfolded.specs.Unfolded.{ending, inverted, Frame, inputLiteral, matching, edgesAt, invertedEdges, entering, nextLiteral, withBit, outLiteral, frameGates, nextGatesAt, outGatesAt, Drawing, tableFrame, drawing, isConnected}
 use Rattle.circuit.proofs.Lists.{listed-at, listed-cons}
-use Rattle.unfolded.proofs.Gates.{Reads, run, together, together-append}
+use Rattle.circuit.proofs.Gates.{Reads, run}
+use Rattle.unfolded.proofs.Gates.{together, together-append}
 use Rattle.unfolded.proofs.Frames.{Placed, crossed, edge-reads, next-reads, out-reads}
 use Rattle.unfolded.proofs.Drawings.{base, behind, allGates, connected-at, input-low, HandsOn, Step, outputs-read}
 use Rattle.unfolded.proofs.Bits.{not-not, every-one, no-stray, same-bits}

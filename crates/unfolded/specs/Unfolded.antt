@@ -10,6 +10,7 @@ use Rattle.words.specs.Words.{wordBytes}
 use Rattle.verdict.specs.Judgements.{answer, refuse, andThen, resultAfter}
 use Rattle.verdict.specs.declared.Figures.{Figures}
 use Rattle.sizes.specs.Sizes.{inputs, outputs, frames}
+use Rattle.circuit.specs.Circuit.{circuitWords, outputGate}
 use Rattle.circuit.specs.Limits.{mostGates, mark}
 use Rattle.circuit.specs.Lists.{grown, listed, bit}
 use Rattle.table.specs.Table.{states, connected, machine, checked, entryAt, outputsAt, nextsAt}
@@ -176,11 +177,7 @@ unfoldable pub isConnected : List ℕ → (q : ℕ) → Bool
 unfolding bit connected outputs
 isConnected b q = bit (connected b (q / outputs b)) (q % outputs b)
 
--- After all frames come the m·T output gates: left the last gather gate inverted (none: 0), right literal 1; both the mark where the output is
--- unconnected
-abbrev pub outputGate : (connected : Bool) (literal : ℕ) → ℕ × ℕ
-outputGate connected literal = cond connected (literal, 1) (mark, mark)
-
+-- After all frames come the m·T output gates: left the last gather gate inverted (none: 0)
 unfoldable pub drawn : List ℕ → List (ℕ × ℕ)
 unfolding drawing isConnected grown outputs frames
 drawn b = let d : Drawing = drawing b (frames b) in d .gates ++ listed [] (λ q. outputGate (isConnected b q) (getD (d .outputs) q 0)) (outputs b * frames b)
@@ -190,10 +187,6 @@ drawn b = let d : Drawing = drawing b (frames b) in d .gates ++ listed [] (λ q.
 unfoldable pub gatesNeeded : List ℕ → ℕ
 unfolding drawn
 gatesNeeded b = length (drawn b)
-
--- n, m, T, G, the left literals, the right literals
-unfoldable pub circuitWords : (n m T : ℕ) → List (ℕ × ℕ) → List ℕ
-circuitWords n m T gs = n ∷ m ∷ T ∷ length gs ∷ (map (λ g. g .0) gs ++ map (λ g. g .1) gs)
 
 unfoldable pub unfoldedBytes : List ℕ → List ℕ
 unfolding circuitWords wordBytes drawn inputs outputs frames

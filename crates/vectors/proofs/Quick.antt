@@ -8,7 +8,8 @@ use Rattle.verdict.specs.Judgements.{answer, andThen, refuseFirst}
 use Rattle.verdict.specs.declared.Figures.{Figures}
 use Rattle.verdict.proofs.Laws.{then-cong, first-cong}
 use Rattle.circuit.specs.Circuit.{allOutputs, looksAhead, lookAheadChecked, formChecked, checked}
-use Rattle.circuit.proofs.Accepted.{Formed, formed}
+use Rattle.circuit.specs.WellFormed.{Formed}
+use Rattle.circuit.proofs.Accepted.{formed}
 use Rattle.latest.specs.Latest.{reachesLater}
 use Rattle.latest.proofs.Unreached.{unreached}
 

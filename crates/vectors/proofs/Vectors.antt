@@ -34,7 +34,7 @@ unfolding circuit.outputWord circuit.signalValues circuit.gateValue circuit.oper
 circuit-outputs b words = circuit.outputWords b words
 
 abbrev circuit-checked : List ℕ → Figures
-unfolding circuit-outputs circuit.checked circuit.formChecked circuit.headChecked circuit.literalsChecked circuit.circuitLength circuit.admissible circuit.ofUnconnected circuit.lookAheadChecked circuit.looksAhead circuit.asFirst circuit.outputOn circuit.outputBit circuit.laterInputs circuit.frameOf historyWords every blockStart sizesChecked refuseFirst
+unfolding circuit-outputs circuit.checked circuit.formChecked circuit.formWithin circuit.headChecked circuit.literalsChecked circuit.circuitLength circuit.admissible circuit.ofUnconnected circuit.lookAheadChecked circuit.looksAhead circuit.asFirst circuit.outputOn circuit.outputBit circuit.laterInputs circuit.frameOf historyWords every blockStart sizesChecked refuseFirst
 circuit-checked b = circuit.checked b
 
 abbrev circuit-quick : List ℕ → Figures

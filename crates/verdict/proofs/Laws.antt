@@ -15,7 +15,7 @@ use Rattle.verdict.specs.declared.Figures.{Figures}
 use Rattle.verdict.specs.declared.Verdict.{Verdict}
 use Rattle.verdict.specs.declared.Verdict.the-variants.{Accepted, Refused}
 use Rattle.verdict.specs.declared.Refusal.{Refusal}
-use Rattle.verdict.specs.declared.Refusal.the-variants.{Length, Size, Literal, LookAhead, Entry, Scratch, Room, Gates, Word, End, Position, Count, Sequences, Plan, Window, Minute, Mask, Nodes}
+use Rattle.verdict.specs.declared.Refusal.the-variants.{Length, Size, Literal, LookAhead, Entry, Scratch, Room, Gates, Word, End, Position, Count, Sequences, Plan, Window, Minute, Mask, Nodes, Outside, Taken}
 
 -- ---- stages one after the other
 
@@ -39,6 +39,8 @@ refusal-number (Window p) = refl
 refusal-number (Minute p) = refl
 refusal-number (Mask p) = refl
 refusal-number (Nodes p) = refl
+refusal-number (Outside p) = refl
+refusal-number (Taken p) = refl
 
 -- no refusal is an acceptance
 pub never : (r : Refusal) (p : ℕ) → refusalFigures r ≡ answer 0 p → ⊥
@@ -73,6 +75,30 @@ then-cong f g h k = go (eqb (f .number) 0) refl
     go : (t : Bool) → eqb (f .number) 0 ≡ t → cond t g f ≡ cond t h f
     go true e = k (f .place) (ap (λ (n : ℕ). answer n (f .place)) (eqb-true (f .number) 0 e))
     go false e = refl
+
+-- three one after the other
+pub then-assoc : (f g h : Figures) → andThen (andThen f g) h ≡ andThen f (andThen g h)
+then-assoc f g h = go (eqb (f .number) 0) refl
+  where
+    go : (t : Bool) → eqb (f .number) 0 ≡ t → andThen (cond t g f) h ≡ cond t (andThen g h) f
+    go true e = refl
+    go false e = rw e
+
+-- where only the first of two judgements can answer k, it does
+pub then-first : (f g : Figures) (k p : ℕ) → ¬ (g .number ≡ k) → andThen f g ≡ answer k p → f ≡ answer k p
+then-first f g k p n e = go (eqb (f .number) 0) e
+  where
+    go : (t : Bool) → cond t g f ≡ answer k p → f ≡ answer k p
+    go true h = absurd (n (ap (λ (f : Figures). f .number) h))
+    go false h = h
+
+-- and where only the second can, the first accepts and it does
+pub then-second : (f g : Figures) (k p : ℕ) → ¬ (f .number ≡ k) → andThen f g ≡ answer k p → (f ≡ answer 0 (f .place)) × (g ≡ answer k p)
+then-second f g k p n e = go (eqb (f .number) 0) refl e
+  where
+    go : (t : Bool) → eqb (f .number) 0 ≡ t → cond t g f ≡ answer k p → (f ≡ answer 0 (f .place)) × (g ≡ answer k p)
+    go true q h = (ap (λ (n : ℕ). answer n (f .place)) (eqb-true _ 0 q), h)
+    go false q h = absurd (n (ap (λ (f : Figures). f .number) h))
 
 -- the test of a judgement that accepts fails
 pub passed : (t : Bool) (k p : ℕ) (f : Figures) (q : ℕ) → eqb k 0 ≡ false → refuse t k p f ≡ answer 0 q → (t ≡ false) × (f ≡ answer 0 q)
@@ -228,3 +254,23 @@ module _ (k : ℕ) where
   unfolding refuseFirst
   under-first test number place rest i zero l m = m
   under-first test number place rest i (suc c) l m = under-refuse (test i) number (place i) _ l (under-first test number place rest (suc i) c l m)
+
+-- ---- numbers other than one
+
+module _ (k : ℕ) where
+  pub other-refuse : (t : Bool) (number place : ℕ) (f : Figures) → ¬ (number ≡ k) → ¬ (f .number ≡ k) → ¬ (refuse t number place f .number ≡ k)
+  other-refuse true number place f n m = n
+  other-refuse false number place f n m = m
+
+  pub other-then : (f g : Figures) → ¬ (f .number ≡ k) → ¬ (g .number ≡ k) → ¬ (andThen f g .number ≡ k)
+  other-then f g n m = go (eqb (f .number) 0)
+    where
+      go : (t : Bool) → ¬ (cond t g f .number ≡ k)
+      go true = m
+      go false = n
+
+  pub other-first : (test : ℕ → Bool) (number : ℕ) (place : ℕ → ℕ) (rest : Figures) (i c : ℕ) → ¬ (number ≡ k) → ¬ (rest .number ≡ k)
+      → ¬ (refuseFirst test number place rest i c .number ≡ k)
+  unfolding refuseFirst
+  other-first test number place rest i zero n m = m
+  other-first test number place rest i (suc c) n m = other-refuse (test i) number (place i) _ n (other-first test number place rest (suc i) c n m)

@@ -28,6 +28,8 @@ pub enum Refusal {
     Minute(usize),
     Mask(usize),
     Nodes(usize),
+    Outside(usize),
+    Taken(usize),
 }
 
 // Document 01's number and place.
@@ -59,6 +61,8 @@ impl Refusal {
             Refusal::Minute(place) => Figures { number: 16, place },
             Refusal::Mask(place) => Figures { number: 17, place },
             Refusal::Nodes(place) => Figures { number: 18, place },
+            Refusal::Outside(place) => Figures { number: 19, place },
+            Refusal::Taken(place) => Figures { number: 20, place },
         }
     }
 }

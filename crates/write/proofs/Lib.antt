@@ -9,7 +9,6 @@ mod PutRowCall
 mod NextRowCall
 pub mod PutOutputsCall
 mod PutFrontCall
-mod LayoutForCall
 mod CountsOfCall
 mod PutBackCall
 pub mod WriteTableCall

@@ -26,10 +26,14 @@ use denote.Triple.Clauses.{ensured, lasts}
 use denote.Triple.Walked.{says}
 use Rattle.words.specs.Words.{stored}
 use Rattle.sizes.specs.Sizes.{inputs, outputs, frames}
-use Rattle.circuit.specs.Circuit.{checked}
 use Rattle.circuit.specs.Theorems.{response}
 use Rattle.table.specs.Table.{headLength}
 use Rattle.explore.specs.Explore.{CountsTo}
+use Rattle.source.specs.Source.{sourced, SourceOf}
+use Rattle.source.specs.declared.Source.{Source}
+use Rattle.source.proofs.Source as D
+use Rattle.source.proofs.Source.Laws as D′
+use Rattle.source.proofs.Values.{sourceVal}
 use Rattle.survey.specs.declared.Survey.{Survey}
 use Rattle.survey.proofs.Survey as Y
 use Rattle.survey.proofs.Survey.Laws as Y′
@@ -43,17 +47,17 @@ abbrev valsY : Survey → List Val
 valsY = LL.vals Y.the-type Y′.the-laws
 
 -- what it needs, and what it says of its result and the last bytes
-abbrev pub Asked : List ℕ → List ℕ → Survey → Type 0
-Asked ys ms found = (checked ys .number ≡ 0) × CountsTo (inputs ys) (outputs ys) (frames ys) (response ys) (found .counts) (frames ys - 1) × (headLength (frames ys) ≤ length ms)
+abbrev pub Asked : List ℕ → Source → List ℕ → List ℕ → Survey → Type 0
+Asked cs h ys ms found = SourceOf cs h × CountsTo (inputs ys) (outputs ys) (frames ys) (response ys) (found .counts) (frames ys - 1) × (headLength (frames ys) ≤ length ms)
 
 abbrev pub Told : List ℕ → List ℕ → ℕ → List ℕ → Type 0
-Told ys ms r zs = (r ≡ headLength (frames ys)) × (zs ≡ stored 2 ms 0 (headWords ys))
+Told b ms r zs = (r ≡ headLength (frames b)) × (zs ≡ stored 2 ms 0 (headWords b))
 
 module _ {M : Type 1} (𝓤 : URA M) (H : Heap 𝓤) (A : Atoms 𝓤) (mem : Memory → SProp 𝓤) (run : Routine → Fun 𝓤) where
   abbrev pub PutFrontFn : Contract 𝓤
   PutFrontFn = tripleOf 𝓤 H A g.signature (g.spec 𝓤 H A mem run)
 
-  module _ (W : Given 𝓤 H A) (b o n : ℕ) (κ : Lft) (p : Share) (γ : GName) (ys : List ℕ) (b′ o′ n′ : ℕ) (κ′ : Lft) (p′ : Share) (γ′ : GName) (ms : List ℕ) (found : Survey) (gy : Is Y.the-row found (valsY found)) where
+  module _ (W : Given 𝓤 H A) (b o n : ℕ) (κ : Lft) (p : Share) (γ : GName) (ys : List ℕ) (b′ o′ n′ : ℕ) (κ′ : Lft) (p′ : Share) (γ′ : GName) (ms : List ℕ) (found : Survey) (gy : Is Y.the-row found (valsY found)) (h : Source) (gh : Is D.the-row h (LL.vals D.the-type D′.the-laws h)) where
     abbrev x : RefT (List ℕ)
     x = record { ptr = (b, o); name = γ; now = ys }
 
@@ -61,22 +65,22 @@ module _ {M : Type 1} (𝓤 : URA M) (H : Heap 𝓤) (A : Atoms 𝓤) (mem : Mem
     y = record { ptr = (b′, o′); name = γ′; now = ms }
 
     abbrev to : PutFrontFn .Ghost
-    to = (((κ, (κ′, tt)), (p, (p′, tt)), tt, (x, (y, (found, tt))), (sliceVal (b, o) n ∷ [], (sliceVal (b′, o′) n′ ∷ [], (valsY found, tt)))), tt)
+    to = (((κ, (κ′, tt)), (p, (p′, tt)), tt, (x, (y, (found, (h, tt)))), (sliceVal (b, o) n ∷ [], (sliceVal (b′, o′) n′ ∷ [], (valsY found, (LL.vals D.the-type D′.the-laws h, tt))))), tt)
 
-    goes : Asked ys ms found → ent 𝓤 (LendsBoth 𝓤 H A u8 b o n κ p γ ys u8 b′ o′ n′ κ′ p′ γ′ ms) (PutFrontFn .pre to)
+    goes : Asked ys h (sourced h ys) ms found → ent 𝓤 (LendsBoth 𝓤 H A u8 b o n κ p γ ys u8 b′ o′ n′ κ′ p′ γ′ ms) (PutFrontFn .pre to)
     goes within =
         qed W (‵ (flft κ p) ∷ ‵ (shr-at u8 b o n κ γ ys) ∷ ‵ (flft κ′ p′) ∷ ‵ (own-at u8 b′ o′ n′ κ′ γ′ ms) ∷ []) ∵ says ! within $ nothing ! $ move ! (3 ∷ 0 ∷ []) $ join ! $ move ! (1 ∷ 0 ∷ []) $ join ! $ frame ! $
-        nothing ! $ owned ! Y.the-row (Is Y.the-row) (LL.makes Y.the-type Y′.the-plain 𝓤 H A) found _ gy $ fjoin ! $ move ! (2 ∷ 0 ∷ []) $ fjoin ! $ move ! (1 ∷ 0 ∷ []) $ fjoin ! $ done !
+        nothing ! $ owned ! D.the-row (Is D.the-row) (LL.makes D.the-type D′.the-plain 𝓤 H A) h _ gh $ fjoin ! $ owned ! Y.the-row (Is Y.the-row) (LL.makes Y.the-type Y′.the-plain 𝓤 H A) found _ gy $ fjoin ! $ move ! (2 ∷ 0 ∷ []) $ fjoin ! $ move ! (1 ∷ 0 ∷ []) $ fjoin ! $ done !
 
-    gives : (w : Val) → ent 𝓤 (PutFrontFn .post to w) (GivesBoth 𝓤 H A u8 b o n κ p γ ys u8 b′ o′ n′ κ′ p′ γ′ ms usize (Told ys ms) w)
+    gives : (w : Val) → ent 𝓤 (PutFrontFn .post to w) (GivesBoth 𝓤 H A u8 b o n κ p γ ys u8 b′ o′ n′ κ′ p′ γ′ ms usize (Told (sourced h ys) ms) w)
     gives w =
         qed W (raw (PutFrontFn .post to w) ∷ []) ∵ updating ! $
-        use1 W (later (some (λ (r : ℕ). ((‵ (flft κ p) ⊛ ‵ (flft κ′ p′) ⊛ ‵ ftrue) ⊛ ‵ (usize .own r (w ∷ []))) ⊛ raw (ensured 𝓤 H A g.ended (g.clauses 𝓤 H A mem run) (κ, (κ′, tt)) (x, (y, (found, tt))) tt r)))) (id⊢ 𝓤 _) $ await ! tt $ pick ! (λ r.
-        split ! $ move ! (1 ∷ []) $ use1 W (some (λ (ws : Unit {0} × (List ℕ × (Unit {0} × Unit {0}))). ‵ (lasts g.ended (κ, (κ′, tt)) (x, (y, (found, tt))) ws) ⊛ raw (fact 𝓤 (Told ys ms r (ws .1 .0))))) (id⊢ 𝓤 _) $ pick ! (λ ws.
+        use1 W (later (some (λ (r : ℕ). ((‵ (flft κ p) ⊛ ‵ (flft κ′ p′) ⊛ ‵ ftrue) ⊛ ‵ (usize .own r (w ∷ []))) ⊛ raw (ensured 𝓤 H A g.ended (g.clauses 𝓤 H A mem run) (κ, (κ′, tt)) (x, (y, (found, (h, tt)))) tt r)))) (id⊢ 𝓤 _) $ await ! tt $ pick ! (λ r.
+        split ! $ move ! (1 ∷ []) $ use1 W (some (λ (ws : Unit {0} × (List ℕ × (Unit {0} × (Unit {0} × Unit {0})))). ‵ (lasts g.ended (κ, (κ′, tt)) (x, (y, (found, (h, tt)))) ws) ⊛ raw (fact 𝓤 (Told (sourced h ys) ms r (ws .1 .0))))) (id⊢ 𝓤 _) $ pick ! (λ ws.
         -- [what the last values are; the tokens and the result]
-        split ! $ move ! (1 ∷ []) $ heard ! (Told ys ms r (ws .1 .0)) (λ e. fsplit ! $ drop ! $ fsplit ! $ fsplit ! $ move ! (1 ∷ []) $ feqL ! (λ l. move ! (2 ∷ []) $ split ! $ split ! $ move ! (1 ∷ []) $ split ! $
-        at-once ! $ show ! (λ (r′ : ℕ). ex 𝓤 (λ (zs : List ℕ). Both-back 𝓤 H A u8 b o n κ p γ ys u8 b′ o′ n′ κ′ p′ γ′ ms usize (Told ys ms) w r′ zs)) r $ show ! (λ (zs : List ℕ). Both-back 𝓤 H A u8 b o n κ p γ ys u8 b′ o′ n′ κ′ p′ γ′ ms usize (Told ys ms) w r zs) (ws .1 .0) $
+        split ! $ move ! (1 ∷ []) $ heard ! (Told (sourced h ys) ms r (ws .1 .0)) (λ e. fsplit ! $ drop ! $ fsplit ! $ fsplit ! $ move ! (1 ∷ []) $ feqL ! (λ l. move ! (2 ∷ []) $ split ! $ split ! $ move ! (1 ∷ []) $ split ! $
+        at-once ! $ show ! (λ (r′ : ℕ). ex 𝓤 (λ (zs : List ℕ). Both-back 𝓤 H A u8 b o n κ p γ ys u8 b′ o′ n′ κ′ p′ γ′ ms usize (Told (sourced h ys) ms) w r′ zs)) r $ show ! (λ (zs : List ℕ). Both-back 𝓤 H A u8 b o n κ p γ ys u8 b′ o′ n′ κ′ p′ γ′ ms usize (Told (sourced h ys) ms) w r zs) (ws .1 .0) $
         check ! (l, e) $ keep ! (2 ∷ 0 ∷ 3 ∷ 4 ∷ []) $ done !))))
 
-    pub met : (C : Calls 𝓤 H) → FmC 𝓤 H (W .laws) C → Triple 𝓤 (C #put-front) PutFrontFn → Asked ys ms found → ent 𝓤 (LendsBoth 𝓤 H A u8 b o n κ p γ ys u8 b′ o′ n′ κ′ p′ γ′ ms) (C #put-front (sliceVal (b, o) n ∷ sliceVal (b′, o′) n′ ∷ only (valsY found) ∷ []) (GivesBoth 𝓤 H A u8 b o n κ p γ ys u8 b′ o′ n′ κ′ p′ γ′ ms usize (Told ys ms)))
+    pub met : (C : Calls 𝓤 H) → FmC 𝓤 H (W .laws) C → Triple 𝓤 (C #put-front) PutFrontFn → Asked ys h (sourced h ys) ms found → ent 𝓤 (LendsBoth 𝓤 H A u8 b o n κ p γ ys u8 b′ o′ n′ κ′ p′ γ′ ms) (C #put-front (sliceVal (b, o) n ∷ sliceVal (b′, o′) n′ ∷ only (valsY found) ∷ sourceVal h ∷ []) (GivesBoth 𝓤 H A u8 b o n κ p γ ys u8 b′ o′ n′ κ′ p′ γ′ ms usize (Told (sourced h ys) ms)))
     met C fm known within = via 𝓤 (PutFrontFn .pre to) (goes within) (via 𝓤 _ (known to) (fm→monoC 𝓤 H (W .laws) C fm #put-front _ _ _ gives))

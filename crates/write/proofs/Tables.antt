@@ -9,18 +9,17 @@ use lib.Pow.{pow-mono}
 use lib.ListN.{length, getD, drop, replicate}
 use Rattle.words.specs.Words.{stored, wordBytes}
 use Rattle.words.proofs.Laws.{allBytes-length}
-use Rattle.verdict.specs.Judgements.{answer}
 use Rattle.sizes.specs.Sizes.{inputs, outputs, frames}
 use Rattle.layered.specs.Search.{total}
 use Rattle.layered.specs.States.{count}
 use Rattle.layered.proofs.Lists.{total-cong, total-mul}
 use Rattle.layered.proofs.Entries.{entries-length}
 use Rattle.circuit.specs.Lists.{listed, packed}
-use Rattle.circuit.specs.Circuit.{gates, allInputs, allOutputs, gateSignal, outputSignal, checked}
-use Rattle.circuit.specs.WellFormed.{CircuitHeaded, HeadOf, WellFormed}
+use Rattle.circuit.specs.Circuit.{gates, allInputs, allOutputs, gateSignal, outputSignal}
+use Rattle.circuit.specs.WellFormed.{CircuitHeaded, HeadOf, WellFormed, Accepted}
 use Rattle.circuit.specs.Theorems.{response}
 use Rattle.circuit.specs.declared.Head.{Head}
-use Rattle.circuit.proofs.Accepted.{Formed, accepted, well-formed}
+use Rattle.circuit.proofs.Accepted.{well-formed}
 use Rattle.table.specs.Table.{headLength}
 use Rattle.table.proofs.Offsets.{head-length}
 use Rattle.folded.specs.Folded.{foldedBytes, scratchNeeded}
@@ -40,28 +39,19 @@ use Rattle.write.proofs.Heads.{wholeTable, table-length, outputs-room, 
 
 -- ---- an accepted circuit
 
-module _ (b : List ℕ) (e : checked b .number ≡ 0) where
-  accepted-is : checked b ≡ answer 0 (checked b .place)
-  accepted-is = ap (λ (n : ℕ). answer n (checked b .place)) e
-
-  form : Formed b
-  form = accepted b (checked b .place) accepted-is .form
-
-  pub headed : CircuitHeaded b
-  headed = form .head
+module _ (b : List ℕ) (A : Accepted b) where
+  headed : CircuitHeaded b
+  headed = A .form .head
 
   module _ (h : Head) (O : HeadOf b h) where
-    pub well : WellFormed b h
-    well = well-formed form O
-
-    pub layable : (h .inputs ≤ 16) × (h .inputs * h .frames ≤ 16) × (h .total ≤ h .gates) × (h .gates ≤ 4096) × (h .base ≤ 17)
+    pub layable : (h .inputs ≤ 16) × (h .inputs * h .frames ≤ 16) × (h .total ≤ h .gates) × (h .gates ≤ 4352) × (h .base ≤ 17)
     unfolding allInputs
     layable =
         let all : h .inputs * h .frames ≡ allInputs b = ap₂ _*_ (O .inputs-is) (O .frames-is) in
         (omega (arith, O .inputs-is, headed .sizes .inputs-to), omega (arith, all, headed .inputs-to), omega (arith, O .total-is, O .gates-is, headed .outputs-to), omega (arith, O .gates-is, headed .gates-to), omega (arith, O .base-is, headed .inputs-to))
 
     pub layout-is : (layout : Layout) → LayoutOf h layout → LayoutFor b layout
-    layout-is layout L = record { head = h; formed = well; sizes = L }
+    layout-is layout L = record { head = h; formed = well-formed (A .form) O; sizes = L }
 
 -- ---- where a table can be written
 
@@ -130,7 +120,7 @@ module _ (b : List ℕ) (survey : Survey) (ns : List Node) (s ws r : List ℕ) (
 
     work-room : layout .columns + layout .fan * layout .outputs ≤ length ws
     work-room =
-        let few : 2 ^ inputs b ≤ 256 = pow-mono {j = 8} (form b (P .accepted) .sizes .inputs-to) in
+        let few : 2 ^ inputs b ≤ 256 = pow-mono {j = 8} (P .accepted .form .sizes .inputs-to) in
         let fan : layout .fan ≤ 256 = omega (arith, few, is-laid .fan-is, ap (λ (n : ℕ). 2 ^ n) bits-are) in
         let all : layout .fan * layout .outputs ≤ 256 * 16 = mul-le-mul fan (is-laid .outputs-to) in
         omega (arith, all, L .columns-is, P .space)
@@ -140,7 +130,7 @@ module _ (b : List ℕ) (survey : Survey) (ns : List Node) (s ws r : List ℕ) (
     writable r₁ at long e = record {
       subject = subjectOf b ns ws;
       laid = is-laid;
-      given = given b (F .head) W layout L (checked b .place) (accepted-is b (P .accepted)) (P .records) ns ws (P .known .built);
+      given = given b (F .head) W layout L (P .accepted) (P .records) ns ws (P .known .built);
       reads = reads;
       diagrams = refl;
       inside = λ f h. omega (arith, P .known .built .table .below f h, P .known .within);

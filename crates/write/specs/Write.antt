@@ -11,8 +11,8 @@ use Rattle.layered.specs.Search.{tabulate, total}
 use Rattle.layered.specs.States.{count}
 use Rattle.layered.specs.Machines.{entries, folded}
 use Rattle.circuit.specs.Lists.{listed, packed}
-use Rattle.circuit.specs.Circuit.{connectedOutputs, checked}
-use Rattle.circuit.specs.WellFormed.{WellFormed}
+use Rattle.circuit.specs.Circuit.{connectedOutputs}
+use Rattle.circuit.specs.WellFormed.{WellFormed, Accepted}
 use Rattle.circuit.specs.Theorems.{response}
 use Rattle.circuit.specs.declared.Head.{Head}
 use Rattle.table.specs.Table.{headLength}
@@ -132,7 +132,7 @@ nextsFrom layout counts = headLength (layout .frames) + 2 * (total (layout .fram
 
 -- a table can be written: all is known of an accepted circuit b, and the result r has room
 pub record Tabled (b : List ℕ) (survey : Survey) (ns : List Node) (s ws r : List ℕ) : Type 0 where
-  pub accepted : checked b .number ≡ 0
+  pub accepted : Accepted b
   pub records : ℕ
   pub known : Known b records ns s ws (survey .counts)
   pub enough : scratchNeeded b ≤ length s

@@ -1,11 +1,11 @@
 // Writes the table of a circuit whose states are explored: head, outputs and next states, word after word, so that the rest of the result stays as it was.
-use circuit::Head;
-use circuit::connected_outputs;
 use descend::Job;
 use descend::trace;
 use explore::Layout;
 use explore::Limits as Explore;
 use nodes::Node;
+use source::Source;
+use source::connected_outputs;
 use survey::Survey;
 use survey::layout_of;
 use table::Limits;
@@ -20,13 +20,13 @@ ghost use lib.ListN.{length, drop, replicate};
 ghost use Rattle.words.specs.Words.{stored};
 ghost use Rattle.sizes.specs.Sizes.{inputs, outputs, frames};
 ghost use Rattle.layered.specs.Search.{tabulate};
-ghost use Rattle.circuit.specs.Circuit.{connectedOutputs, checked};
-ghost use Rattle.circuit.specs.WellFormed.{WellFormed};
+ghost use Rattle.circuit.specs.Circuit.{connectedOutputs};
 ghost use Rattle.circuit.specs.Theorems.{response};
+ghost use Rattle.source.specs.Source.{sourced, SourceOf};
 ghost use Rattle.table.specs.Table.{connectedAt, headLength};
 ghost use Rattle.folded.specs.Folded.{foldedBytes};
 ghost use Rattle.explore.specs.Explore.{Laid, CountsTo};
-ghost use Rattle.write.specs.Write.{headWords, NextsFit, NextsPut, wordIn, rowIn, firstRow, nextRow, rowJob, AtRow, Writable, Wrote, LayoutFor, nextsFrom, Tabled};
+ghost use Rattle.write.specs.Write.{headWords, NextsFit, NextsPut, wordIn, rowIn, firstRow, nextRow, rowJob, AtRow, Writable, Wrote, nextsFrom, Tabled};
 
 // The next row to be written: that of a state of a layer, of which there are so many, their paths from `at` on in the scratch; it goes to byte offset `to`.
 pub struct Writing {
@@ -38,30 +38,34 @@ pub struct Writing {
 }
 
 // Stores the connected outputs of all frames, behind the counts.
-fn put_connected(circuit: &[u8], head: Head, result: &mut [u8])
-    requires { ⌜ WellFormed (now circuit) head ⌝ }
-    requires { ⌜ headLength (frames (now circuit)) ≤ length (now result) ⌝ }
-    ensures { λ _. ⌜ now (result .exit) ≡ stored 2 (now (result .entry)) (connectedAt (frames (now (circuit .entry))) 0) (tabulate (frames (now (circuit .entry))) (connectedOutputs (now (circuit .entry)))) ⌝ }
+fn put_connected(circuit: &[u8], source: Source, result: &mut [u8])
+    requires { ⌜ SourceOf (now circuit) source ⌝ }
+    requires { ⌜ headLength (frames (sourced source (now circuit))) ≤ length (now result) ⌝ }
+    ensures { λ _. ⌜ now (result .exit) ≡ stored 2 (now (result .entry)) (connectedAt (frames (sourced source (now (circuit .entry)))) 0) (tabulate (frames (sourced source (now (circuit .entry)))) (connectedOutputs (sourced source (now (circuit .entry))))) ⌝ }
 {
-    let last = head.frames;
+    let last = source.frames;
     for t in 0..last {
-        let word = connected_outputs(circuit, head, t);
+        let word = connected_outputs(circuit, source, t);
         store(result, connected_at(last, t), word as u16);
     }
 }
 
 // Stores the head: the sizes, the counts and the connected outputs.
-pub fn put_head(circuit: &[u8], head: Head, counts: &[u16], result: &mut [u8])
-    requires { ⌜ WellFormed (now circuit) head ⌝ }
-    requires { ⌜ CountsTo (inputs (now circuit)) (outputs (now circuit)) (frames (now circuit)) (response (now circuit)) (now counts) (frames (now circuit) - 1) ⌝ }
-    requires { ⌜ headLength (frames (now circuit)) ≤ length (now result) ⌝ }
-    ensures { λ _. ⌜ now (result .exit) ≡ stored 2 (now (result .entry)) 0 (headWords (now (circuit .entry))) ⌝ }
+pub fn put_head(circuit: &[u8], source: Source, counts: &[u16], result: &mut [u8])
+    requires { ⌜ SourceOf (now circuit) source ⌝ }
+    requires { ⌜ CountsTo (inputs (sourced source (now circuit))) (outputs (sourced source (now circuit))) (frames (sourced source (now circuit))) (response (sourced source (now circuit))) (now counts) (frames (sourced source (now circuit)) - 1) ⌝ }
+    requires { ⌜ headLength (frames (sourced source (now circuit))) ≤ length (now result) ⌝ }
+    ensures { λ _. ⌜ now (result .exit) ≡ stored 2 (now (result .entry)) 0 (headWords (sourced source (now (circuit .entry)))) ⌝ }
 {
-    let sizes = [head.inputs as u16, head.outputs as u16, head.frames as u16];
+    let sizes = [
+        source.inputs as u16,
+        source.outputs as u16,
+        source.frames as u16,
+    ];
     store_all(&sizes, 3, result, 0);
-    let layers = head.frames + 1;
+    let layers = source.frames + 1;
     store_all(counts, layers, result, Limits::SIZES);
-    put_connected(circuit, head, result);
+    put_connected(circuit, source, result);
 }
 
 // Stores so many zeros.
@@ -203,23 +207,14 @@ fn counts_of(found: Survey) -> [u16; Explore::LAYERS]
     found.counts
 }
 
-// The layout of an accepted circuit.
-fn layout_for(circuit: &[u8]) -> Layout
-    requires { ⌜ checked (now circuit) .number ≡ 0 ⌝ }
-    ensures { λ r. ⌜ LayoutFor (now (circuit .entry)) r ⌝ }
-{
-    layout_of(Head::read(circuit))
-}
-
 // Stores the head, and answers where the outputs begin.
-fn put_front(circuit: &[u8], result: &mut [u8], found: Survey) -> usize
-    requires { ⌜ (checked (now circuit) .number ≡ 0) × CountsTo (inputs (now circuit)) (outputs (now circuit)) (frames (now circuit)) (response (now circuit)) (found .counts) (frames (now circuit) - 1) × (headLength (frames (now circuit)) ≤ length (now result)) ⌝ }
-    ensures { λ r. ⌜ (r ≡ headLength (frames (now (circuit .entry)))) × (now (result .exit) ≡ stored 2 (now (result .entry)) 0 (headWords (now (circuit .entry)))) ⌝ }
+fn put_front(circuit: &[u8], result: &mut [u8], found: Survey, source: Source) -> usize
+    requires { ⌜ SourceOf (now circuit) source × CountsTo (inputs (sourced source (now circuit))) (outputs (sourced source (now circuit))) (frames (sourced source (now circuit))) (response (sourced source (now circuit))) (found .counts) (frames (sourced source (now circuit)) - 1) × (headLength (frames (sourced source (now circuit))) ≤ length (now result)) ⌝ }
+    ensures { λ r. ⌜ (r ≡ headLength (frames (sourced source (now (circuit .entry))))) × (now (result .exit) ≡ stored 2 (now (result .entry)) 0 (headWords (sourced source (now (circuit .entry))))) ⌝ }
 {
-    let head = Head::read(circuit);
     let counts = counts_of(found);
-    put_head(circuit, head, &counts, result);
-    head_length(head.frames)
+    put_head(circuit, source, &counts, result);
+    head_length(source.frames)
 }
 
 // Where the next states begin: behind the head, and a word of outputs for each entry.
@@ -245,7 +240,7 @@ fn put_back(scratch: &[u16], result: &mut [u8], layout: Layout, found: Survey)
     put_nexts(scratch, layout, &counts, result, at);
 }
 
-// Writes the table of an accepted circuit that was surveyed with enough records. The rest of the result stays as it was.
+// Writes the table of an accepted circuit, or of a network by its source, that was surveyed with enough records. The rest of the result stays as it was.
 pub fn write_table(
     circuit: &[u8],
     found: Survey,
@@ -253,12 +248,13 @@ pub fn write_table(
     scratch: &[u16],
     work: &mut [u32],
     result: &mut [u8],
+    source: Source,
 )
-    requires { ⌜ Tabled (now circuit) found (now nodes) (now scratch) (now work) (now result) ⌝ }
-    ensures { λ _. ⌜ now (result .exit) ≡ foldedBytes (now (circuit .entry)) ++ drop (length (foldedBytes (now (circuit .entry)))) (now (result .entry)) ⌝ }
+    requires { ⌜ SourceOf (now circuit) source × Tabled (sourced source (now circuit)) found (now nodes) (now scratch) (now work) (now result) ⌝ }
+    ensures { λ _. ⌜ now (result .exit) ≡ foldedBytes (sourced source (now (circuit .entry))) ++ drop (length (foldedBytes (sourced source (now (circuit .entry))))) (now (result .entry)) ⌝ }
 {
-    let at = put_front(circuit, result, found);
-    let layout = layout_for(circuit);
+    let at = put_front(circuit, result, found, source);
+    let layout = layout_of(source);
     let counts = counts_of(found);
     put_outputs(nodes, scratch, work, &counts, layout, result, at);
     put_back(scratch, result, layout, found);

@@ -181,14 +181,7 @@ pub fn led_to_one_state(rng: &mut Rng, table: &Table) -> Table {
 
 /// New numbers for the states of each layer, at random.
 pub fn any_numbers(rng: &mut Rng, counts: &[u16]) -> Vec<Vec<u16>> {
-    let mut shuffled = |count| {
-        let mut numbers: Vec<u16> = (0..count).collect();
-        for last in (1..numbers.len()).rev() {
-            numbers.swap(last, rng.below(last + 1));
-        }
-        numbers
-    };
-    counts.iter().map(|&count| shuffled(count)).collect()
+    counts.iter().map(|&count| rng.shuffled(count)).collect()
 }
 
 /// The same table with its states numbered anew: `numbers` is by layer and old number.

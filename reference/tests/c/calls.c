@@ -56,6 +56,10 @@ int main(void) {
     uint8_t table[40];
     uint64_t plan[22] = {0};   /* 21 numbers, and a 0 behind them */
     const uint16_t windows[] = {600, 660, 10000, 50};
+    const uint8_t network[] = {2, 0, 2, 0, 1, 0, 5, 0,          /* the same gates in one frame */
+                               2, 0, 3, 0, 7, 0, 2, 0, 11, 0,
+                               5, 0, 4, 0, 9, 0, 1, 0, 1, 0};
+    const uint16_t places[] = {0, 1, 0, 0, 2};
 
     CALL(check_circuit, circuit, 28);
     CALL(check_circuit, circuit, 27);
@@ -92,6 +96,19 @@ int main(void) {
     CALL(commit, circuit, 28, plan, 22, numbers, 8, nodes, 7, bytes, 40);
     CALL(commit, circuit, 28, plan, 21, numbers, 8, nodes, 7, bytes, 39);
     CALL(commit, circuit, 28, plan, 21, numbers, 8, nodes, 7, bytes, 40);
+
+    CALL(spread, network, 27, 1, 1, 2, places, 2, places, 2, numbers, 8, nodes, 7, bytes, 40);
+    CALL(spread, network, 28, 1, 1, 65535, places, 2, places, 2, numbers, 8, nodes, 7, bytes, 40);
+    CALL(spread, network, 28, 1, 1, 2, places, 1, places, 3, numbers, 8, nodes, 7, bytes, 40);
+    CALL(spread, network, 28, 1, 1, 2, places, 2, places, 3, numbers, 8, nodes, 7, bytes, 40);
+    CALL(spread, network, 28, 1, 1, 2, places + 2, 2, places + 3, 2, numbers, 8, nodes, 7, bytes, 40);
+    CALL(spread, network, 28, 1, 1, 2, places, 2, places + 2, 2, numbers, 8, nodes, 7, bytes, 40);
+    CALL(spread, network, 28, 1, 1, 2, places + 1, 2, places, 2, numbers, 7, nodes, 6, bytes, 39);
+    CALL(spread, network, 28, 1, 1, 2, places, 2, places, 2, numbers, 7, nodes, 6, bytes, 39);
+    CALL(spread, network, 28, 1, 1, 2, places, 2, places, 2, numbers, 8, nodes, 6, bytes, 39);
+    CALL(spread, network, 28, 1, 1, 2, places, 2, places, 2, numbers, 8, nodes, 7, bytes, 39);
+    CALL(spread, network, 28, 1, 1, 2, places, 2, places, 2, numbers, 8, nodes, 7, bytes, 40);
+    CALL_FOR(1, spread, network, 28, 1, 1, 2, places, 2, places, 2, numbers, 8, nodes, 7, bytes, 40);
 
     CALL(check_table, table, 40);
     CALL(check_table, table, 39);

@@ -73,7 +73,7 @@ pub struct Case<'a> {
     pub call: &'a str,
     pub seed: u64,
     pub file: &'a [u8],
-    /// Input words, or a layer, or layer, state and word, or windows.
+    /// Input words, or a layer, or layer, state and word, or windows, or a schedule.
     pub words: &'a [u16],
     /// The plan to commit to.
     pub plan: &'a [u64],

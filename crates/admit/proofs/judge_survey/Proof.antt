@@ -4,32 +4,26 @@ use mathlib.Core.Path.{ap, _∙_}
 use native.Mathlib.Omega.{arith}
 use denote.Ref.{now}
 use Rattle.circuit.specs.WellFormed.{WellFormed}
-use Rattle.circuit.proofs.Accepted.{Accepted, accepted, well-formed}
-use Rattle.ask.proofs.Answered.{zero-number}
+use Rattle.source.specs.Source.{headOf, sourced}
+use Rattle.source.proofs.Sources.{well}
 use Rattle.admit.specs.Admit.{agreedOn}
 use Rattle.admit.proofs.Judged.{bytes-are, judges-refused, judges-counted}
 use borrow.Author.Needs.{needs}
 use Rattle.admit.proofs.judge_survey.Statement.{statement}
 use Rattle.admit.proofs.judge_survey.Tie as tie
 
-known : (c : tie.Start) → Accepted (now (c .args .circuit))
-known c = accepted (now (c .args .circuit)) _ (zero-number _ (c .pre .accepted))
-
-formed : (c : tie.After-read) → WellFormed (now (c .before .before .args .circuit)) (c .read .result)
-formed c = well-formed (known (c .before .before) .form) (c .read .ensures)
-
-read-requires : tie.Need-read-requires
-read-requires c κs = known (c .before) .form .head
+known : (a : tie.Start) → WellFormed (sourced (a .args .source) (now (a .args .circuit))) (headOf (a .args .source))
+known a = well _ _ (a .pre .0)
 
 returns : tie.Need-returns
 returns c =
-    let a = c .before .before .before .before in
-    judges-refused _ _ (formed (c .before .before)) (a .args .survey) (a .args .wanted) (a .args .room) (omega (arith, c .if1 .taken, c .before .before .read .ensures))
+    let a = c .before .before .before in
+    judges-refused _ _ (known a) (a .args .survey) (a .args .wanted) (a .args .room) (omega (arith, c .if1 .taken, known a .head-is))
 
 plan-of-requires : tie.Need-plan-of-requires
 plan-of-requires c κs =
-    let a = c .before .before .before .before in
-    (a .pre .accepted, a .pre .counted (omega (arith, a .pre .most, c .if1 .left, c .before .before .read .ensures)))
+    let a = c .before .before .before in
+    (a .pre .0, a .pre .1 .accepted, a .pre .1 .counted (omega (arith, a .pre .1 .most, c .if1 .left, known a .head-is)))
 
 agrees-requires : tie.Need-agrees-requires
 agrees-requires c κs = search needs
@@ -48,10 +42,10 @@ returns-2 c =
     let g = c .before .before .before in
     let n = g .before in
     let e = n .before in
-    let a = e .before .before .before .before in
+    let a = e .before .before .before in
     let q = n .plan-of .ensures in
-    judges-counted _ _ (formed (e .before .before)) (a .args .survey) (a .args .wanted) (a .args .room)
-    _ _ _ _ (c .and-then .result) (omega (arith, e .if1 .left, e .before .before .read .ensures))
+    judges-counted _ _ (known a) (a .args .survey) (a .args .wanted) (a .args .room)
+    _ _ _ _ (c .and-then .result) (omega (arith, e .if1 .left, known a .head-is))
     (bytes-are _ _ q) (g .agrees .ensures ∙ ap (agreedOn (a .args .wanted)) q)
     (c .before .before .refuse-if .ensures) (c .before .refuse-if2 .ensures) (c .and-then .ensures)
 
@@ -59,7 +53,6 @@ pub judge-survey-spec : {M : Type 1} → statement M
 judge-survey-spec =
     tie.close
     (tie.spec
-    read-requires
     returns
     plan-of-requires
     agrees-requires

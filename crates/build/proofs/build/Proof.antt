@@ -44,9 +44,11 @@ use denote.Triple.Walked.{says, needs, Stays, stay-none-slice, stay-slice, stay-
 use denote.Exit.{yes}
 use Rattle.layered.proofs.Search.{eq-eqb}
 use Rattle.circuit.specs.Circuit.{gates, allInputs}
-use Rattle.circuit.specs.declared.Head.{Head}
-use Rattle.circuit.proofs.Head as D
-use Rattle.circuit.proofs.Head.Laws as D′
+use Rattle.source.specs.declared.Source.{Source}
+use Rattle.source.specs.Source.{headOf, sourced, SourceOf}
+use Rattle.source.proofs.Source as D
+use Rattle.source.proofs.Source.Laws as D′
+use Rattle.source.proofs.Values.{sourceVal}
 use Rattle.nodes.specs.declared.Node.{Node}
 use Rattle.nodes.proofs.Node as T
 use Rattle.conjoin.specs.declared.Shape.{Shape}
@@ -84,14 +86,17 @@ use Rattle.build.proofs.build.Code as code
 use Rattle.build.proofs.build.Code.Mir as mir
 
 abbrev Arg : Type 0
-Arg = RefT (List ℕ) × (Head × (RefT (List Node) × (RefT (List ℕ) × (Shape × Unit {0}))))
+Arg = RefT (List ℕ) × (Source × (RefT (List Node) × (RefT (List ℕ) × (Shape × Unit {0}))))
 
 abbrev stayed : Stays (f.ended .signature .params) (f.ended .kept)
 stayed = (stay-none-slice (0 ∷ []) tt (plain (λ _. u8)) yes, (stay-none (λ _. D.the-row) yes, (stay-slice (1 ∷ []) tt (plain (λ _. T.the-row)), (stay-slice (2 ∷ []) tt (plain (λ _. u32)), (stay-none (λ _. S.the-row) yes, tt)))))
 
 module _ {M : Type 1} (𝓤 : URA M) (H : Heap 𝓤) (A : Atoms 𝓤) (W : Given 𝓤 H A) (mem : Memory → SProp 𝓤) (run : Routine → Fun 𝓤)
-    (κ₀ κ κ′ : Lft) (q₀ q q′ : Share) (b₀ o₀ : ℕ) (γ₀ : GName) (cs : List ℕ) (h : Head) (b o : ℕ) (γ : GName) (ys : List Node) (b′ o′ : ℕ) (γ′ : GName) (ws : List ℕ) (m : Shape) (gh : Is D.the-row h (LL.vals D.the-type D′.the-laws h)) (gm : Is S.the-row m (LL.vals S.the-type S′.the-laws m))
-    (room₀ : Room u8 (length cs)) (room : Room T.the-row (length ys)) (room′ : Room u32 (length ws)) (pre : Buildable cs h ys ws m) where
+    (κ₀ κ κ′ : Lft) (q₀ q q′ : Share) (b₀ o₀ : ℕ) (γ₀ : GName) (cs : List ℕ) (h : Source) (b o : ℕ) (γ : GName) (ys : List Node) (b′ o′ : ℕ) (γ′ : GName) (ws : List ℕ) (m : Shape) (gh : Is D.the-row h (LL.vals D.the-type D′.the-laws h)) (gm : Is S.the-row m (LL.vals S.the-type S′.the-laws m))
+    (room₀ : Room u8 (length cs)) (room : Room T.the-row (length ys)) (room′ : Room u32 (length ws)) (both : SourceOf cs h × Buildable (sourced h cs) (headOf h) ys ws m) where
+  abbrev pre : Buildable (sourced h cs) (headOf h) ys ws m
+  pre = both .1
+
   abbrev n : ℕ
   n = length ys
 
@@ -119,7 +124,7 @@ module _ {M : Type 1} (𝓤 : URA M) (H : Heap 𝓤) (A : Atoms 𝓤) (W : Given
   abbrev had : List Node → List ℕ → List (Item 𝓤)
   had zs us = ‵ (own-at T.the-row b o n κ γ zs) ∷ ‵ (flft κ q) ∷ ‵ (own-at u32 b′ o′ n′ κ′ γ′ us) ∷ ‵ (flft κ′ q′) ∷ ‵ Own₀ ∷ ‵ (flft κ₀ q₀) ∷ []
 
-  exits : (r : ℕ) (zs : List Node) (us : List ℕ) → r < 2 ^ 64 → length zs ≡ n → length us ≡ n′ → Building cs (m .room) zs us r → ent 𝓤 (⋆ 𝓤 H A (had zs us)) (Post (vint w64 r))
+  exits : (r : ℕ) (zs : List Node) (us : List ℕ) → r < 2 ^ 64 → length zs ≡ n → length us ≡ n′ → Building (sourced h cs) (m .room) zs us r → ent 𝓤 (⋆ 𝓤 H A (had zs us)) (Post (vint w64 r))
   exits r zs us gr l l′ e =
       qed W (had zs us) ∵ suffices ! _ (ends-at 𝓤 H A f.ended stayed (f.clauses 𝓤 H A mem run) W (((κ₀, (κ, (κ′, tt))), (q₀, (q, (q′, tt))), tt, arg, at), tt) (vint w64 r) r (tt, (tt, (zs, (us, (tt, tt))))) (tt, (tt, (l, (l′, (tt, tt)))))) $ says ! e $
       nothing ! $ move ! (4 ∷ 0 ∷ []) $ join ! $ move ! (2 ∷ 0 ∷ []) $ join ! $ move ! (4 ∷ 0 ∷ []) $ join ! $ frame ! $
@@ -132,10 +137,10 @@ module _ {M : Type 1} (𝓤 : URA M) (H : Heap 𝓤) (A : Atoms 𝓤) (W : Given
   count = h .base - 1 + h .gates
 
   count-fits : count < 2 ^ 64
-  count-fits = omega (arith, loop.count-is cs h ys ws m pre, loop.count-few cs h ys ws m pre)
+  count-fits = omega (arith, loop.count-is (sourced h cs) (headOf h) ys ws m pre, loop.count-few (sourced h cs) (headOf h) ys ws m pre)
 
   abbrev State : Type 0
-  State = (i : ℕ) × ((zs : List Node) × ((us : List ℕ) × loop.At cs h ys ws m pre i zs us))
+  State = (i : ℕ) × ((zs : List Node) × ((us : List ℕ) × loop.At (sourced h cs) (headOf h) ys ws m pre i zs us))
 
   abbrev Nearer : State → State → Type 0
   Nearer j i = count - j .0 < count - i .0
@@ -182,7 +187,7 @@ module _ {M : Type 1} (𝓤 : URA M) (H : Heap 𝓤) (A : Atoms 𝓤) (W : Given
           ∷ ‵ (froom (sliceTy (ref u32 imm)) l₁₃ 0) ∷ ‵ (fdies (sliceTy (ref u32 imm)) l₁₃) ∷ ‵ (froom (ref u32 imm) l₁₂ 0) ∷ ‵ (fdies (ref u32 imm) l₁₂)
           ∷ ‵ (froom tyBool l₁₁ 0) ∷ ‵ (fdies tyBool l₁₁) ∷ ‵ (froom word l₁₀ 0) ∷ ‵ (fdies word l₁₀) ∷ ‵ (froom (tyInt w32) l₉ 0) ∷ ‵ (fdies (tyInt w32) l₉) ∷ ‵ (froom O′.mir l₈ 0) ∷ ‵ (fdies O′.mir l₈)
           ∷ seventh ∷ ‵ (fdies word l₇) ∷ sixth ∷ ‵ (fdies word l₆) ∷ ‵ (fat fullShare S′.mir l₅ 0 (S′.lowered m)) ∷ ‵ (fdies S′.mir l₅)
-          ∷ ‵ (fat fullShare numbers l₄ 0 (sliceVal (b′, o′) n′)) ∷ ‵ (fdies numbers l₄) ∷ ‵ (fat fullShare records l₃ 0 (sliceVal (b, o) n)) ∷ ‵ (fdies records l₃) ∷ ‵ (fat fullShare D′.mir l₂ 0 (D′.lowered h)) ∷ ‵ (fdies D′.mir l₂)
+          ∷ ‵ (fat fullShare numbers l₄ 0 (sliceVal (b′, o′) n′)) ∷ ‵ (fdies numbers l₄) ∷ ‵ (fat fullShare records l₃ 0 (sliceVal (b, o) n)) ∷ ‵ (fdies records l₃) ∷ ‵ (fat fullShare D′.mir l₂ 0 (sourceVal h)) ∷ ‵ (fdies D′.mir l₂)
           ∷ ‵ (fat fullShare bytes l₁ 0 s₀) ∷ ‵ (fdies bytes l₁) ∷ ‵ (froom word l₀ 0) ∷ ‵ (fdies word l₀) ∷ []
 
       abbrev At : State → List (Item 𝓤)
@@ -206,10 +211,10 @@ module _ {M : Type 1} (𝓤 : URA M) (H : Heap 𝓤) (A : Atoms 𝓤) (W : Given
           move ! (2 ∷ 3 ∷ []) $ join ! $ move ! (1 ∷ 0 ∷ []) $ join ! $ move ! (5 ∷ 0 ∷ []) $ join ! $
           use1 W (raw (origin.Takes 𝓤 H A mem run W κ₀ q₀ b₀ o₀ γ₀ cs h b′ o′ n′ us s gh gs ν δ)) (id⊢ 𝓤 _) $
           -- [what the call takes; circuit; what is kept of work; nodes; its token; _20; …]: _i at 45 - 2 i
-          calls-from ! fm (raw (origin.Takes 𝓤 H A mem run W κ₀ q₀ b₀ o₀ γ₀ cs h b′ o′ n′ us s gh gs ν δ)) (s₀ ∷ D′.lowered h ∷ sliceVal (b′, o′) n′ ∷ vint w64 s ∷ []) (origin.Answers 𝓤 H A mem run W κ₀ q₀ b₀ o₀ γ₀ cs h b′ o′ n′ us s gh gs ν)
-          (origin.met 𝓤 H A mem run W κ₀ q₀ b₀ o₀ γ₀ cs h b′ o′ n′ us s gh gs C fm known-origin (pre .formed) (loop.readable cs h ys ws m pre s zs us t (lt less)) ν δ)
+          calls-from ! fm (raw (origin.Takes 𝓤 H A mem run W κ₀ q₀ b₀ o₀ γ₀ cs h b′ o′ n′ us s gh gs ν δ)) (s₀ ∷ sourceVal h ∷ sliceVal (b′, o′) n′ ∷ vint w64 s ∷ []) (origin.Answers 𝓤 H A mem run W κ₀ q₀ b₀ o₀ γ₀ cs h b′ o′ n′ us s gh gs ν)
+          (origin.met 𝓤 H A mem run W κ₀ q₀ b₀ o₀ γ₀ cs h b′ o′ n′ us s gh gs C fm known-origin (both .0) (loop.readable (sourced h cs) (headOf h) ys ws m pre s zs us t (lt less)) ν δ)
           (and-then ! (local ! 45 refl) (and-then ! (local ! 45 refl) (and-then ! (local ! 45 refl) (and-then ! (local ! 45 refl) (no-more !))))) (λ w₁.
-          use1 W (later (some (λ (r : Origin). given (OriginOf cs us s r) (‵ (flft κ₀ q₀) ⊛ ‵ (flft (ν ∷ []) fullShare) ⊛ ‵ (O.the-row .own r (w₁ ∷ [])))))) (id⊢ 𝓤 _) $ await ! tt $ pick ! (λ g. learn ! (λ g-is. split ! $ move ! (1 ∷ []) $ split ! $
+          use1 W (later (some (λ (r : Origin). given (OriginOf (sourced h cs) us s r) (‵ (flft κ₀ q₀) ⊛ ‵ (flft (ν ∷ []) fullShare) ⊛ ‵ (O.the-row .own r (w₁ ∷ [])))))) (id⊢ 𝓤 _) $ await ! tt $ pick ! (λ g. learn ! (λ g-is. split ! $ move ! (1 ∷ []) $ split ! $
           -- [the token of ν; what g owns; the circuit's token; circuit; what is kept of work; nodes; its token; _20; …]
           move ! (0 ∷ 4 ∷ []) $ comes-as-shared ! tt u32 b′ o′ n′ κ′ q′ γ′ us ν us-as (
           move ! (2 ∷ []) $ peeks ! O.the-row (Is O.the-row) (shows 𝓤 H A O.the-row) g (w₁ ∷ []) (λ is₁. land ! (from ! (stop !)) (init ! 31 refl (LL.lawful O.the-type O′.the-laws 𝓤 H A W .typed g _ is₁ .0)) $ drop ! $
@@ -221,7 +226,7 @@ module _ {M : Type 1} (𝓤 : URA M) (H : Heap 𝓤) (A : Atoms 𝓤) (W : Given
           assigns ! (addr ! (from ! (fld ! refl (hop ! (look-in ! 38 (sub ! 0 refl (whole !))) (stop !))))) (from ! (stop !)) (init ! 14 refl (tt, tt)) $
           assigns ! (agg ! (and-then ! (local ! 46 refl) (and-then ! (load ! (from ! (fld ! refl (stop !))) (look-in ! 38 (sub ! 1 refl (whole !)))) (no-more !)))) (from ! (stop !)) (init ! 12 refl (tt, (tt, (record { fits = room′ .0 }, tt)))) $
           calls-both ! fm T.the-row u32 u32 b o n κ q γ zs b′ o′ n′ κ′ q′ γ′ us (S′.lowered m ∷ O′.lowered g ∷ []) (make.Told zs us m g) room zs-as room′ us-as
-          (make.met 𝓤 H A mem run W b o n zs b′ o′ n′ us m g gm (subst (Is O.the-row g) (LL.tells O.the-type O′.the-laws g _ is₁) is₁) C fm known-make (loop.can cs h ys ws m pre s zs us t (lt less) g g-is))
+          (make.met 𝓤 H A mem run W b o n zs b′ o′ n′ us m g gm (subst (Is O.the-row g) (LL.tells O.the-type O′.the-laws g _ is₁) is₁) C fm known-make (loop.can (sourced h cs) (headOf h) ys ws m pre s zs us t (lt less) g g-is))
           (λ ν δ ν′ δ′. (and-then ! (local ! 45 refl) (and-then ! (local ! 45 refl) (and-then ! (local ! 45 refl) (and-then ! (local ! 45 refl) (no-more !)))))) (λ w₂ r es vs es-as vs-as made.
           peeks ! u32 (Is u32) (shows 𝓤 H A u32) r (w₂ ∷ []) (λ is₂. land ! (from ! (stop !)) (init ! 29 refl (uint-lawful 𝓤 H A W w32 .typed r _ is₂ .0)) $ drop ! $
           rewrite ! 28 (λ (v : Val). ‵ (fat fullShare (tyInt w32) l₉ 0 v)) (ap only (is₂ .0)) refl $
@@ -235,7 +240,7 @@ module _ {M : Type 1} (𝓤 : URA M) (H : Heap 𝓤) (A : Atoms 𝓤) (W : Given
           rewrite ! 46 (λ (v : Val). ‵ (fat fullShare word l₀ 0 v)) (ap only (is₃ .0)) refl $
           returns-within ! Post refl (look ! 46 refl) $ forget ! 12 refl $ forget ! 14 refl $ forget ! 16 refl $ forget ! 18 refl $ forget ! 20 refl $ forget ! 22 refl $ forget ! 24 refl $ forget ! 28 refl $ forget ! 30 refl $ forget ! 32 refl $ forget ! 34 refl $ forget ! 36 refl $ forget ! 38 refl $ forget ! 40 refl $ forget ! 42 refl $ forget ! 44 refl $ forget ! 46 refl $
           move ! (46 ∷ 47 ∷ []) $ free1 ! $ move ! (44 ∷ 45 ∷ []) $ free1 ! $ move ! (42 ∷ 43 ∷ []) $ free1 ! $ move ! (40 ∷ 41 ∷ []) $ free1 ! $ move ! (38 ∷ 39 ∷ []) $ free1 ! $ move ! (36 ∷ 37 ∷ []) $ free1 ! $ move ! (34 ∷ 35 ∷ []) $ free1 ! $ move ! (32 ∷ 33 ∷ []) $ free1 ! $ move ! (30 ∷ 31 ∷ []) $ free1 ! $ move ! (28 ∷ 29 ∷ []) $ free1 ! $ move ! (26 ∷ 27 ∷ []) $ free1 ! $ move ! (24 ∷ 25 ∷ []) $ free1 ! $ move ! (22 ∷ 23 ∷ []) $ free1 ! $ move ! (20 ∷ 21 ∷ []) $ free1 ! $ move ! (18 ∷ 19 ∷ []) $ free1 ! $ move ! (16 ∷ 17 ∷ []) $ free1 ! $ move ! (14 ∷ 15 ∷ []) $ free1 ! $ move ! (12 ∷ 13 ∷ []) $ free1 ! $ move ! (10 ∷ 11 ∷ []) $ free1 ! $ move ! (8 ∷ 9 ∷ []) $ free1 ! $ move ! (6 ∷ 7 ∷ []) $ free1 ! $ free0 ! $
-          by ! (exits k es vs (is₃ .1) es-as vs-as (loop.stops cs h ys ws m pre s zs us t (lt less) g g-is r es vs es-as vs-as made (eqb→eq r 4294967295 none) k k-is)))))
+          by ! (exits k es vs (is₃ .1) es-as vs-as (loop.stops (sourced h cs) (headOf h) ys ws m pre s zs us t (lt less) g g-is r es vs es-as vs-as made (eqb→eq r 4294967295 none) k k-is)))))
           (λ id.
           -- set_id(work, s, id)
           assigns ! (addr ! (from ! (fld ! refl (hop ! (look-in ! 38 (sub ! 0 refl (whole !))) (stop !))))) (from ! (stop !)) (init ! 8 refl (tt, tt)) $
@@ -247,12 +252,12 @@ module _ {M : Type 1} (𝓤 : URA M) (H : Heap 𝓤) (A : Atoms 𝓤) (W : Given
           move ! (2 ∷ 3 ∷ []) $
           assigns-last ! (bin ! (local ! 46 refl) (lit ! tt) (record { fits = next-fits less })) (from ! (stop !)) (store ! 32 refl (tt, record { fits = next-fits less })) $
           forget ! 6 refl $ forget ! 8 refl $ forget ! 10 refl $ forget ! 12 refl $ forget ! 14 refl $ forget ! 16 refl $ forget ! 18 refl $ forget ! 20 refl $ forget ! 22 refl $ forget ! 24 refl $ forget ! 28 refl $ forget ! 30 refl $ keep ! (0 ∷ 1 ∷ 2 ∷ 3 ∷ 4 ∷ 5 ∷ 6 ∷ 7 ∷ 8 ∷ 9 ∷ 10 ∷ 11 ∷ 12 ∷ 13 ∷ 14 ∷ 15 ∷ 16 ∷ 17 ∷ 18 ∷ 19 ∷ 20 ∷ 21 ∷ 22 ∷ 23 ∷ 24 ∷ 25 ∷ 26 ∷ 27 ∷ 28 ∷ 29 ∷ 30 ∷ 31 ∷ 32 ∷ 33 ∷ 34 ∷ 35 ∷ 36 ∷ 37 ∷ 38 ∷ 39 ∷ 40 ∷ 41 ∷ 42 ∷ 43 ∷ 44 ∷ 45 ∷ 46 ∷ 47 ∷ []) $
-          again ! Nearer At i (s + 1, (es, (xs, subst (loop.At cs h ys ws m pre (s + 1) es) (sym X) (loop.goes-on cs h ys ws m pre s zs us t (lt less) g g-is r es vs es-as vs-as made (λ z. T-not (eqb r 4294967295) id (eq-eqb z)))))) (nearer less)))))))))))))
+          again ! Nearer At i (s + 1, (es, (xs, subst (loop.At (sourced h cs) (headOf h) ys ws m pre (s + 1) es) (sym X) (loop.goes-on (sourced h cs) (headOf h) ys ws m pre s zs us t (lt less) g g-is r es vs es-as vs-as made (λ z. T-not (eqb r 4294967295) id (eq-eqb z)))))) (nearer less)))))))))))))
           (λ over. exec ! C Λ En mir.t-5 (atRet En Post) $
           assigns ! (bin ! (load ! (from ! (fld ! refl (stop !))) (look-in ! 42 (sub ! 3 refl (whole !)))) (lit ! tt) (record { fits = last-fits })) (from ! (stop !)) (init ! 46 refl (tt, record { fits = last-fits })) $
           returns ! (look ! 46 refl) $ forget ! 24 refl $ forget ! 32 refl $ forget ! 34 refl $ forget ! 36 refl $ forget ! 38 refl $ forget ! 40 refl $ forget ! 42 refl $ forget ! 44 refl $ forget ! 46 refl $
           move ! (46 ∷ 47 ∷ []) $ free1 ! $ move ! (44 ∷ 45 ∷ []) $ free1 ! $ move ! (42 ∷ 43 ∷ []) $ free1 ! $ move ! (40 ∷ 41 ∷ []) $ free1 ! $ move ! (38 ∷ 39 ∷ []) $ free1 ! $ move ! (36 ∷ 37 ∷ []) $ free1 ! $ move ! (34 ∷ 35 ∷ []) $ free1 ! $ move ! (32 ∷ 33 ∷ []) $ free1 ! $ move ! (30 ∷ 31 ∷ []) $ free1 ! $ move ! (28 ∷ 29 ∷ []) $ free1 ! $ move ! (26 ∷ 27 ∷ []) $ free1 ! $ move ! (24 ∷ 25 ∷ []) $ free1 ! $ move ! (22 ∷ 23 ∷ []) $ free1 ! $ move ! (20 ∷ 21 ∷ []) $ free1 ! $ move ! (18 ∷ 19 ∷ []) $ free1 ! $ move ! (16 ∷ 17 ∷ []) $ free1 ! $ move ! (14 ∷ 15 ∷ []) $ free1 ! $ move ! (12 ∷ 13 ∷ []) $ free1 ! $ move ! (10 ∷ 11 ∷ []) $ free1 ! $ move ! (8 ∷ 9 ∷ []) $ free1 ! $ move ! (6 ∷ 7 ∷ []) $ free1 ! $ free0 ! $
-          by ! (exits (h .gates + 1) zs us last-fits zs-as us-as (loop.ends cs h ys ws m pre s zs us t (done-all over) (h .gates + 1) last-is)))
+          by ! (exits (h .gates + 1) zs us last-fits zs-as us-as (loop.ends (sourced h cs) (headOf h) ys ws m pre s zs us t (done-all over) (h .gates + 1) last-is)))
         where
           s : ℕ
           s = i .0
@@ -263,7 +268,7 @@ module _ {M : Type 1} (𝓤 : URA M) (H : Heap 𝓤) (A : Atoms 𝓤) (W : Given
           us : List ℕ
           us = i .1 .1 .0
 
-          t : loop.At cs h ys ws m pre s zs us
+          t : loop.At (sourced h cs) (headOf h) ys ws m pre s zs us
           t = i .1 .1 .1
 
           zs-as : length zs ≡ n
@@ -273,13 +278,13 @@ module _ {M : Type 1} (𝓤 : URA M) (H : Heap 𝓤) (A : Atoms 𝓤) (W : Given
           us-as = t .work-as
 
           gs : s < 2 ^ 64
-          gs = omega (arith, t .most, loop.count-few cs h ys ws m pre)
+          gs = omega (arith, t .most, loop.count-few (sourced h cs) (headOf h) ys ws m pre)
 
-          lt : Tᵇ (ltb s count) → s < allInputs cs + gates cs
-          lt less = omega (arith, ltb→lt s count less, loop.count-is cs h ys ws m pre)
+          lt : Tᵇ (ltb s count) → s < allInputs (sourced h cs) + gates (sourced h cs)
+          lt less = omega (arith, ltb→lt s count less, loop.count-is (sourced h cs) (headOf h) ys ws m pre)
 
           inside : Tᵇ (ltb s count) → (s + 1 < length us) × (s < 4294967296)
-          inside less = loop.inside cs h ys ws m pre s zs us t (lt less)
+          inside less = loop.inside (sourced h cs) (headOf h) ys ws m pre s zs us t (lt less)
 
           within : Tᵇ (ltb s count) → (vs : List ℕ) → length vs ≡ n′ → (s + 1 < length vs) × (s < 4294967296)
           within less vs e = (omega (arith, inside less .0, e, us-as), inside less .1)
@@ -290,17 +295,17 @@ module _ {M : Type 1} (𝓤 : URA M) (H : Heap 𝓤) (A : Atoms 𝓤) (W : Given
           nearer : Tᵇ (ltb s count) → count - (s + 1) < count - s
           nearer less = omega (arith, ltb→lt s count less)
 
-          done-all : Tᵇ (not (ltb s count)) → allInputs cs + gates cs ≤ s
-          done-all over = omega (arith, nltb→le s count over, loop.count-is cs h ys ws m pre)
+          done-all : Tᵇ (not (ltb s count)) → allInputs (sourced h cs) + gates (sourced h cs) ≤ s
+          done-all over = omega (arith, nltb→le s count over, loop.count-is (sourced h cs) (headOf h) ys ws m pre)
 
-          last-is : h .gates + 1 ≡ gates cs + 1
+          last-is : h .gates + 1 ≡ gates (sourced h cs) + 1
           last-is = omega (arith, pre .formed .head-is .gates-is)
 
           last-fits : h .gates + 1 < 2 ^ 64
-          last-fits = omega (arith, last-is, loop.count-few cs h ys ws m pre)
+          last-fits = omega (arith, last-is, loop.count-few (sourced h cs) (headOf h) ys ws m pre)
 
-      loop-starts : Sq W (At (0, (ys, (ws, loop.begins cs h ys ws m pre)))) (runs C Λ En mir.t-4 (atRet En Post))
-      loop-starts = first ! $ blocks ! $ loops ! 𝓣 Nearer Nearer-wf At turns (0, (ys, (ws, loop.begins cs h ys ws m pre)))
+      loop-starts : Sq W (At (0, (ys, (ws, loop.begins (sourced h cs) (headOf h) ys ws m pre)))) (runs C Λ En mir.t-4 (atRet En Post))
+      loop-starts = first ! $ blocks ! $ loops ! 𝓣 Nearer Nearer-wf At turns (0, (ys, (ws, loop.begins (sourced h cs) (headOf h) ys ws m pre)))
 
       starts : Sq W (Has ys ws (‵ (froom word l₇ 0)) (‵ (froom word l₆ 0))) (runs C Λ En mir.t-1 (atRet En Post))
       starts =
@@ -315,9 +320,9 @@ module _ {M : Type 1} (𝓤 : URA M) (H : Heap 𝓤) (A : Atoms 𝓤) (W : Given
           base-fits : h .base - 1 < 2 ^ 64
           base-fits = omega (arith, count-fits)
 
-    walk : ent 𝓤 (onEntry 𝓤 H A f.signature (κ₀, (κ, (κ′, tt))) (q₀, (q, (q′, tt))) arg at) (WpFn 𝓤 H (𝓣 .C) (𝓣 .Λ) code.function (s₀ ∷ D′.lowered h ∷ sliceVal (b, o) n ∷ sliceVal (b′, o′) n′ ∷ S′.lowered m ∷ []) Post)
+    walk : ent 𝓤 (onEntry 𝓤 H A f.signature (κ₀, (κ, (κ′, tt))) (q₀, (q, (q′, tt))) arg at) (WpFn 𝓤 H (𝓣 .C) (𝓣 .Λ) code.function (s₀ ∷ sourceVal h ∷ sliceVal (b, o) n ∷ sliceVal (b′, o′) n′ ∷ S′.lowered m ∷ []) Post)
     walk =
-        qed W ((‵ (flft κ₀ q₀) ⊛ ‵ (flft κ q) ⊛ ‵ (flft κ′ q′) ⊛ ‵ ftrue) ∷ ‵ (owns (ShrSlice (named 0) κ₀ u8 ∷ D.the-row ∷ MutSlice (named 1) κ T.the-row ∷ MutSlice (named 2) κ′ u32 ∷ S.the-row ∷ []) arg at) ∷ []) ∵ enter ! (𝓣 .C) (𝓣 .Λ) code.function (s₀ ∷ D′.lowered h ∷ sliceVal (b, o) n ∷ sliceVal (b′, o′) n′ ∷ S′.lowered m ∷ []) _ $
+        qed W ((‵ (flft κ₀ q₀) ⊛ ‵ (flft κ q) ⊛ ‵ (flft κ′ q′) ⊛ ‵ ftrue) ∷ ‵ (owns (ShrSlice (named 0) κ₀ u8 ∷ D.the-row ∷ MutSlice (named 1) κ T.the-row ∷ MutSlice (named 2) κ′ u32 ∷ S.the-row ∷ []) arg at) ∷ []) ∵ enter ! (𝓣 .C) (𝓣 .Λ) code.function (s₀ ∷ sourceVal h ∷ sliceVal (b, o) n ∷ sliceVal (b′, o′) n′ ∷ S′.lowered m ∷ []) _ $
         alloc1 ! (λ l₀. alloc1 ! (λ l₁. alloc1 ! (λ l₂. alloc1 ! (λ l₃. alloc1 ! (λ l₄. alloc1 ! (λ l₅. alloc1 ! (λ l₆. alloc1 ! (λ l₇. alloc1 ! (λ l₈. alloc1 ! (λ l₉. alloc1 ! (λ l₁₀. alloc1 ! (λ l₁₁. alloc1 ! (λ l₁₂. alloc1 ! (λ l₁₃. alloc1 ! (λ l₁₄. alloc1 ! (λ l₁₅. alloc1 ! (λ l₁₆. alloc1 ! (λ l₁₇. alloc1 ! (λ l₁₈. alloc1 ! (λ l₁₉. alloc1 ! (λ l₂₀. alloc0 ! $ params1 ! $
         pass1 ! (init ! 38 refl (tt, (tt, (record { fits = room₀ .0 }, tt)))) $ pass1 ! (init ! 36 refl (LL.lawful D.the-type D′.the-laws 𝓤 H A W .typed h _ gh .0)) $ pass1 ! (init ! 34 refl (tt, (tt, (record { fits = room .0 }, tt)))) $ pass1 ! (init ! 32 refl (tt, (tt, (record { fits = room′ .0 }, tt)))) $ pass1 ! (init ! 30 refl (LL.lawful S.the-type S′.the-laws 𝓤 H A W .typed m _ gm .0)) $ pass0 ! $
         move ! (43 ∷ []) $ fsplit ! $ move ! (1 ∷ []) $ fsplit ! $ drop ! $ fsplit ! $ move ! (1 ∷ []) $ fsplit ! $ move ! (1 ∷ []) $ drop ! $
@@ -329,7 +334,7 @@ module _ {M : Type 1} (𝓤 : URA M) (H : Heap 𝓤) (A : Atoms 𝓤) (W : Given
   walks : Walks 𝓤 H A f.ended stayed (WpFn 𝓤 H (𝓣 .C) (𝓣 .Λ) code.function) (f.clauses 𝓤 H A mem run)
   walks = walked 𝓤 H A f.ended stayed (f.clauses 𝓤 H A mem run) (WpFn 𝓤 H (𝓣 .C) (𝓣 .Λ) code.function) (λ κs. (slice-vals, (LL.vals D.the-type D′.the-laws, (slice-vals, (slice-vals, (LL.vals S.the-type S′.the-laws, tt))))))
       (λ κs. (shr-slice-tells (named 0) (κs .0) u8, (LL.tells D.the-type D′.the-laws, (mut-slice-tells (named 1) (κs .1 .0) T.the-row, (mut-slice-tells (named 2) (κs .1 .1 .0) u32, (LL.tells S.the-type S′.the-laws, tt))))))
-      (λ κs qs bounds a g are. needs 𝓤 (Buildable (a .0 .now) (a .1 .0) (a .1 .1 .0 .now) (a .1 .1 .1 .0 .now) (a .1 .1 .1 .1 .0)) _ (λ pre.
+      (λ κs qs bounds a g are. needs 𝓤 (SourceOf (a .0 .now) (a .1 .0) × Buildable (sourced (a .1 .0) (a .0 .now)) (headOf (a .1 .0)) (a .1 .1 .0 .now) (a .1 .1 .1 .0 .now) (a .1 .1 .1 .1 .0)) _ (λ pre.
       walk 𝓤 H A W mem run (κs .0) (κs .1 .0) (κs .1 .1 .0) (qs .0) (qs .1 .0) (qs .1 .1 .0) (a .0 .ptr .0) (a .0 .ptr .1) (a .0 .name) (a .0 .now) (a .1 .0) (a .1 .1 .0 .ptr .0) (a .1 .1 .0 .ptr .1) (a .1 .1 .0 .name) (a .1 .1 .0 .now)
       (a .1 .1 .1 .0 .ptr .0) (a .1 .1 .1 .0 .ptr .1) (a .1 .1 .1 .0 .name) (a .1 .1 .1 .0 .now) (a .1 .1 .1 .1 .0) (are .1 .0) (are .1 .1 .1 .1 .0) (are .0 .0 .1) (are .1 .1 .0 .0 .1) (are .1 .1 .1 .0 .0 .1) pre
       𝓣 (fmOf 𝓤 H (W .laws) 𝓣) known-origin known-make known-number known-set))

@@ -1,55 +1,61 @@
+-- `build::origin_of` meets its contract.
+-- Assumes nothing.
+use native.Mathlib.Omega.{arith}
+use denote.Ref.{now}
+use Rattle.circuit.specs.WellFormed.{WellFormed}
+use Rattle.source.specs.Source.{headOf, sourced}
+use Rattle.source.proofs.Sources.{well}
 use Rattle.build.proofs.Laws.{origin-input, origin-gate}
 use borrow.Author.Needs.{needs}
 use Rattle.build.proofs.origin_of.Statement.{statement}
 use Rattle.build.proofs.origin_of.Tie as tie
 
--- src/lib.rt:30:8
+-- what is known of the circuit that the source is
+known : (s : tie.Start) → WellFormed (sourced (s .args .source) (now (s .args .circuit))) (headOf (s .args .source))
+known s = well _ _ (s .pre .0)
+
 add-if1 : tie.Need-add-if1
-add-if1 c = search needs
+add-if1 c = let s = c .before .before in omega (arith, known s, s .pre)
 
--- src/lib.rt:33:20
 cast-t11 : tie.Need-cast-t11
-cast-t11 c = search needs
+cast-t11 c = let s = c .before .before .before in omega (arith, known s, s .pre)
 
--- src/lib.rt:33:20
 add-t12 : tie.Need-add-t12
-add-t12 c = search needs
+add-t12 c = let s = c .before .before .before in omega (arith, known s, s .pre)
 
--- src/lib.rt:31:9
 returns : tie.Need-returns
-returns c = let a = c .before .before .before in origin-input (a .args .circuit .now) (a .args .work .now) (a .args .s) _ _ (a .pre .0 .head-is .base-is) (c .if1 .taken)
+returns c = let a = c .before .before .before in origin-input _ (a .args .work .now) (a .args .s) _ _ (known a .head-is .base-is) (c .if1 .taken)
 
--- src/lib.rt:42:41
-add-read-gate : tie.Need-add-read-gate
-add-read-gate c = search needs
+add-gate-of : tie.Need-add-gate-of
+add-gate-of c = let s = c .before .before .before in omega (arith, known s, s .pre)
 
--- src/lib.rt:42:41
-sub-read-gate : tie.Need-sub-read-gate
-sub-read-gate c = search needs
+sub-gate-of : tie.Need-sub-gate-of
+sub-gate-of c = search needs
 
--- src/lib.rt:42:9
-read-gate-requires : tie.Need-read-gate-requires
-read-gate-requires c κs = search needs
+gate-of-requires : tie.Need-gate-of-requires
+gate-of-requires c κs = let s = c .before .before .before in (s .pre .0, omega (arith, known s, s .pre, c .if1 .left))
 
--- src/lib.rt:49:16
+-- once the gate is read: the entry
+abbrev entry : tie.After-gate-of → tie.Start
+entry c = c .before .before .before .before
+
 mul-t14 : tie.Need-mul-t14
-mul-t14 c = search needs
+mul-t14 c = let s = entry c in omega (arith, known s, s .pre, c .gate-of .ensures)
 
--- src/lib.rt:49:16
 shared-slice-read-t16 : tie.Need-shared-slice-read-t16
-shared-slice-read-t16 c = search needs
+shared-slice-read-t16 c = let s = entry (c .before) in omega (arith, known s, s .pre, c .before .gate-of .ensures)
 
--- src/lib.rt:51:16
 mul-t19 : tie.Need-mul-t19
-mul-t19 c = search needs
+mul-t19 c = let s = entry (c .before) in omega (arith, known s, s .pre, c .before .gate-of .ensures)
 
--- src/lib.rt:51:16
 shared-slice-read-t21 : tie.Need-shared-slice-read-t21
-shared-slice-read-t21 c = search needs
+shared-slice-read-t21 c = let s = entry (c .before .before) in omega (arith, known s, s .pre, c .before .before .gate-of .ensures)
 
--- src/lib.rt:24:1
 returns-2 : tie.Need-returns-2
-returns-2 c = let a = c .before .before .before .before .before .before in origin-gate (a .args .circuit .now) (a .args .work .now) (a .args .s) _ _ (a .pre .0 .head-is .base-is) (c .before .before .before .if1 .left) (c .before .before .read-gate .ensures)
+returns-2 c =
+    let k = c .before .before in
+    let a = entry k in
+    origin-gate _ (a .args .work .now) (a .args .s) _ _ (known a .head-is .base-is) (k .before .if1 .left) (k .gate-of .ensures)
 
 pub origin-of-spec : {M : Type 1} → statement M
 origin-of-spec =
@@ -59,9 +65,9 @@ origin-of-spec =
     cast-t11
     add-t12
     returns
-    add-read-gate
-    sub-read-gate
-    read-gate-requires
+    add-gate-of
+    sub-gate-of
+    gate-of-requires
     mul-t14
     shared-slice-read-t16
     mul-t19

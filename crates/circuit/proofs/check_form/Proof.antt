@@ -7,7 +7,7 @@ use native.Mathlib.Omega.{arith}
 use denote.Ref.{now}
 use Rattle.verdict.specs.Judgements.{figures}
 use Rattle.verdict.proofs.Laws.{stop, go-on, accepts}
-use Rattle.circuit.specs.Circuit.{leftsAt, rightsAt, literalsChecked, formChecked}
+use Rattle.circuit.specs.Circuit.{leftsAt, rightsAt, literalsChecked, formWithin}
 use Rattle.circuit.specs.WellFormed.{CircuitHeaded, HeadOf}
 use Rattle.circuit.proofs.Accepted.{headed}
 use borrow.Author.Needs.{needs}
@@ -24,7 +24,7 @@ enum-told-2 : tie.Need-enum-told-2
 enum-told-2 c = search needs
 
 returns : tie.Need-returns
-unfolding formChecked
+unfolding formWithin
 returns c =
     let h = c .before .before in
     stop (h .check-head .result) _ _ (c .enum-told2 .given .0 .0) (h .check-head .ensures) (c .enum-told2 .given .1)
@@ -36,7 +36,7 @@ b₁ c = now (c .before .before .before .before .args .circuit)
 headed₁ : (c : tie.After-enum-told) → CircuitHeaded (b₁ c)
 headed₁ c =
     let h = c .before .before in
-    headed (b₁ c) (c .enum-told .given .0 .0) 8 (omega arith) (accepts (h .check-head .result) _ (c .enum-told .given .0 .0) (h .check-head .ensures) (c .enum-told .given .1)) .0
+    headed (b₁ c) (c .enum-told .given .0 .0) (c .before .before .before .before .args .most) (c .before .before .before .before .args .long) (c .before .before .before .before .pre) (accepts (h .check-head .result) _ (c .enum-told .given .0 .0) (h .check-head .ensures) (c .enum-told .given .1)) .0
 
 read-requires : tie.Need-read-requires
 read-requires c κs = headed₁ c
@@ -61,7 +61,7 @@ unfolding leftsAt
 lefts-is c = c .check-literals .ensures
 
 returns-2 : tie.Need-returns-2
-unfolding formChecked
+unfolding formWithin
 returns-2 c =
     let l = c .before .before in
     let e = l .before .before .before in
@@ -86,7 +86,7 @@ check-literals-requires-2 : tie.Need-check-literals-requires-2
 check-literals-requires-2 c κs = (known₃ c .0, (known₃ c .1, (omega (arith, known₃ c .0, known₃ c .1), lefts₃ c .before .first-unconnected .ensures)))
 
 returns-3 : tie.Need-returns-3
-unfolding formChecked rightsAt
+unfolding formWithin rightsAt
 returns-3 c =
     let k = c .before .before in
     let l = k .before .before in

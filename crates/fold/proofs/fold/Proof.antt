@@ -127,8 +127,8 @@ module _ {M : Type 1} (𝓤 : URA M) (H : Heap 𝓤) (A : Atoms 𝓤) (W : Given
   exits v w t zs us is l l′ l″ wanted a e =
       qed W (had t zs us) ∵ suffices ! _ (ends-at 𝓤 H A f.ended stayed (f.clauses 𝓤 H A mem run) W (((κ₀, (κ₁, (κ₂, (κ₃, tt)))), (q₀, (q₁, (q₂, (q₃, tt)))), tt, x, at), tt) w v (tt, (t, (zs, (us, tt)))) (tt, (l, (l′, (l″, tt))))) $
       tells ! (sep 𝓤 (fact 𝓤 (Answered v)) (sep 𝓤 (fact 𝓤 (Written us)) (sep 𝓤 (fact 𝓤 (Left t)) (sep 𝓤 (fact 𝓤 (Emptied zs)) (fact 𝓤 (Holds v us))))))
-      (fact-and 𝓤 _ _ (e .ends .answered ∙ any-figures cs wanted n₁ n₂ r a) (fact-and 𝓤 _ _ (e .ends .written ∙ any-result cs wanted n₁ n₂ r a) (fact-and 𝓤 _ _ (e .scratch-left) (fact-and 𝓤 _ _ (e .nodes-left)
-      (factI 𝓤 _ (emp 𝓤) (promised cs wanted n₁ n₂ r (figures v) us (e .ends .answered) (e .ends .written))))))) $
+      (fact-and 𝓤 _ _ (e .answered ∙ any-figures cs wanted n₁ n₂ r a) (fact-and 𝓤 _ _ (e .written ∙ any-result cs wanted n₁ n₂ r a) (fact-and 𝓤 _ _ (e .scratch-left) (fact-and 𝓤 _ _ (e .nodes-left)
+      (factI 𝓤 _ (emp 𝓤) (promised cs wanted n₁ n₂ r (figures v) us (e .answered) (e .written))))))) $
       nothing ! $ move ! (4 ∷ 0 ∷ []) $ join ! $ move ! (4 ∷ 0 ∷ []) $ join ! $ move ! (4 ∷ 0 ∷ []) $ join ! $ move ! (4 ∷ 0 ∷ []) $ join ! $ frame ! $
       nothing ! $ move ! (3 ∷ 0 ∷ []) $ fjoin ! $ move ! (2 ∷ 0 ∷ []) $ fjoin ! $ move ! (1 ∷ 0 ∷ []) $ fjoin ! $ nothing ! $ fjoin ! $
       owned ! E.the-row (Is E.the-row) (EL.makes E.the-type E′.the-plain 𝓤 H A) v _ is $ move ! (1 ∷ 0 ∷ []) $ done !

@@ -1,6 +1,6 @@
 -- `fold::fold_wanted` meets its contract: a walk of its MIR, by hand. Scratch, records and result are passed on to `fold_judged` for good.
 -- Assumes nothing.
-use mathlib.Core.Path.{_≡_, refl, ap, _∙_}
+use mathlib.Core.Path.{_≡_, refl, ap, _∙_, subst}
 use Prim.Native.Nat.{ℕ}
 use mathlib.Core.List.{[], _∷_, List}
 use lib.ListN.{length}
@@ -40,11 +40,20 @@ use denote.Exit.{yes}
 use Rattle.verdict.specs.declared.Verdict.{Verdict}
 use Rattle.verdict.proofs.Verdict as E
 use Rattle.verdict.proofs.Verdict.Laws as E′
-use Rattle.verdict.proofs.Walks.{ifs, full, leaves}
+use Rattle.verdict.proofs.Walks.{ifs, full, empty, leaves}
 use Rattle.verdict.proofs.Pass.{own-at, shr-at, calls-plain}
-use Rattle.verdict.proofs.Copied.{calls-both}
+use Rattle.verdict.proofs.Copied.{calls-copied, calls-both}
 use Rattle.nodes.specs.declared.Node.{Node}
 use Rattle.nodes.proofs.Node as T
+use Rattle.source.specs.Source.{sourced}
+use Rattle.source.specs.declared.Source.{Source}
+use Rattle.source.proofs.Source as S
+use Rattle.source.proofs.Source.Laws as S′
+use Rattle.source.proofs.Values.{sourceVal}
+use Rattle.source.proofs.OfCall as of-source
+use Rattle.source.proofs.Source.of.Symbol as of-def
+use Rattle.source.proofs.Source.of.Symbol.{name as #of}
+use Rattle.source.proofs.Source.of.Met as of-thm
 use Rattle.admit.specs.declared.wanted.Wanted.{Wanted}
 use Rattle.admit.proofs.wanted.Wanted as D
 use Rattle.admit.proofs.wanted.Wanted.Laws as D′
@@ -59,7 +68,7 @@ use Rattle.fold.proofs.fold_judged.Symbol.{name as #judged}
 use Rattle.fold.proofs.fold_judged.Met as judged-thm
 use Rattle.fold.specs.Fold.{Folds}
 use Rattle.fold.proofs.Judged.{twice-not}
-use Rattle.fold.proofs.Finished.{folds-refused, clean, folds}
+use Rattle.fold.proofs.Finished.{folds-refused, formed, clean-source, folds}
 use Rattle.lent.proofs.AcceptsCall as acc
 use Rattle.lent.proofs.JudgeCall as len
 use Rattle.fold.proofs.JudgedCall as jud
@@ -146,67 +155,73 @@ module _ {M : Type 1} (𝓤 : URA M) (H : Heap 𝓤) (A : Atoms 𝓤) (W : Given
       move ! (10 ∷ []) $ fsplit ! $ move ! (1 ∷ []) $ fsplit ! $ use1 W (‵ (fres γ₃ (codedHoleys u8 .code (heres u8 r)))) (W .names .obs-res γ₃ (codedHoleys u8 .code (heres u8 r))) $ use1 W (‵ (finally u8 γ₃ r)) (res-finally 𝓤 H A W (named 3) κ₃ u8 γ₃ r) $
       keep ! (6 ∷ 3 ∷ 0 ∷ 13 ∷ 12 ∷ 11 ∷ 10 ∷ []) $ by ! (exits v w t ns r is l refl refl e)
 
-  module _ (C : Calls 𝓤 H) (Λ : Loops 𝓤 H) (fm : FmC 𝓤 H (W .laws) C) (known-lent : Triple 𝓤 (C #lent) (len.JudgeFn 𝓤 H A mem run)) (known-accepts : Triple 𝓤 (C #accepts) (acc.AcceptsFn 𝓤 H A mem run)) (known-judged : Triple 𝓤 (C #judged) (jud.JudgedFn 𝓤 H A mem run)) where
-    -- what `fold_judged` takes, and what it gives back
-    abbrev Lends : List ℕ → SProp 𝓤
-    Lends t = jud.Lends 𝓤 H A mem run W b₀ o₀ n₀ κ₀ q₀ γ₀ cs b₁ o₁ n₁ κ₁ q₁ γ₁ t b₂ o₂ n₂ κ₂ q₂ γ₂ ns b₃ o₃ n₃ κ₃ q₃ γ₃ r wanted gd
+  gh : (h : Source) (w : Val) → Is S.the-row h (w ∷ []) → Is S.the-row h (LL.vals S.the-type S′.the-laws h)
+  gh h w is = subst (Is S.the-row h) (LL.tells S.the-type S′.the-laws h _ is) is
 
-    abbrev Gives : List ℕ → Val → SProp 𝓤
-    Gives t = jud.Gives 𝓤 H A mem run W b₀ o₀ n₀ κ₀ q₀ γ₀ cs b₁ o₁ n₁ κ₁ q₁ γ₁ t b₂ o₂ n₂ κ₂ q₂ γ₂ ns b₃ o₃ n₃ κ₃ q₃ γ₃ r wanted gd
+  module _ (C : Calls 𝓤 H) (Λ : Loops 𝓤 H) (fm : FmC 𝓤 H (W .laws) C) (known-lent : Triple 𝓤 (C #lent) (len.JudgeFn 𝓤 H A mem run)) (known-accepts : Triple 𝓤 (C #accepts) (acc.AcceptsFn 𝓤 H A mem run)) (known-of : Triple 𝓤 (C #of) (of-source.OfFn 𝓤 H A mem run)) (known-judged : Triple 𝓤 (C #judged) (jud.JudgedFn 𝓤 H A mem run)) where
+    -- what `fold_judged` takes, and what it gives back
+    abbrev Lends : List ℕ → (h : Source) → Is S.the-row h (LL.vals S.the-type S′.the-laws h) → SProp 𝓤
+    Lends t h is = jud.Lends 𝓤 H A mem run W b₀ o₀ n₀ κ₀ q₀ γ₀ cs b₁ o₁ n₁ κ₁ q₁ γ₁ t b₂ o₂ n₂ κ₂ q₂ γ₂ ns b₃ o₃ n₃ κ₃ q₃ γ₃ r wanted gd h is
+
+    abbrev Gives : List ℕ → (h : Source) → Is S.the-row h (LL.vals S.the-type S′.the-laws h) → Val → SProp 𝓤
+    Gives t h is = jud.Gives 𝓤 H A mem run W b₀ o₀ n₀ κ₀ q₀ γ₀ cs b₁ o₁ n₁ κ₁ q₁ γ₁ t b₂ o₂ n₂ κ₂ q₂ γ₂ ns b₃ o₃ n₃ κ₃ q₃ γ₃ r wanted gd h is
 
     walk : ent 𝓤 (onEntry 𝓤 H A f.signature (κ₀, (κ₁, (κ₂, (κ₃, tt)))) (q₀, (q₁, (q₂, (q₃, tt)))) x at) (WpFn 𝓤 H C Λ code.function args Post)
     walk =
         qed W ((‵ (flft κ₀ q₀) ⊛ ‵ (flft κ₁ q₁) ⊛ ‵ (flft κ₂ q₂) ⊛ ‵ (flft κ₃ q₃) ⊛ ‵ ftrue) ∷ ‵ (owns (ShrSlice (named 0) κ₀ u8 ∷ D.the-row ∷ MutSlice (named 1) κ₁ u16 ∷ MutSlice (named 2) κ₂ T.the-row ∷ MutSlice (named 3) κ₃ u8 ∷ []) x at) ∷ []) ∵
         enter ! C Λ code.function args _ $
-        alloc1 ! (λ l₀. alloc1 ! (λ l₁. alloc1 ! (λ l₂. alloc1 ! (λ l₃. alloc1 ! (λ l₄. alloc1 ! (λ l₅. alloc1 ! (λ l₆. alloc1 ! (λ l₇. alloc1 ! (λ l₈. alloc1 ! (λ l₉. alloc1 ! (λ l₁₀. alloc1 ! (λ l₁₁. alloc1 ! (λ l₁₂. alloc1 ! (λ l₁₃. alloc1 ! (λ l₁₄. alloc1 ! (λ l₁₅. alloc1 ! (λ l₁₆. alloc0 ! $ params1 ! $
-        pass1 ! (init ! 30 refl (tt, (tt, (record { fits = room₀ .0 }, tt)))) $ pass1 ! (init ! 28 refl (LL.lawful D.the-type D′.the-laws 𝓤 H A W .typed wanted _ gd .0)) $ pass1 ! (init ! 26 refl (tt, (tt, (record { fits = room₁ .0 }, tt)))) $
-        pass1 ! (init ! 24 refl (tt, (tt, (record { fits = room₂ .0 }, tt)))) $ pass1 ! (init ! 22 refl (tt, (tt, (record { fits = room₃ .0 }, tt)))) $ pass0 ! $
+        alloc1 ! (λ l₀. alloc1 ! (λ l₁. alloc1 ! (λ l₂. alloc1 ! (λ l₃. alloc1 ! (λ l₄. alloc1 ! (λ l₅. alloc1 ! (λ l₆. alloc1 ! (λ l₇. alloc1 ! (λ l₈. alloc1 ! (λ l₉. alloc1 ! (λ l₁₀. alloc1 ! (λ l₁₁. alloc1 ! (λ l₁₂. alloc1 ! (λ l₁₃. alloc1 ! (λ l₁₄. alloc1 ! (λ l₁₅. alloc1 ! (λ l₁₆. alloc1 ! (λ l₁₇. alloc0 ! $ params1 ! $
+        pass1 ! (init ! 32 refl (tt, (tt, (record { fits = room₀ .0 }, tt)))) $ pass1 ! (init ! 30 refl (LL.lawful D.the-type D′.the-laws 𝓤 H A W .typed wanted _ gd .0)) $ pass1 ! (init ! 28 refl (tt, (tt, (record { fits = room₁ .0 }, tt)))) $
+        pass1 ! (init ! 26 refl (tt, (tt, (record { fits = room₂ .0 }, tt)))) $ pass1 ! (init ! 24 refl (tt, (tt, (record { fits = room₃ .0 }, tt)))) $ pass0 ! $
         -- what the parameters own, and the tokens
-        move ! (35 ∷ []) $ fsplit ! $ move ! (1 ∷ []) $ fsplit ! $ move ! (1 ∷ []) $ fsplit ! $ move ! (1 ∷ []) $ fsplit ! $ move ! (1 ∷ []) $ fsplit ! $
-        move ! (40 ∷ []) $ split ! $ move ! (1 ∷ []) $ split ! $ move ! (1 ∷ []) $ split ! $ move ! (1 ∷ []) $ split ! $
+        move ! (37 ∷ []) $ fsplit ! $ move ! (1 ∷ []) $ fsplit ! $ move ! (1 ∷ []) $ fsplit ! $ move ! (1 ∷ []) $ fsplit ! $ move ! (1 ∷ []) $ fsplit ! $
+        move ! (42 ∷ []) $ split ! $ move ! (1 ∷ []) $ split ! $ move ! (1 ∷ []) $ split ! $ move ! (1 ∷ []) $ split ! $
         move ! (1 ∷ 6 ∷ 9 ∷ []) $ drop ! $ drop ! $ drop ! $ move ! (7 ∷ 3 ∷ 6 ∷ 2 ∷ 5 ∷ 1 ∷ 4 ∷ 0 ∷ []) $
-        -- [circuit; scratch; nodes; result, each with its token behind it; _16; …; _0; …]: _i at 40 - 2 i
-        assigns ! (addr ! (from ! (fld ! refl (hop ! (look-in ! 34 (sub ! 0 refl (whole !))) (stop !))))) (from ! (stop !)) (init ! 26 refl (tt, tt)) $
-        assigns ! (agg ! (and-then ! (load ! (from ! (stop !)) (look ! 26 refl)) (and-then ! (load ! (from ! (fld ! refl (stop !))) (look-in ! 34 (sub ! 1 refl (whole !)))) (no-more !)))) (from ! (stop !)) (init ! 24 refl (tt, (tt, (record { fits = room₁ .0 }, tt)))) $
-        calls-both ! fm u8 u16 E.the-row b₀ o₀ n₀ κ₀ q₀ γ₀ cs b₁ o₁ n₁ κ₁ q₁ γ₁ s [] (len.Told cs s) room₁ refl (λ ν δ. len.met 𝓤 H A mem run W b₀ o₀ n₀ κ₀ q₀ γ₀ cs b₁ o₁ n₁ (ν ∷ []) fullShare δ s C fm known-lent) (λ ν δ. (and-then ! (load ! (from ! (stop !)) (look ! 37 refl)) (and-then ! (load ! (from ! (stop !)) (look ! 23 refl)) (no-more !)))) (λ w v t l J.
-        move ! (4 ∷ []) $ peeks ! E.the-row (Is E.the-row) (shows 𝓤 H A E.the-row) v (w ∷ []) (λ is. land ! (from ! (stop !)) (init ! 29 refl (EL.lawful E.the-type E′.the-laws 𝓤 H A W tt .typed v _ is .0)) $ drop ! $
-        calls-plain ! fm bool (w ∷ []) (acc.Told v) (acc.met 𝓤 H A mem run W v w is C fm known-accepts) (and-then ! (load ! (from ! (stop !)) (look ! 29 refl)) (no-more !)) (λ w₂ y q.
+        -- [circuit; scratch; nodes; result, each with its token behind it; _17; …; _0; …]: _i at 42 - 2 i
+        assigns ! (addr ! (from ! (fld ! refl (hop ! (look-in ! 36 (sub ! 0 refl (whole !))) (stop !))))) (from ! (stop !)) (init ! 26 refl (tt, tt)) $
+        assigns ! (agg ! (and-then ! (load ! (from ! (stop !)) (look ! 26 refl)) (and-then ! (load ! (from ! (fld ! refl (stop !))) (look-in ! 36 (sub ! 1 refl (whole !)))) (no-more !)))) (from ! (stop !)) (init ! 24 refl (tt, (tt, (record { fits = room₁ .0 }, tt)))) $
+        calls-both ! fm u8 u16 E.the-row b₀ o₀ n₀ κ₀ q₀ γ₀ cs b₁ o₁ n₁ κ₁ q₁ γ₁ s [] (len.Told cs s) room₁ refl (λ ν δ. len.met 𝓤 H A mem run W b₀ o₀ n₀ κ₀ q₀ γ₀ cs b₁ o₁ n₁ (ν ∷ []) fullShare δ s C fm known-lent) (λ ν δ. (and-then ! (load ! (from ! (stop !)) (look ! 39 refl)) (and-then ! (load ! (from ! (stop !)) (look ! 23 refl)) (no-more !)))) (λ w v t l J.
+        move ! (4 ∷ []) $ peeks ! E.the-row (Is E.the-row) (shows 𝓤 H A E.the-row) v (w ∷ []) (λ is. land ! (from ! (stop !)) (init ! 31 refl (EL.lawful E.the-type E′.the-laws 𝓤 H A W tt .typed v _ is .0)) $ drop ! $
+        calls-plain ! fm bool (w ∷ []) (acc.Told v) (acc.met 𝓤 H A mem run W v w is C fm known-accepts) (and-then ! (load ! (from ! (stop !)) (look ! 31 refl)) (no-more !)) (λ w₂ y q.
         peeks ! bool (Is bool) (shows 𝓤 H A bool) y (w₂ ∷ []) (λ is₂. land ! (from ! (stop !)) (init ! 23 refl (bool-lawful 𝓤 H A W .typed y _ is₂ .0)) $ drop ! $
-        rewrite ! 22 (λ (u : Val). ‵ (fat fullShare tyBool l₉ 0 u)) (ap only is₂) refl $
+        rewrite ! 22 (λ (u : Val). ‵ (fat fullShare tyBool l₁₀ 0 u)) (ap only is₂) refl $
         assigns ! (un ! (load ! (from ! (stop !)) (look ! 22 refl)) tt) (from ! (stop !)) (init ! 20 refl (tt, tt)) $
         ifs ! (load ! (from ! (stop !)) (look ! 20 refl))
         (λ no.
-        assigns ! (of-opd ! (load ! (from ! (stop !)) (look ! 28 refl))) (from ! (stop !)) (init ! 40 refl (EL.lawful E.the-type E′.the-laws 𝓤 H A W tt .typed v _ is .0)) $
-        returns-within ! Post refl (look ! 40 refl) $ move ! (40 ∷ 41 ∷ 38 ∷ 39 ∷ 36 ∷ 37 ∷ 34 ∷ 35 ∷ 32 ∷ 33 ∷ 30 ∷ 31 ∷ 28 ∷ 29 ∷ 26 ∷ 27 ∷ 24 ∷ 25 ∷ 22 ∷ 23 ∷ 20 ∷ 21 ∷ 18 ∷ 19 ∷ 16 ∷ 17 ∷ 14 ∷ 15 ∷ 12 ∷ 13 ∷ 10 ∷ 11 ∷ 8 ∷ 9 ∷ []) $
-        leaves ! _ (full _ ∷ full _ ∷ full _ ∷ full _ ∷ full _ ∷ full _ ∷ full _ ∷ full _ ∷ full _ ∷ full _ ∷ full _ ∷ []) $ by ! (kept v w t is l (folds-refused cs wanted s ns r v (J .0) t l (J .1) y q no)))
+        assigns ! (of-opd ! (load ! (from ! (stop !)) (look ! 30 refl))) (from ! (stop !)) (init ! 42 refl (EL.lawful E.the-type E′.the-laws 𝓤 H A W tt .typed v _ is .0)) $
+        returns-within ! Post refl (look ! 42 refl) $ move ! (42 ∷ 43 ∷ 40 ∷ 41 ∷ 38 ∷ 39 ∷ 36 ∷ 37 ∷ 34 ∷ 35 ∷ 32 ∷ 33 ∷ 30 ∷ 31 ∷ 28 ∷ 29 ∷ 26 ∷ 27 ∷ 24 ∷ 25 ∷ 22 ∷ 23 ∷ 20 ∷ 21 ∷ 18 ∷ 19 ∷ 16 ∷ 17 ∷ 14 ∷ 15 ∷ 12 ∷ 13 ∷ 10 ∷ 11 ∷ 8 ∷ 9 ∷ []) $
+        leaves ! _ (full _ ∷ full _ ∷ full _ ∷ full _ ∷ full _ ∷ full _ ∷ full _ ∷ empty ∷ full _ ∷ full _ ∷ full _ ∷ full _ ∷ []) $ by ! (kept v w t is l (folds-refused cs wanted s ns r v (J .0) t l (J .1) y q no)))
         (λ going.
-        assigns ! (addr ! (from ! (fld ! refl (hop ! (look-in ! 34 (sub ! 0 refl (whole !))) (stop !))))) (from ! (stop !)) (init ! 18 refl (tt, tt)) $
-        assigns ! (agg ! (and-then ! (load ! (from ! (stop !)) (look ! 18 refl)) (and-then ! (load ! (from ! (fld ! refl (stop !))) (look-in ! 34 (sub ! 1 refl (whole !)))) (no-more !)))) (from ! (stop !)) (init ! 16 refl (tt, (tt, (record { fits = room₁ .0 }, tt)))) $
-        assigns ! (addr ! (from ! (fld ! refl (hop ! (look-in ! 32 (sub ! 0 refl (whole !))) (stop !))))) (from ! (stop !)) (init ! 14 refl (tt, tt)) $
-        assigns ! (agg ! (and-then ! (load ! (from ! (stop !)) (look ! 14 refl)) (and-then ! (load ! (from ! (fld ! refl (stop !))) (look-in ! 32 (sub ! 1 refl (whole !)))) (no-more !)))) (from ! (stop !)) (init ! 12 refl (tt, (tt, (record { fits = room₂ .0 }, tt)))) $
-        assigns ! (addr ! (from ! (fld ! refl (hop ! (look-in ! 30 (sub ! 0 refl (whole !))) (stop !))))) (from ! (stop !)) (init ! 10 refl (tt, tt)) $
-        assigns ! (agg ! (and-then ! (load ! (from ! (stop !)) (look ! 10 refl)) (and-then ! (load ! (from ! (fld ! refl (stop !))) (look-in ! 30 (sub ! 1 refl (whole !)))) (no-more !)))) (from ! (stop !)) (init ! 8 refl (tt, (tt, (record { fits = room₃ .0 }, tt)))) $
+        calls-copied ! fm u8 S.the-row b₀ o₀ n₀ κ₀ q₀ γ₀ cs [] (of-source.Told cs) (of-source.met 𝓤 H A mem run W b₀ o₀ n₀ κ₀ q₀ γ₀ cs C fm known-of (formed cs wanted s ns r v (J .0) t l (J .1) y q (twice-not y going) .head)) (and-then ! (load ! (from ! (stop !)) (look ! 40 refl)) (no-more !)) (λ w₀ h is-whole.
+        move ! (2 ∷ []) $ peeks ! S.the-row (Is S.the-row) (shows 𝓤 H A S.the-row) h (w₀ ∷ []) (λ is₀. land ! (from ! (stop !)) (init ! 29 refl (LL.lawful S.the-type S′.the-laws 𝓤 H A W .typed h _ is₀ .0)) $ drop ! $
+        rewrite ! 28 (λ (u : Val). ‵ (fat fullShare S′.mir l₇ 0 u)) (ap only (LL.tells S.the-type S′.the-laws h _ is₀)) refl $
+        assigns ! (addr ! (from ! (fld ! refl (hop ! (look-in ! 36 (sub ! 0 refl (whole !))) (stop !))))) (from ! (stop !)) (init ! 18 refl (tt, tt)) $
+        assigns ! (agg ! (and-then ! (load ! (from ! (stop !)) (look ! 18 refl)) (and-then ! (load ! (from ! (fld ! refl (stop !))) (look-in ! 36 (sub ! 1 refl (whole !)))) (no-more !)))) (from ! (stop !)) (init ! 16 refl (tt, (tt, (record { fits = room₁ .0 }, tt)))) $
+        assigns ! (addr ! (from ! (fld ! refl (hop ! (look-in ! 34 (sub ! 0 refl (whole !))) (stop !))))) (from ! (stop !)) (init ! 14 refl (tt, tt)) $
+        assigns ! (agg ! (and-then ! (load ! (from ! (stop !)) (look ! 14 refl)) (and-then ! (load ! (from ! (fld ! refl (stop !))) (look-in ! 34 (sub ! 1 refl (whole !)))) (no-more !)))) (from ! (stop !)) (init ! 12 refl (tt, (tt, (record { fits = room₂ .0 }, tt)))) $
+        assigns ! (addr ! (from ! (fld ! refl (hop ! (look-in ! 32 (sub ! 0 refl (whole !))) (stop !))))) (from ! (stop !)) (init ! 10 refl (tt, tt)) $
+        assigns ! (agg ! (and-then ! (load ! (from ! (stop !)) (look ! 10 refl)) (and-then ! (load ! (from ! (fld ! refl (stop !))) (look-in ! 32 (sub ! 1 refl (whole !)))) (no-more !)))) (from ! (stop !)) (init ! 8 refl (tt, (tt, (record { fits = room₃ .0 }, tt)))) $
         move ! (4 ∷ 6 ∷ []) $ join ! $ move ! (3 ∷ 0 ∷ []) $ join ! $ move ! (1 ∷ 0 ∷ []) $ join ! $ move ! (4 ∷ 0 ∷ []) $ join ! $ move ! (3 ∷ 0 ∷ []) $ join ! $ move ! (2 ∷ 0 ∷ []) $ join ! $ move ! (1 ∷ 0 ∷ []) $ join ! $
-        use1 W (raw (Lends t)) (id⊢ 𝓤 _) $
-        -- [what is lent; _16; …; _0; …]: _i at 33 - 2 i
-        calls-from ! fm (raw (Lends t)) args (Gives t) (jud.met 𝓤 H A mem run W b₀ o₀ n₀ κ₀ q₀ γ₀ cs b₁ o₁ n₁ κ₁ q₁ γ₁ t b₂ o₂ n₂ κ₂ q₂ γ₂ ns b₃ o₃ n₃ κ₃ q₃ γ₃ r wanted gd C fm known-judged (clean cs wanted s ns r v (J .0) t l (J .1) y q (twice-not y going)))
-        (and-then ! (load ! (from ! (stop !)) (look ! 31 refl)) (and-then ! (load ! (from ! (stop !)) (look ! 29 refl)) (and-then ! (load ! (from ! (stop !)) (look ! 9 refl)) (and-then ! (load ! (from ! (stop !)) (look ! 5 refl)) (and-then ! (load ! (from ! (stop !)) (look ! 1 refl)) (no-more !)))))) (λ w₃.
-        use1 W (later (some (λ (v′ : Verdict). some (λ (ss : List ℕ). some (λ (zs : List Node). some (λ (us : List ℕ). given ((length ss ≡ length t) × ((length zs ≡ length ns) × ((length us ≡ length r) × jud.Told cs wanted t ns r v′ ss zs us)))
-        (‵ (flft κ₀ q₀) ⊛ ‵ (flft κ₁ q₁) ⊛ ‵ (flft κ₂ q₂) ⊛ ‵ (flft κ₃ q₃) ⊛ ‵ (E.the-row .own v′ (w₃ ∷ [])) ⊛ ‵ (finally u16 γ₁ ss) ⊛ ‵ (finally T.the-row γ₂ zs) ⊛ ‵ (finally u8 γ₃ us)))))))) (id⊢ 𝓤 _) $ await ! tt $ pick ! (λ v′. pick ! (λ ss. pick ! (λ zs. pick ! (λ us. learn ! (λ h.
+        use1 W (raw (Lends t h (gh h w₀ is₀))) (id⊢ 𝓤 _) $
+        -- [what is lent; _17; …; _0; …]: _i at 35 - 2 i
+        calls-from ! fm (raw (Lends t h (gh h w₀ is₀))) (sliceVal (b₀, o₀) n₀ ∷ only (valsD wanted) ∷ sliceVal (b₁, o₁) n₁ ∷ sliceVal (b₂, o₂) n₂ ∷ sliceVal (b₃, o₃) n₃ ∷ sourceVal h ∷ []) (Gives t h (gh h w₀ is₀)) (jud.met 𝓤 H A mem run W b₀ o₀ n₀ κ₀ q₀ γ₀ cs b₁ o₁ n₁ κ₁ q₁ γ₁ t b₂ o₂ n₂ κ₂ q₂ γ₂ ns b₃ o₃ n₃ κ₃ q₃ γ₃ r wanted gd h (gh h w₀ is₀) C fm known-judged (clean-source cs wanted s ns r v (J .0) t l (J .1) y q (twice-not y going) h is-whole))
+        (and-then ! (load ! (from ! (stop !)) (look ! 33 refl)) (and-then ! (load ! (from ! (stop !)) (look ! 31 refl)) (and-then ! (load ! (from ! (stop !)) (look ! 9 refl)) (and-then ! (load ! (from ! (stop !)) (look ! 5 refl)) (and-then ! (load ! (from ! (stop !)) (look ! 1 refl)) (and-then ! (load ! (from ! (stop !)) (look ! 21 refl)) (no-more !))))))) (λ w₃.
+        use1 W (later (some (λ (v′ : Verdict). some (λ (ss : List ℕ). some (λ (zs : List Node). some (λ (us : List ℕ). given ((length ss ≡ length t) × ((length zs ≡ length ns) × ((length us ≡ length r) × jud.Told (sourced h cs) wanted t ns r v′ ss zs us)))
+        (‵ (flft κ₀ q₀) ⊛ ‵ (flft κ₁ q₁) ⊛ ‵ (flft κ₂ q₂) ⊛ ‵ (flft κ₃ q₃) ⊛ ‵ (E.the-row .own v′ (w₃ ∷ [])) ⊛ ‵ (finally u16 γ₁ ss) ⊛ ‵ (finally T.the-row γ₂ zs) ⊛ ‵ (finally u8 γ₃ us)))))))) (id⊢ 𝓤 _) $ await ! tt $ pick ! (λ v′. pick ! (λ ss. pick ! (λ zs. pick ! (λ us. learn ! (λ k.
         split ! $ move ! (1 ∷ []) $ split ! $ move ! (1 ∷ []) $ split ! $ move ! (1 ∷ []) $ split ! $ move ! (1 ∷ []) $ split ! $ move ! (1 ∷ []) $ split ! $ move ! (1 ∷ []) $ split ! $
-        move ! (3 ∷ []) $ peeks ! E.the-row (Is E.the-row) (shows 𝓤 H A E.the-row) v′ (w₃ ∷ []) (λ is₃. land ! (from ! (stop !)) (init ! 40 refl (EL.lawful E.the-type E′.the-laws 𝓤 H A W tt .typed v′ _ is₃ .0)) $ drop ! $
-        -- [the last lists of nodes, result, scratch; the tokens; _16; …; _0; …]: _i at 39 - 2 i
-        returns ! (look ! 39 refl) $ move ! (39 ∷ 40 ∷ 37 ∷ 38 ∷ 35 ∷ 36 ∷ 33 ∷ 34 ∷ 31 ∷ 32 ∷ 29 ∷ 30 ∷ 27 ∷ 28 ∷ 25 ∷ 26 ∷ 23 ∷ 24 ∷ 21 ∷ 22 ∷ 19 ∷ 20 ∷ 17 ∷ 18 ∷ 15 ∷ 16 ∷ 13 ∷ 14 ∷ 11 ∷ 12 ∷ 9 ∷ 10 ∷ 7 ∷ 8 ∷ []) $
-        leaves ! _ (full _ ∷ full _ ∷ full _ ∷ full _ ∷ full _ ∷ full _ ∷ full _ ∷ full _ ∷ full _ ∷ full _ ∷ full _ ∷ full _ ∷ full _ ∷ full _ ∷ full _ ∷ full _ ∷ full _ ∷ []) $ keep ! (2 ∷ 0 ∷ 1 ∷ 3 ∷ 4 ∷ 5 ∷ 6 ∷ []) $ by ! (exits v′ w₃ ss zs us is₃ (h .0 ∙ l) (h .1 .0) (h .1 .1 .0) (folds cs wanted s ns r v (J .0) t l (J .1) y q (twice-not y going) ss zs us v′ (h .1 .1 .1))))))))))))))))))))))))))))))))
+        move ! (3 ∷ []) $ peeks ! E.the-row (Is E.the-row) (shows 𝓤 H A E.the-row) v′ (w₃ ∷ []) (λ is₃. land ! (from ! (stop !)) (init ! 42 refl (EL.lawful E.the-type E′.the-laws 𝓤 H A W tt .typed v′ _ is₃ .0)) $ drop ! $
+        -- [the last lists of nodes, result, scratch; the tokens; _17; …; _0; …]: _i at 41 - 2 i
+        returns ! (look ! 41 refl) $ move ! (41 ∷ 42 ∷ 39 ∷ 40 ∷ 37 ∷ 38 ∷ 35 ∷ 36 ∷ 33 ∷ 34 ∷ 31 ∷ 32 ∷ 29 ∷ 30 ∷ 27 ∷ 28 ∷ 25 ∷ 26 ∷ 23 ∷ 24 ∷ 21 ∷ 22 ∷ 19 ∷ 20 ∷ 17 ∷ 18 ∷ 15 ∷ 16 ∷ 13 ∷ 14 ∷ 11 ∷ 12 ∷ 9 ∷ 10 ∷ 7 ∷ 8 ∷ []) $
+        leaves ! _ (full _ ∷ full _ ∷ full _ ∷ full _ ∷ full _ ∷ full _ ∷ full _ ∷ full _ ∷ full _ ∷ full _ ∷ full _ ∷ full _ ∷ full _ ∷ full _ ∷ full _ ∷ full _ ∷ full _ ∷ full _ ∷ []) $ keep ! (2 ∷ 0 ∷ 1 ∷ 3 ∷ 4 ∷ 5 ∷ 6 ∷ []) $ by ! (exits v′ w₃ ss zs us is₃ (k .0 ∙ l) (k .1 .0) (k .1 .1 .0) (folds cs wanted s ns r v (J .0) t l (J .1) y q (twice-not y going) h is-whole ss zs us v′ (k .1 .1 .1)))))))))))))))))))))))))))))))))))
 
-module _ {M : Type 1} (𝓤 : URA M) (H : Heap 𝓤) (A : Atoms 𝓤) (W : Given 𝓤 H A) (mem : Memory → SProp 𝓤) (run : Routine → Fun 𝓤) (𝓣 : Tables 𝓤 H) (known-lent : Triple 𝓤 (𝓣 .C #lent) (len.JudgeFn 𝓤 H A mem run)) (known-accepts : Triple 𝓤 (𝓣 .C #accepts) (acc.AcceptsFn 𝓤 H A mem run)) (known-judged : Triple 𝓤 (𝓣 .C #judged) (jud.JudgedFn 𝓤 H A mem run)) where
+module _ {M : Type 1} (𝓤 : URA M) (H : Heap 𝓤) (A : Atoms 𝓤) (W : Given 𝓤 H A) (mem : Memory → SProp 𝓤) (run : Routine → Fun 𝓤) (𝓣 : Tables 𝓤 H) (known-lent : Triple 𝓤 (𝓣 .C #lent) (len.JudgeFn 𝓤 H A mem run)) (known-accepts : Triple 𝓤 (𝓣 .C #accepts) (acc.AcceptsFn 𝓤 H A mem run)) (known-of : Triple 𝓤 (𝓣 .C #of) (of-source.OfFn 𝓤 H A mem run)) (known-judged : Triple 𝓤 (𝓣 .C #judged) (jud.JudgedFn 𝓤 H A mem run)) where
   walks : Walks 𝓤 H A f.ended stayed (WpFn 𝓤 H (𝓣 .C) (𝓣 .Λ) code.function) (f.clauses 𝓤 H A mem run)
   walks = walked 𝓤 H A f.ended stayed (f.clauses 𝓤 H A mem run) (WpFn 𝓤 H (𝓣 .C) (𝓣 .Λ) code.function) (λ κs. (slice-vals, (valsD, (slice-vals, (slice-vals, (slice-vals, tt))))))
       (λ κs. (shr-slice-tells (named 0) (κs .0) u8, (LL.tells D.the-type D′.the-laws, (mut-slice-tells (named 1) (κs .1 .0) u16, (mut-slice-tells (named 2) (κs .1 .1 .0) T.the-row, (mut-slice-tells (named 3) (κs .1 .1 .1 .0) u8, tt))))))
       (λ κs qs bounds a g are. via 𝓤 _ (fst∗ 𝓤 _ (emp 𝓤))
       (walk 𝓤 H A W mem run (κs .0) (κs .1 .0) (κs .1 .1 .0) (κs .1 .1 .1 .0) (qs .0) (qs .1 .0) (qs .1 .1 .0) (qs .1 .1 .1 .0)
       (a .0 .ptr .0) (a .0 .ptr .1) (a .0 .name) (a .0 .now) (a .1 .0) (a .1 .1 .0 .ptr .0) (a .1 .1 .0 .ptr .1) (a .1 .1 .0 .name) (a .1 .1 .0 .now) (a .1 .1 .1 .0 .ptr .0) (a .1 .1 .1 .0 .ptr .1) (a .1 .1 .1 .0 .name) (a .1 .1 .1 .0 .now)
-      (a .1 .1 .1 .1 .0 .ptr .0) (a .1 .1 .1 .1 .0 .ptr .1) (a .1 .1 .1 .1 .0 .name) (a .1 .1 .1 .1 .0 .now) (are .1 .0) (are .0 .0 .1) (are .1 .1 .0 .0 .1) (are .1 .1 .1 .0 .0 .1) (are .1 .1 .1 .1 .0 .0 .1) (𝓣 .C) (𝓣 .Λ) (fmOf 𝓤 H (W .laws) 𝓣) known-lent known-accepts known-judged))
+      (a .1 .1 .1 .1 .0 .ptr .0) (a .1 .1 .1 .1 .0 .ptr .1) (a .1 .1 .1 .1 .0 .name) (a .1 .1 .1 .1 .0 .now) (are .1 .0) (are .0 .0 .1) (are .1 .1 .0 .0 .1) (are .1 .1 .1 .0 .0 .1) (are .1 .1 .1 .1 .0 .0 .1) (𝓣 .C) (𝓣 .Λ) (fmOf 𝓤 H (W .laws) 𝓣) known-lent known-accepts known-of known-judged))
 
   goes : AllGo 𝓤 H A W 4 (f.signature .params) (f.ended .kept) stayed
   goes = (goes-dropped 𝓤 H A W 4 Circuit yes (λ κs x f. refl), (goes-dropped 𝓤 H A W 4 Agreed yes (λ κs x f. refl), (goes-gave-slice 𝓤 H A W 4 1 tt (plain (λ _. u16)), (goes-gave-slice 𝓤 H A W 4 2 tt (plain (λ _. T.the-row)), (goes-gave-slice 𝓤 H A W 4 3 tt (plain (λ _. u8)), tt)))))
@@ -222,4 +237,5 @@ fold-wanted-spec 𝓤 H 𝓜 𝓖 𝓡 =
     (meets 𝓤 H (𝓖 .A) (givenOf 𝓤 H 𝓜 𝓖) (𝓜 .mem) (𝓡 .run) (tablesOf 𝓤 H 𝓜 (tables 𝓤 H 𝓜 𝓡 code.env))
     (cited 𝓤 H (len.JudgeFn 𝓤 H (𝓖 .A) (𝓜 .mem) (𝓡 .run)) 𝓜 𝓡 code.env #lent lent-def.routine code.calls-lent·judge-lent (lent-thm.met 𝓤 H 𝓜 𝓖 𝓡))
     (cited 𝓤 H (acc.AcceptsFn 𝓤 H (𝓖 .A) (𝓜 .mem) (𝓡 .run)) 𝓜 𝓡 code.env #accepts accepts-def.routine code.calls-lent·accepts (accepts-thm.met 𝓤 H 𝓜 𝓖 𝓡))
+    (cited 𝓤 H (of-source.OfFn 𝓤 H (𝓖 .A) (𝓜 .mem) (𝓡 .run)) 𝓜 𝓡 code.env #of of-def.routine code.calls-source·Source·of (of-thm.met 𝓤 H 𝓜 𝓖 𝓡))
     (cited 𝓤 H (jud.JudgedFn 𝓤 H (𝓖 .A) (𝓜 .mem) (𝓡 .run)) 𝓜 𝓡 code.env #judged judged-def.routine code.calls-fold·fold-judged (judged-thm.met 𝓤 H 𝓜 𝓖 𝓡)))

@@ -17,17 +17,27 @@ use Rattle.circuit.specs.Frames.{NotAfter}
 use Rattle.circuit.proofs.Laws.{output-at, output-in}
 use Rattle.circuit.proofs.Frames.{not-after-first, not-after-next}
 use Rattle.circuit.proofs.Ahead.{output-parts}
+use Rattle.circuit.specs.WellFormed.{WellFormed}
+use Rattle.source.specs.Source.{headOf, sourced}
+use Rattle.source.proofs.Sources.{well}
 use Rattle.latest.specs.Latest.{reachesLater}
 use Rattle.latest.proofs.Laws.{reaches-is}
 use Rattle.latest.proofs.first_reaching.Statement.{statement}
 use Rattle.latest.proofs.first_reaching.Tie as tie
 
 abbrev Inv-loop : tie.InvT-loop
-Inv-loop circuit latest outputs total first frame₀ q₀ frame q =
-    (q ≤ total) × ((i : ℕ) → i < q → reachesLater circuit i ≡ false) × NotAfter outputs frame q
+Inv-loop circuit source latest total first frame₀ q₀ frame q =
+    (q ≤ total) × ((i : ℕ) → i < q → reachesLater (sourced source circuit) i ≡ false) × NotAfter (source .outputs) frame q
 
 abbrev μ-loop : tie.MeasureT-loop
-μ-loop circuit latest outputs total first frame₀ q₀ frame q = total - q
+μ-loop circuit source latest total first frame₀ q₀ frame q = total - q
+
+-- the circuit that the source is, and what is known of it
+abbrev b₁ : tie.Start Inv-loop μ-loop → List ℕ
+b₁ s = sourced (s .args .source) (now (s .args .circuit))
+
+known : (s : tie.Start Inv-loop μ-loop) → WellFormed (b₁ s) (headOf (s .args .source))
+known s = well _ _ (s .pre)
 
 room-requires : tie.Need-room-requires Inv-loop μ-loop
 room-requires c κs = tt
@@ -39,10 +49,10 @@ store-signals-requires : tie.Need-store-signals-requires Inv-loop μ-loop
 store-signals-requires c κs = (c .before .before .before .pre, omega (arith, slice-aggregate-store-signals c))
 
 sub-first : tie.Need-sub-first Inv-loop μ-loop
-sub-first c = omega (arith, c .before .before .before .before .before .before .pre)
+sub-first c = omega (arith, known (c .before .before .before .before .before .before))
 
 add-first : tie.Need-add-first Inv-loop μ-loop
-add-first c = omega (arith, c .before .before .before .before .before .before .before .pre)
+add-first c = omega (arith, known (c .before .before .before .before .before .before .before))
 
 loop-holds : tie.Need-loop-holds Inv-loop μ-loop
 loop-holds c = (omega arith, λ i h. absurd (omega arith), not-after-first _ 0)
@@ -52,21 +62,21 @@ abbrev start : tie.In-loop Inv-loop μ-loop → tie.Start Inv-loop μ-loop
 start c = c .before .before .before .before .before .before .before .before .before
 
 output-frame-requires : tie.Need-output-frame-requires Inv-loop μ-loop
-output-frame-requires c κs = omega (arith, start c .pre, c .before .loop .inv)
+output-frame-requires c κs = omega (arith, known (start c), c .before .loop .inv)
 
 cast-if1 : tie.Need-cast-if1 Inv-loop μ-loop
 unfolding frameOf
 cast-if1 c =
     let s = start (c .before) in
     let q = c .before .before .loop .q in
-    let p = output-parts (now (s .args .circuit)) (s .pre .headed) q (omega (arith, s .pre)) in
-    omega (arith, c .output-frame .ensures .0 ∙ ap (λ m. suc (q / m)) (s .pre .head-is .outputs-is), p .0, s .pre .headed .sizes .frames-to)
+    let p = output-parts (b₁ s) (known s .headed) q (omega (arith, known s)) in
+    omega (arith, c .output-frame .ensures .0 ∙ ap (λ m. suc (q / m)) (known s .head-is .outputs-is), p .0, known s)
 
 add-if1 : tie.Need-add-if1 Inv-loop μ-loop
-add-if1 c = omega (arith, start (c .before) .pre)
+add-if1 c = omega (arith, known (start (c .before)))
 
 array-read-if1 : tie.Need-array-read-if1 Inv-loop μ-loop
-array-read-if1 c = omega (arith, start (c .before) .pre)
+array-read-if1 c = omega (arith, known (start (c .before)))
 
 -- what is stored of all signals
 abbrev latest : tie.After-output-frame Inv-loop μ-loop → List ℕ
@@ -74,23 +84,23 @@ latest c = c .before .before .before .before .before .before .store-signals .las
 
 -- the test of a turn is the definition's
 test : (c : tie.After-output-frame Inv-loop μ-loop)
-    → reachesLater (now (start (c .before) .args .circuit)) (c .before .before .loop .q)
+    → reachesLater (b₁ (start (c .before))) (c .before .before .loop .q)
     ≡ ltb (c .output-frame .result)
-    (getD (latest c) (start (c .before) .args .head .base + (start (c .before) .args .head .gates - start (c .before) .args .head .total) + c .before .before .loop .q) 0)
+    (getD (latest c) (start (c .before) .args .source .base + (start (c .before) .args .source .gates - start (c .before) .args .source .total) + c .before .before .loop .q) 0)
 test c =
     let a = start (c .before) in
-    let b = now (a .args .circuit) in
-    let h = a .args .head in
+    let b = b₁ a in
+    let h = a .args .source in
     let q = c .before .before .loop .q in
-    let e = output-at b (h .base) (h .gates) (h .total) q (a .pre .head-is .base-is) (a .pre .head-is .gates-is) (a .pre .head-is .total-is) in
+    let e = output-at b (h .base) (h .gates) (h .total) q (known a .head-is .base-is) (known a .head-is .gates-is) (known a .head-is .total-is) in
     reaches-is b (latest c) (h .outputs) (c .output-frame .result) (h .base + (h .gates - h .total) + q) q
-    (c .before .before .before .before .before .before .store-signals .ensures) (a .pre .head-is .outputs-is) (c .output-frame .ensures .0) e
-    (omega (arith, e, output-in b q (a .pre .headed .outputs-to) (omega (arith, a .pre))))
+    (c .before .before .before .before .before .before .store-signals .ensures) (known a .head-is .outputs-is) (c .output-frame .ensures .0) e
+    (omega (arith, e, output-in b q (known a .headed .outputs-to) (omega (arith, known a))))
 
 returns : tie.Need-returns Inv-loop μ-loop
 returns c =
     let l = c .before .before .before .loop in
-    sym (least-is _ (l .q) _ (omega (arith, start (c .before .before) .pre)) (l .inv .1) (λ h. test (c .before) ∙ lt-ltb _ _ (c .if1 .taken)))
+    sym (least-is _ (l .q) _ (omega (arith, known (start (c .before .before)))) (l .inv .1) (λ h. test (c .before) ∙ lt-ltb _ _ (c .if1 .taken)))
 
 add-q : tie.Need-add-q Inv-loop μ-loop
 add-q c = omega arith
@@ -103,7 +113,7 @@ loop-again c =
     let l = c .before .before .before .loop in
     let k = c .before .output-frame in (
       omega arith,
-      rw (add-one (l .q)) (below-suc {P = λ i. reachesLater (now (start (c .before .before) .args .circuit)) i ≡ false} (l .inv .1) (test (c .before) ∙ le-ltb _ _ (c .if1 .left))),
+      rw (add-one (l .q)) (below-suc {P = λ i. reachesLater (b₁ (start (c .before .before))) i ≡ false} (l .inv .1) (test (c .before) ∙ le-ltb _ _ (c .if1 .left))),
       not-after-next _ (k .result) (l .q) (k .ensures .1 .0),
     )
 
@@ -111,7 +121,7 @@ returns-2 : tie.Need-returns-2 Inv-loop μ-loop
 returns-2 c =
     let s = c .before .before .before .before .before .before .before .before .before in
     let l = c .before .loop in
-    sym (least-is _ (s .args .head .total) _ (omega (arith, s .pre)) (λ i h. l .inv .1 i (omega (arith, l .inv .0))) (λ h. absurd (omega (arith, s .pre))))
+    sym (least-is _ (s .args .source .total) _ (omega (arith, known s)) (λ i h. l .inv .1 i (omega (arith, l .inv .0))) (λ h. absurd (omega (arith, known s))))
 
 pub first-reaching-spec : {M : Type 1} → statement M
 first-reaching-spec =

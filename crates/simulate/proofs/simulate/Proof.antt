@@ -5,7 +5,8 @@ use native.Mathlib.Omega.{arith}
 use denote.Ref.{now}
 use Rattle.verdict.proofs.Laws.{accepts}
 use Rattle.sizes.specs.Sizes.{inputs, frames}
-use Rattle.circuit.proofs.Accepted.{Accepted, well-formed, accepted}
+use Rattle.circuit.specs.WellFormed.{Accepted}
+use Rattle.circuit.proofs.Accepted.{well-formed, accepted}
 use Rattle.simulate.proofs.Judged.{SequencesFed}
 use Rattle.simulate.proofs.Simulation.{refused-circuit, refused-sequences, sequences-fed, accepted-all}
 use borrow.Author.Needs.{needs}

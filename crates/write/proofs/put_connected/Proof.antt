@@ -13,6 +13,9 @@ use Rattle.sizes.specs.Sizes.{frames}
 use Rattle.layered.specs.Search.{join, tabulate}
 use Rattle.layered.proofs.Lists.{tabulate-length}
 use Rattle.circuit.specs.Circuit.{connectedOutputs}
+use Rattle.circuit.specs.WellFormed.{WellFormed}
+use Rattle.source.specs.Source.{headOf, sourced}
+use Rattle.source.proofs.Sources.{well}
 use Rattle.table.specs.Table.{connectedAt}
 use Rattle.table.proofs.Offsets.{connected-at, head-length}
 use Rattle.write.proofs.put_connected.Statement.{statement}
@@ -23,10 +26,10 @@ abbrev first : List ℕ → (t : ℕ) → List ℕ
 first b t = tabulate t (connectedOutputs b)
 
 abbrev Inv-loop : tie.InvT-loop
-Inv-loop circuit head result₀ last t₀ result t = (t ≤ last) × (result ≡ stored 2 result₀ (connectedAt (frames circuit) 0) (first circuit t))
+Inv-loop circuit source result₀ last t₀ result t = (t ≤ last) × (result ≡ stored 2 result₀ (connectedAt (frames (sourced source circuit)) 0) (first (sourced source circuit) t))
 
 abbrev μ-loop : tie.MeasureT-loop
-μ-loop circuit head result₀ last t₀ result t = last - t
+μ-loop circuit source result₀ last t₀ result t = last - t
 
 loop-holds : tie.Need-loop-holds Inv-loop μ-loop
 unfolding tabulate join
@@ -36,11 +39,17 @@ loop-holds c = (omega arith, sym (stored-none 2 _ _))
 abbrev start : tie.At-loop Inv-loop μ-loop → tie.Start Inv-loop μ-loop
 start l = l .before .before .before
 
-room : (l : tie.At-loop Inv-loop μ-loop) → connectedAt (frames (now (start l .args .circuit))) 0 + 2 * length (first (now (start l .args .circuit)) (l .loop .t)) ≤ length (now (start l .args .result))
+abbrev b₀ : tie.At-loop Inv-loop μ-loop → List ℕ
+b₀ l = sourced (start l .args .source) (now (start l .args .circuit))
+
+known : (l : tie.At-loop Inv-loop μ-loop) → WellFormed (b₀ l) (headOf (start l .args .source))
+known l = well _ _ (start l .pre .0)
+
+room : (l : tie.At-loop Inv-loop μ-loop) → connectedAt (frames (b₀ l)) 0 + 2 * length (first (b₀ l) (l .loop .t)) ≤ length (now (start l .args .result))
 room l =
     let a = start l in
-    let b = now (a .args .circuit) in
-    omega (arith, connected-at (frames b) 0, head-length (frames b), tabulate-length (l .loop .t) (connectedOutputs b), l .loop .inv .0, a .pre .0 .head-is, a .pre .1)
+    let b = b₀ l in
+    omega (arith, connected-at (frames b) 0, head-length (frames b), tabulate-length (l .loop .t) (connectedOutputs b), l .loop .inv .0, known l .head-is, a .pre .1)
 
 len : (l : tie.At-loop Inv-loop μ-loop) → length (l .loop .result) ≡ length (now (start l .args .result))
 len l = ap length (l .loop .inv .1) ∙ stored-length 2 _ _ _ (room l)
@@ -48,29 +57,28 @@ len l = ap length (l .loop .inv .1) ∙ stored-length 2 _ _ _ (room l)
 connected-outputs-requires : tie.Need-connected-outputs-requires Inv-loop μ-loop
 connected-outputs-requires c κs =
     let a = start (c .before) in
-    (a .pre .0 .headed, (a .pre .0 .head-is, omega (arith, c .loop-test .taken, a .pre .0 .head-is)))
+    (a .pre .0, omega (arith, c .loop-test .taken))
 
 connected-at-requires : tie.Need-connected-at-requires Inv-loop μ-loop
 connected-at-requires c κs =
-    let a = start (c .before .before .before) in
-    (omega (arith, a .pre .0 .head-is, a .pre .0 .headed .sizes), omega arith)
+    (omega (arith, known (c .before .before .before)), omega arith)
 
 cast-store : tie.Need-cast-store Inv-loop μ-loop
 cast-store c = omega (arith, c .before .before .connected-outputs .ensures .1)
 
 -- where the word of frame t is stored
 place : (c : tie.After-connected-at Inv-loop μ-loop)
-    → c .connected-at .result ≡ connectedAt (frames (now (start (c .before .before .before .before) .args .circuit))) 0 + 2 * c .before .before .before .before .loop .t
+    → c .connected-at .result ≡ connectedAt (frames (b₀ (c .before .before .before .before))) 0 + 2 * c .before .before .before .before .loop .t
 place c =
     let l = c .before .before .before .before in
-    let b = now (start l .args .circuit) in
-    c .connected-at .ensures ∙ omega (arith, connected-at (start l .args .head .frames) (l .loop .t), connected-at (frames b) 0, start l .pre .0 .head-is .frames-is)
+    let b = b₀ l in
+    c .connected-at .ensures ∙ omega (arith, connected-at (start l .args .source .frames) (l .loop .t), connected-at (frames b) 0, known l .head-is .frames-is)
 
 store-requires : tie.Need-store-requires Inv-loop μ-loop
 store-requires c κs =
     let l = c .before .before .before .before in
-    let b = now (start l .args .circuit) in
-    omega (arith, place c, len l, connected-at (frames b) 0, head-length (frames b), c .before .before .before .loop-test .taken, start l .pre .0 .head-is, start l .pre .1)
+    let b = b₀ l in
+    omega (arith, place c, len l, connected-at (frames b) 0, head-length (frames b), c .before .before .before .loop-test .taken, known l .head-is, start l .pre .1)
 
 add-t : tie.Need-add-t Inv-loop μ-loop
 add-t c = omega arith
@@ -84,7 +92,7 @@ loop-again c =
     let p = c .before .before .before in
     let l = p .before .before .before .before in
     let a = start l in
-    let b = now (a .args .circuit) in
+    let b = b₀ l in
     let t : ℕ = l .loop .t in (
       omega arith,
       c .before .before .store .ensures
@@ -100,8 +108,8 @@ same-length c = len (c .before)
 returns : tie.Need-returns Inv-loop μ-loop
 returns c =
     let l = c .before in
-    let b = now (start l .args .circuit) in
-    let e : l .loop .t ≡ frames b = omega (arith, start l .pre .0 .head-is) in
+    let b = b₀ l in
+    let e : l .loop .t ≡ frames b = omega (arith, known l .head-is) in
     l .loop .inv .1 ∙ ap (λ t. stored 2 (now (start l .args .result)) (connectedAt (frames b) 0) (first b t)) e
 
 pub put-connected-spec : {M : Type 1} → statement M

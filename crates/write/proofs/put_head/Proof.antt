@@ -10,18 +10,28 @@ use Rattle.sizes.specs.Sizes.{inputs, outputs, frames}
 use Rattle.table.specs.Table.{connectedAt}
 use Rattle.table.proofs.Offsets.{connected-at, head-length}
 use Rattle.write.proofs.Heads.{head-stored}
+use Rattle.circuit.specs.WellFormed.{WellFormed}
+use Rattle.source.specs.Source.{headOf, sourced}
+use Rattle.source.proofs.Sources.{well}
 use borrow.Author.Needs.{needs}
 use Rattle.write.proofs.put_head.Statement.{statement}
 use Rattle.write.proofs.put_head.Tie as tie
 
+-- the circuit that the source is, and what is known of it
+abbrev b₀ : tie.Start → List ℕ
+b₀ a = sourced (a .args .source) (now (a .args .circuit))
+
+known : (a : tie.Start) → WellFormed (b₀ a) (headOf (a .args .source))
+known a = well _ _ (a .pre .0)
+
 cast-t7 : tie.Need-cast-t7
-cast-t7 c = search needs
+cast-t7 c = let a = c .before .before .before .before in omega (arith, known a)
 
 cast-t8 : tie.Need-cast-t8
-cast-t8 c = search needs
+cast-t8 c = let a = c .before .before .before .before .before in omega (arith, known a)
 
 cast-t9 : tie.Need-cast-t9
-cast-t9 c = search needs
+cast-t9 c = let a = c .before .before .before .before .before .before in omega (arith, known a)
 
 slice-aggregate-store-all : tie.Need-slice-aggregate-store-all
 slice-aggregate-store-all c = search needs
@@ -29,21 +39,21 @@ slice-aggregate-store-all c = search needs
 store-all-requires : tie.Need-store-all-requires
 store-all-requires c κs =
     let a = c .before .before .before .before .before .before .before .before in
-    (omega arith, omega (arith, head-length (frames (now (a .args .circuit))), a .pre .1 .1))
-
-add-layers : tie.Need-add-layers
-add-layers c = search needs
+    (omega arith, omega (arith, head-length (frames (b₀ a)), a .pre .1 .1))
 
 -- the entry of the function, from the second store on
 abbrev start : tie.After-store-all → tie.Start
 start p = p .before .before .before .before .before .before .before .before .before
 
+add-layers : tie.Need-add-layers
+add-layers c = omega (arith, known (start (c .before .before .before)))
+
 store-all-requires-2 : tie.Need-store-all-requires-2
 store-all-requires-2 c κs =
     let p = c .before .before .before .before in
     let a = start p in (
-      omega (arith, a .pre .1 .0 .places, a .pre .0 .head-is, a .pre .0 .headed .sizes),
-      omega (arith, head-length (frames (now (a .args .circuit))), a .pre .1 .1, p .store-all .kept .1 .1 .0, a .pre .0 .head-is),
+      omega (arith, a .pre .1 .0 .places, known a),
+      omega (arith, head-length (frames (b₀ a)), a .pre .1 .1, p .store-all .kept .1 .1 .0, known a .head-is),
     )
 
 put-connected-requires : tie.Need-put-connected-requires
@@ -65,10 +75,10 @@ returns c =
     let s = q .before .before .before .before in
     let p = s .before .before .before .before .before in
     let a = start p in
-    let b = now (a .args .circuit) in
-    let h = a .pre .0 .head-is in
-    head-stored b (now (a .args .result)) (now (a .args .counts)) (omega (arith, head-length (frames b), a .pre .1 .1)) (a .pre .1 .0) (a .pre .0 .headed .sizes .frames-to)
-    (p .store-all .last .1 .1 .0) (s .store-all2 .last .1 .1 .0) (q .put-connected .last .1 .1 .0) (a .args .head .frames + 1) (connectedAt (frames b) 0)
+    let b = b₀ a in
+    let h = known a .head-is in
+    head-stored b (now (a .args .result)) (now (a .args .counts)) (omega (arith, head-length (frames b), a .pre .1 .1)) (a .pre .1 .0) (known a .headed .sizes .frames-to)
+    (p .store-all .last .1 .1 .0) (s .store-all2 .last .1 .1 .0) (q .put-connected .last .1 .1 .0) (a .args .source .frames + 1) (connectedAt (frames b) 0)
     (ap (λ (t : ℕ). t + 1) (h .frames-is)) (omega (arith, connected-at (frames b) 0))
     (p .store-all .ensures ∙ ap (stored 2 (now (a .args .result)) 0) (first-words _ _ _ b (h .inputs-is) (h .outputs-is) (h .frames-is)))
     (s .store-all2 .ensures)

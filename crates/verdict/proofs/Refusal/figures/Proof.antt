@@ -58,6 +58,12 @@ enum-known-self-17 c = search needs
 enum-known-self-18 : tie.Need-enum-known-self-18
 enum-known-self-18 c = search needs
 
+enum-known-self-19 : tie.Need-enum-known-self-19
+enum-known-self-19 c = search needs
+
+enum-known-self-20 : tie.Need-enum-known-self-20
+enum-known-self-20 c = search needs
+
 returns : tie.Need-returns
 returns c = sym (ap refusalFigures (c .before .self .given .1))
 
@@ -112,6 +118,12 @@ returns-17 c = sym (ap refusalFigures (c .before .self17 .given .1))
 returns-18 : tie.Need-returns-18
 returns-18 c = sym (ap refusalFigures (c .before .self18 .given .1))
 
+returns-19 : tie.Need-returns-19
+returns-19 c = sym (ap refusalFigures (c .before .self19 .given .1))
+
+returns-20 : tie.Need-returns-20
+returns-20 c = sym (ap refusalFigures (c .before .self20 .given .1))
+
 pub figures-spec : {M : Type 1} → statement M
 figures-spec =
     tie.close
@@ -134,6 +146,8 @@ figures-spec =
     enum-known-self-16
     enum-known-self-17
     enum-known-self-18
+    enum-known-self-19
+    enum-known-self-20
     returns
     returns-2
     returns-3
@@ -151,4 +165,6 @@ figures-spec =
     returns-15
     returns-16
     returns-17
-    returns-18)
+    returns-18
+    returns-19
+    returns-20)

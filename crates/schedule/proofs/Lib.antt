@@ -1,0 +1,3 @@
+-- The proofs of `schedule`: laws by subject, lowest first.
+pub mod Lists
+pub mod Spread

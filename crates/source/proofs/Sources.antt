@@ -1,0 +1,165 @@
+-- What is read of a source is what the circuit that it is has. Assumes nothing.
+use mathlib.Core.Path.{_≡_, refl, sym, ap, ap₂, _∙_, subst}
+use mathlib.Core.Bool.{Bool, true, false, not, _&&_, false≢true}
+use mathlib.Core.List.{List}
+use Prim.Native.Nat.{ℕ, _+_, _*_, _-_, _/_, _%_, _≤_, _<_}
+use native.Mathlib.Omega.{arith}
+use lib.Dec.{ltb}
+use lib.ListN.{getD}
+use borrow.Author.Tests.{lt-ltb, le-ltb}
+use Rattle.layered.proofs.Search.{least-le}
+use Rattle.circuit.specs.Circuit.{gates, leftsAt, rightsAt, allInputs, allOutputs, gateOfOutput, unconnected, operand}
+use Rattle.circuit.specs.WellFormed.{WellFormed, Formed, GateOf}
+use Rattle.circuit.specs.declared.Head.{Head}
+use Rattle.circuit.specs.declared.Gate.{Gate}
+use Rattle.circuit.proofs.Accepted.{well-formed}
+use Rattle.source.specs.Rearranged.{rearranged, renamed, standing, itemAt, connectsAt, shownLiteral}
+use Rattle.source.specs.Source.{headOf, sourced, standingIn, renamedIn, itemIn, Renames, Spreads, WholeOf, SourceOf, stands, spread}
+use Rattle.source.specs.declared.Source.{Source}
+use Rattle.source.proofs.Rearranged.{rearranged-well, gates-are, inner-gate, shown-gate, blank-gate, place-unconnected}
+
+module _ (c : List ℕ) (s : Source) where
+  -- the circuit that a source is
+  pub sourced-whole : s .whole ≡ true → sourced s c ≡ c
+  unfolding sourced
+  sourced-whole e = rw e
+
+  pub sourced-spread : s .whole ≡ false → sourced s c ≡ rearranged c (s .inputs) (s .outputs) (s .frames) (s .places) (s .shown)
+  unfolding sourced
+  sourced-spread e = rw e
+
+  -- a circuit as it stands is a source of itself
+  pub whole-source : Formed c → WholeOf c s → SourceOf c s
+  whole-source F O = stands O (subst (WellFormed c) (sym (O .own-is)) (well-formed F (O .head-is)))
+
+  pub own-well : SourceOf c s → WellFormed c (s .own)
+  own-well (stands O W) = W
+  own-well (spread w P) = P .network
+
+  pub well : SourceOf c s → WellFormed (sourced s c) (headOf s)
+  well (stands O W) = subst (λ b. WellFormed b (headOf s)) (sym (sourced-whole (O .whole-is))) (subst (WellFormed c) (O .own-is) W)
+  well (spread w P) = subst (λ b. WellFormed b (headOf s)) (sym (sourced-spread w)) (rearranged-well c s P)
+
+  -- ---- gates
+
+  renames : Spreads c s → (x : ℕ) → s .base + x < 65536 → Renames s x
+  renames P x l =
+      let O = P .network .head-is in
+      record {
+        inputs-to = omega (arith, O .base-is, P .network .headed .inputs-to);
+        base-from = omega (arith, O .base-is);
+        base-is = P .base-is;
+        low = l;
+        places-to = λ i h. omega (arith, P .places-in i (omega (arith, O .base-is)), P .sizes .bits-to);
+      }
+
+  -- a signal before a gate can be renamed
+  pub can-rename : SourceOf c s → (g l : ℕ) → g < gates c → l / 2 < 1 + allInputs c + g → (l < 65536) × (s .whole ≡ false → Renames s (l / 2))
+  can-rename S g l h k = (omega (arith, W .headed .inputs-to, W .headed .gates-to), λ e. go S e)
+    where
+      W : WellFormed c (s .own)
+      W = own-well S
+
+      go : SourceOf c s → s .whole ≡ false → Renames s (l / 2)
+      go (stands O _) e = absurd (false≢true (sym e ∙ O .whole-is))
+      go (spread w P) e = renames P (l / 2) (omega (arith, P .base-is, P .sizes .bits-to, W .headed .inputs-to, W .headed .gates-to))
+
+  -- a literal of a circuit as it stands is itself
+  whole-literal : s .whole ≡ true → (l : ℕ) → renamedIn s l ≡ l
+  unfolding renamedIn standingIn
+  whole-literal e l = rw e (omega arith)
+
+  spread-literal : s .whole ≡ false → s .own .base ≡ 1 + allInputs c → (l : ℕ) → renamedIn s l ≡ renamed (allInputs c) (s .places) (s .inputs * s .frames) l
+  unfolding renamedIn standingIn renamed
+  spread-literal e o l =
+      let n : s .own .base - 1 ≡ allInputs c = omega arith in
+      rw (e, n)
+
+  pub own-gate : SourceOf c s → (g : ℕ) → g < gates c → (r x : Gate) → GateOf c g x → r .left ≡ renamedIn s (x .left) → r .right ≡ renamedIn s (x .right) → GateOf (sourced s c) g r
+  own-gate (stands O W) g l r x X el er =
+      let w = O .whole-is in
+      rw (sourced-whole w)
+      (record {
+        left-is = el ∙ whole-literal w (x .left) ∙ X .left-is;
+        right-is = er ∙ whole-literal w (x .right) ∙ X .right-is;
+        left-before = rw (el ∙ whole-literal w (x .left)) (X .left-before);
+        right-before = rw (er ∙ whole-literal w (x .right)) (X .right-before);
+      })
+  own-gate (spread w P) g l r x X el er =
+      let O = P .network .head-is .base-is in
+      rw (sourced-spread w)
+      (inner-gate c s P g l r (el ∙ spread-literal w O (x .left) ∙ ap (renamed (allInputs c) (s .places) (s .inputs * s .frames)) (X .left-is))
+      (er ∙ spread-literal w O (x .right) ∙ ap (renamed (allInputs c) (s .places) (s .inputs * s .frames)) (X .right-is)))
+
+  -- a gate behind all of c's own: c is spread
+  pub behind : SourceOf c s → (g : ℕ) → g < gates (sourced s c) → gates c ≤ g → (s .whole ≡ false) × Spreads c s × (g - gates c < s .total)
+  behind (stands O W) g l k = absurd (omega (arith, ap gates (sourced-whole (O .whole-is))))
+  behind (spread w P) g l k = (w, P, omega (arith, ap gates (sourced-spread w), gates-are c s P, P .total-is))
+
+  -- ---- connected outputs
+
+  -- the item that stands at a place
+  spread-item : s .whole ≡ false → Spreads c s → (q : ℕ) → itemIn s q ≡ itemAt (allOutputs c) (s .shown) q
+  unfolding itemIn
+  spread-item e P q = rw (e, P .network .head-is .total-is)
+
+  pub few-items : SourceOf c s → s .whole ≡ false → s .own .total ≤ 16
+  few-items (stands O _) e = absurd (false≢true (sym e ∙ O .whole-is))
+  few-items (spread w P) e = omega (arith, P .few-outputs, P .network .head-is .total-is)
+
+  pub item-most : s .whole ≡ false → (q : ℕ) → itemIn s q ≤ s .own .total
+  unfolding itemIn itemAt
+  item-most e q = rw e (least-le (s .own .total) _)
+
+  module _ (q k : ℕ) (h : q < s .total) (e : k ≡ itemIn s q) where
+    -- none stands there
+    pub none-there : SourceOf c s → s .own .total ≤ k → false ≡ not (unconnected (sourced s c) (gateOfOutput (sourced s c) q))
+    unfolding connectsAt itemIn
+    none-there (stands O W) l = let t : s .own .total ≡ s .total = ap (λ (h : Head). h .total) (O .own-is) in absurd (omega (arith, rw (O .whole-is) at e))
+    none-there (spread w P) l =
+        let i = e ∙ spread-item w P q in
+        let places : q < s .outputs * s .frames = omega (arith, P .total-is) in
+        let off : connectsAt c (s .shown) q ≡ false = rw (le-ltb (itemAt (allOutputs c) (s .shown) q) (allOutputs c) (omega (arith, i, P .network .head-is .total-is))) in
+        rw (sourced-spread w, place-unconnected c s P q places, off)
+
+    -- item k does
+    pub some-there : SourceOf c s → k < s .own .total → (x : Bool) → x ≡ unconnected c (gateOfOutput c k) → not x ≡ not (unconnected (sourced s c) (gateOfOutput (sourced s c) q))
+    unfolding connectsAt itemIn
+    some-there (stands O W) l x ex =
+        let w = O .whole-is in
+        let i : k ≡ q = rw w at e in
+        rw (sourced-whole w) (ap not ex ∙ ap (λ k. not (unconnected c (gateOfOutput c k))) i)
+    some-there (spread w P) l x ex =
+        let i = e ∙ spread-item w P q in
+        let places : q < s .outputs * s .frames = omega (arith, P .total-is) in
+        let in-list : ltb (itemAt (allOutputs c) (s .shown) q) (allOutputs c) ≡ true = lt-ltb (itemAt (allOutputs c) (s .shown) q) (allOutputs c) (omega (arith, i, P .network .head-is .total-is)) in
+        let on : connectsAt c (s .shown) q ≡ not x = rw (in-list, ← i) (ap not (sym ex)) in
+        rw (sourced-spread w, place-unconnected c s P q places, on) (twice x)
+      where
+        twice : (x : Bool) → not x ≡ not (not (not x))
+        twice true = refl
+        twice false = refl
+
+  -- ---- gates that show outputs
+
+  module _ (S : Spreads c s) (w : s .whole ≡ false) (q k : ℕ) (h : q < s .total) (e : k ≡ itemIn s q) where
+    places-in : q < s .outputs * s .frames
+    places-in = omega (arith, S .total-is)
+
+    connected-is : (x : Bool) → x ≡ not (unconnected (sourced s c) (gateOfOutput (sourced s c) q)) → connectsAt c (s .shown) q ≡ x
+    connected-is x ex = sym (ex ∙ ap not (ap (λ b. unconnected b (gateOfOutput b q)) (sourced-spread w) ∙ place-unconnected c s S q places-in) ∙ twice (connectsAt c (s .shown) q))
+      where
+        twice : (x : Bool) → not (not x) ≡ x
+        twice true = refl
+        twice false = refl
+
+    pub shows-none : false ≡ not (unconnected (sourced s c) (gateOfOutput (sourced s c) q)) → (g : ℕ) → g ≡ gates c + q → (r : Gate) → r .left ≡ 0 → r .right ≡ 0 → GateOf (sourced s c) g r
+    shows-none f g eg r el er = rw (sourced-spread w, eg) (blank-gate c s S q places-in (connected-is false f) r el er)
+
+    pub shows-item : true ≡ not (unconnected (sourced s c) (gateOfOutput (sourced s c) q)) → (g : ℕ) → g ≡ gates c + q → (r : Gate) → r .left ≡ 2 * (s .base + (s .own .gates - s .own .total + k)) → r .right ≡ 1 → GateOf (sourced s c) g r
+    unfolding shownLiteral
+    shows-item f g eg r el er =
+        let O = S .network .head-is in
+        let i = e ∙ spread-item w S q in
+        let same : 2 * (s .base + (s .own .gates - s .own .total + k)) ≡ 2 * (1 + s .inputs * s .frames + gateOfOutput c (itemAt (allOutputs c) (s .shown) q)) = omega (arith, S .base-is, O .gates-is, O .total-is, i) in
+        rw (sourced-spread w, eg) (shown-gate c s S q places-in (connected-is true f) r (el ∙ same) er)
