@@ -2,7 +2,7 @@
 use mathlib.Core.Path.{_≡_, refl, sym, ap, ap₂, _∙_, subst}
 use mathlib.Core.List.{List, [], _∷_, _++_, append-nil, append-assoc}
 use Prim.Native.Nat.{ℕ, zero, suc, _+_, _*_, _/_, _%_, _^_, _<_}
-use native.Mathlib.Nat.{le-refl, mod-lt, add-zero, mul-one, mul-comm, mul-assoc, pow-zero, pow-suc, div-one, div-div-eq-div-mul}
+use native.Mathlib.Nat.{le-refl, mod-lt, add-zero, mul-one, zero-mul, add-mul, mul-comm, mul-assoc, pow-zero, pow-suc, div-one, div-div-eq-div-mul}
 use native.Mathlib.Numerals.{add-one}
 use native.Mathlib.Omega.{arith}
 use lib.Arith.{digits-div, digits-mod}
@@ -73,6 +73,24 @@ words-follow {K} t h (more {k = k} {w = w} {c = c} l W) =
 pub words-number : {K k : ℕ} {c : List ℕ} → Words K k c → historyWords K k (historyNumber K 0 c) ≡ c
 unfolding historyWords
 words-number {K} {k} {c} W = let p : k ≡ 0 + k = omega arith in ap (λ r. historyWords K r (historyNumber K 0 c)) p ∙ words-follow 0 0 W
+
+-- a number goes on from what stands before it
+number-after : {K k : ℕ} {c : List ℕ} (h : ℕ) → Words K k c → historyNumber K h c ≡ h * K ^ k + historyNumber K 0 c
+unfolding historyNumber
+number-after {K} h none = omega (arith, mul-one h, ap (λ x. h * x) (pow-zero K))
+number-after {K} h (more {k = k} {w = w} {c = c} l W) =
+    let more : h * K * K ^ k ≡ h * K ^ suc k = mul-assoc h K (K ^ k) ∙ ap (λ x. h * x) (mul-comm K (K ^ k) ∙ sym (pow-suc K k)) in
+    let first : 0 * K + w ≡ w = omega (arith, zero-mul K) in
+    omega (arith, number-after (h * K + w) W, add-mul (h * K) w (K ^ k), more, number-after (0 * K + w) W, ap (λ x. x * K ^ k) first)
+
+-- the words of a history, by its first word
+pub history-first : (K k w i : ℕ) → w < K → i < K ^ k → historyWords K (suc k) (w * K ^ k + i) ≡ w ∷ historyWords K k i
+unfolding historyNumber
+history-first K k w i l h =
+    let (W, e) = number-words K k i h in
+    let first : 0 * K + w ≡ w = omega (arith, zero-mul K) in
+    let number : historyNumber K (0 * K + w) (historyWords K k i) ≡ w * K ^ k + i = omega (arith, number-after (0 * K + w) W, ap (λ x. x * K ^ k) first, e) in
+    ap (historyWords K (suc k)) (sym number) ∙ words-number (more l W)
 
 module _ (K : ℕ) where
   pub history-length : (t h : ℕ) → length (historyWords K t h) ≡ t

@@ -36,14 +36,21 @@ apart : (s t : Bool) (k p : ℕ) (f : Figures) → refuse (s || t) k p f ≡ ref
 apart true t k p f = refl
 apart false t k p f = refl
 
+-- a position that is accepted is one of the table
+pub place-in : (b : List ℕ) (t s p : ℕ) → placeChecked b t s ≡ answer 0 p → (t ≤ frames b) × (s < states b t)
+unfolding placeChecked
+place-in b t s p e =
+    let e₁ = passed (ltb (frames b) t) 11 t _ p refl (sym (apart (ltb (frames b) t) (leb (states b t) s) 11 t (answer 0 0)) ∙ e) in
+    let e₂ = passed (leb (states b t) s) 11 t _ p refl (e₁ .1) in
+    (ltb-false (frames b) t (e₁ .0), leb-false (states b t) s (e₂ .0))
+
 -- a position and a word that are accepted are those of an entry
 pub placed : (b : List ℕ) (t s w p : ℕ) → positionChecked b t s w ≡ answer 0 p → (t < frames b) × (s < states b t) × (w < 2 ^ inputs b)
-unfolding positionChecked placeChecked
+unfolding positionChecked
 placed b t s w p e =
     let e₀ = both-accept (placeChecked b t s) _ p e in
-    let e₁ = passed (ltb (frames b) t) 11 t _ _ refl (sym (apart (ltb (frames b) t) (leb (states b t) s) 11 t (answer 0 0)) ∙ e₀ .1) in
-    let e₂ = passed (leb (states b t) s) 11 t _ _ refl (e₁ .1) in
+    let q = place-in b t s _ (e₀ .1) in
     let e₃ = passed (eqb t (frames b)) 10 (frames b) _ p refl (e₀ .2) in
     let e₄ = passed (leb (2 ^ inputs b) w) 9 0 _ p refl (e₃ .1) in
     let n = eqb-false t (frames b) (e₃ .0) in
-    (omega (arith, ltb-false (frames b) t (e₁ .0)), leb-false (states b t) s (e₂ .0), leb-false (2 ^ inputs b) w (e₄ .0))
+    (omega (arith, q .0), q .1, leb-false (2 ^ inputs b) w (e₄ .0))

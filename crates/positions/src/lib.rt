@@ -24,7 +24,7 @@ impl Position {
 }
 
 // Number 11: the table has no such position.
-fn check_place(table: &[u8], layout: Layout, position: Position) -> Verdict
+pub fn check_place(table: &[u8], layout: Layout, position: Position) -> Verdict
     requires { ⌜ TableHeaded (now table) ⌝ }
     requires { ⌜ layout ≡ layoutOf (now table) ⌝ }
     ensures { λ r. ⌜ figures r ≡ placeChecked (now (table .entry)) (position .layer) (position .state) ⌝ }
