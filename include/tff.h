@@ -225,6 +225,18 @@ void tff_reach(const uint8_t *table, size_t table_len,
                uint8_t *result, size_t result_len,
                uint64_t *answer, size_t answer_len);
 
+/* Puts into result the input words that tell two states of a layer apart: the shortest list for which
+ * the output words of the two differ at its last word; of the lists of this length the smallest, the
+ * first word counting most. There is none exactly where every continuation up to T gives both states
+ * the same output words, so for equal states and in layer T; in a table that tff_fold wrote any two
+ * others have one. Refuses as the check, then 11 (a layer above T, or either state not below its
+ * count), then 7 for a result of fewer than T - layer words, whether or not there is a list.
+ * Accepted: place is the length of the list, 1 to T - layer, or 0 for none. */
+void tff_distinguish(const uint8_t *table, size_t table_len,
+                     uint16_t layer, uint16_t first, uint16_t second,
+                     uint16_t *result, size_t result_len,
+                     uint64_t *answer, size_t answer_len);
+
 /* Puts into result a circuit whose outputs are the table's, the same of them connected.
  * Refuses as the check, then 8, 7. Accepted: place is the bytes written. */
 void tff_unfold(const uint8_t *table, size_t table_len,

@@ -12,6 +12,7 @@
 pub mod answer;
 pub mod circuit;
 pub mod diagrams;
+pub mod distinguish;
 pub mod examples;
 pub mod fold;
 pub mod gates;
@@ -35,6 +36,7 @@ pub mod words;
 pub use answer::Answer;
 pub use circuit::{check_circuit, simulate, Circuit};
 pub use diagrams::fold_diagrams;
+pub use distinguish::distinguish;
 pub use fold::fold;
 pub use gates::Gates;
 pub use nodes::{node_counts, nodes_needed, Node};

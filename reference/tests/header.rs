@@ -16,8 +16,8 @@ use child::written;
 use reference::vectors::{PARITY_PLAN, PARITY_TABLE};
 use reference::words::{to_bytes, words_at};
 use reference::{
-    ask, check_circuit, check_table, commit, examples, fold, layer_outputs, price, quiet_step,
-    reach, run, simulate, spread, step, unfold, view, Node, Position, Schedule,
+    ask, check_circuit, check_table, commit, distinguish, examples, fold, layer_outputs, price,
+    quiet_step, reach, run, simulate, spread, step, unfold, view, Node, Position, Schedule,
 };
 use root::root;
 
@@ -222,6 +222,19 @@ fn calls_lines() -> String {
         (2, 0, 40, 4, 50, 0),
         (1, 1, 40, 4, 50, 2),
     ];
+    // Accepted, with a list and without, and refused with 1, 11, 11, 11, 7, 7.
+    let told_apart = [
+        (40, 1, 0, 1, 1),
+        (40, 1, 1, 0, 2),
+        (40, 1, 1, 1, 1),
+        (40, 2, 0, 0, 0),
+        (39, 3, 0, 1, 1),
+        (40, 3, 0, 0, 1),
+        (40, 1, 2, 0, 0),
+        (40, 1, 0, u16::MAX, 0),
+        (40, 1, 0, 1, 0),
+        (40, 0, 0, 0, 1),
+    ];
     let mut text = String::new();
     for length in [28, 27] {
         text += &line("check_circuit", |_| {
@@ -340,6 +353,14 @@ fn calls_lines() -> String {
             reach(&table[..length], &mut lent.bytes[..result]).into()
         });
     }
+    for (length, layer, first, second, result) in told_apart {
+        text += &line("distinguish", |lent| {
+            let result = &mut lent.numbers[..result];
+            distinguish(&table[..length], layer, first, second, result).into()
+        });
+    }
+    // Its answer is too short.
+    text += &line("distinguish", |_| []);
     for (length, result) in [(40, 76), (39, 76), (40, 75)] {
         text += &line("unfold", |lent| {
             unfold(&table[..length], &mut lent.bytes[..result]).into()

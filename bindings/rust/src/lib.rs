@@ -7,6 +7,7 @@
 //! of them, and of every byte written, is that of `include/tff.h`.
 
 mod circuit;
+mod distinguish;
 mod fold;
 mod nodes;
 mod plan;
@@ -21,6 +22,7 @@ mod view;
 pub mod raw;
 
 pub use circuit::{check_circuit, simulate, simulate_one};
+pub use distinguish::distinguish;
 pub use fold::fold;
 pub use nodes::Nodes;
 pub use plan::{ask, commit, Plan};

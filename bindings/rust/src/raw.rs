@@ -169,6 +169,18 @@ extern "C" {
         answer_len: usize,
     );
 
+    pub fn tff_distinguish(
+        table: *const u8,
+        table_len: usize,
+        layer: u16,
+        first: u16,
+        second: u16,
+        result: *mut u16,
+        result_len: usize,
+        answer: *mut u64,
+        answer_len: usize,
+    );
+
     pub fn tff_unfold(
         table: *const u8,
         table_len: usize,

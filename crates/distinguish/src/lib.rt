@@ -77,9 +77,9 @@ fn first_word(table: &[u8], words: usize, first: usize, second: usize) -> usize
     requires { ⌜ (first + 2 * words ≤ length (now table)) × (second + 2 * words ≤ length (now table)) ⌝ }
     ensures { λ r. ⌜ r ≡ least words (λ w. not (eqb (wordAt (now (table .entry)) (first + 2 * w)) (wordAt (now (table .entry)) (second + 2 * w)))) ⌝ }
 {
-    for w in 0..words {
-        if read(table, first + 2 * w) != read(table, second + 2 * w) {
-            return w;
+    for word in 0..words {
+        if read(table, first + 2 * word) != read(table, second + 2 * word) {
+            return word;
         }
     }
     words
@@ -141,13 +141,11 @@ fn shortest_list(table: &[u8], layout: Layout, pair: Pair) -> Sequence
     let left = layout.frames - pair.layer;
     let mut rest = 1;
     for k in 0..left {
-        let number = first_list(table, layout, pair, k + 1, rest);
+        let length = k + 1;
+        let number = first_list(table, layout, pair, length, rest);
         rest *= words;
         if number < rest {
-            return Sequence {
-                length: k + 1,
-                number,
-            };
+            return Sequence { length, number };
         }
     }
     Sequence {

@@ -25,6 +25,7 @@ ghost use Rattle.folded.specs.Planned.{asked, commitChecked, commitResult};
 ghost use Rattle.spreading.specs.Spread.{spreadChecked, spreadResult, spreadScratch, spreadNodes};
 ghost use Rattle.price.specs.Price.{priced};
 ghost use Rattle.reach.specs.Reach.{reachChecked, reachResult};
+ghost use Rattle.distinguish.specs.Distinguish.{distinguishChecked, distinguishResult};
 ghost use Rattle.unfolded.specs.Unfolded.{unfoldChecked, unfoldResult};
 ghost use Rattle.answers.specs.Answer.{verdictNumbers, stepNumbers, quietNumbers, priceNumbers, layerNumbers, answerAfter, verdictLength, quietLength, askLength, lentAfter};
 
@@ -257,6 +258,31 @@ pub extern "C" fn tff_reach(table: &[u8], result: &mut [u8], answer: &mut [u64])
         return;
     }
     let verdict: Verdict = reach::reach(table, result);
+    put(verdict, answer);
+}
+
+#[no_mangle]
+pub extern "C" fn tff_distinguish(
+    table: &[u8],
+    layer: u16,
+    first: u16,
+    second: u16,
+    result: &mut [u16],
+    answer: &mut [u64],
+)
+    ensures answer { λ _. ⌜ now (answer .exit) ≡ answerAfter (verdictNumbers (distinguishChecked (now (table .entry)) layer first second (length (now (result .entry))))) (now (answer .entry)) ⌝ }
+    ensures result { λ _. ⌜ now (result .exit) ≡ lentAfter verdictLength (now (answer .entry)) (distinguishResult (now (table .entry)) layer first second (now (result .entry))) (now (result .entry)) ⌝ }
+{
+    if answer.len() < Limits::VERDICT {
+        return;
+    }
+    let verdict: Verdict = distinguish::distinguish(
+        table,
+        layer as usize,
+        first as usize,
+        second as usize,
+        result,
+    );
     put(verdict, answer);
 }
 

@@ -163,6 +163,18 @@ int main(void) {
     CALL(reach, table, 39, bytes, 40);
     CALL(reach, table, 40, bytes, 39);
 
+    CALL(distinguish, table, 40, 1, 0, 1, numbers, 1);
+    CALL(distinguish, table, 40, 1, 1, 0, numbers, 2);
+    CALL(distinguish, table, 40, 1, 1, 1, numbers, 1);
+    CALL(distinguish, table, 40, 2, 0, 0, numbers, 0);
+    CALL(distinguish, table, 39, 3, 0, 1, numbers, 1);
+    CALL(distinguish, table, 40, 3, 0, 0, numbers, 1);
+    CALL(distinguish, table, 40, 1, 2, 0, numbers, 0);
+    CALL(distinguish, table, 40, 1, 0, UINT16_MAX, numbers, 0);
+    CALL(distinguish, table, 40, 1, 0, 1, numbers, 0);
+    CALL(distinguish, table, 40, 0, 0, 0, numbers, 1);
+    CALL_FOR(1, distinguish, table, 40, 1, 0, 1, numbers, 1);
+
     CALL(unfold, table, 40, bytes, 76);
     CALL(unfold, table, 39, bytes, 76);
     CALL(unfold, table, 40, bytes, 75);

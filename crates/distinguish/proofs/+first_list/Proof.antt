@@ -89,7 +89,7 @@ first-list-div-fewer : (t : ℕ) → first-list-lts.Need-div-fewer (calls t) (fi
 first-list-div-fewer t c = words-some (known t (c .before .before .before .before))
 
 first-list-loop-holds : (t : ℕ) → first-list-lts.Need-loop-holds (calls t) (first-list-at t) first-list.Post first-list-Inv-loop first-list-μ-loop
-first-list-loop-holds t c = (omega arith, (λ h l. absurd (omega (arith, zero-mul (c .before .before .before .before .args .rest)))))
+first-list-loop-holds t c = let s = c .before .before .before .before in (omega (arith, words-some (known t s)), (λ h l. absurd (omega (arith, zero-mul (s .args .rest)))))
 
 first-list-follow-requires : (t : ℕ) → first-list-lts.Need-follow-requires (calls t) (first-list-at t) first-list.Post first-list-Inv-loop first-list-μ-loop
 first-list-follow-requires t c κs =

@@ -1,4 +1,4 @@
--- `distinguish::first_word` meets its contract. The invariant: before word w the outputs do not differ.
+-- `distinguish::first_word` meets its contract. The invariant: before a word the outputs do not differ.
 -- Assumes nothing.
 use mathlib.Core.Path.{_≡_, sym, ap, ap₂, _∙_}
 use mathlib.Core.Bool.{Bool, true, false, not}
@@ -51,10 +51,10 @@ read-requires-2 c κs = omega arith
 returns : tie.Need-returns Inv-loop μ-loop
 returns c =
     let l = c .before .before .before .before .loop in
-    sym (least-is _ (l .w) _ (omega (arith, l .inv .0)) (l .inv .1) (λ _. ap not (ne-eqb _ _ (λ e. c .if1 .taken (c .before .before .read .ensures .0 ∙ e ∙ sym (c .before .read2 .ensures .0))))))
+    sym (least-is _ (l .word) _ (omega (arith, l .inv .0)) (l .inv .1) (λ _. ap not (ne-eqb _ _ (λ e. c .if1 .taken (c .before .before .read .ensures .0 ∙ e ∙ sym (c .before .read2 .ensures .0))))))
 
-add-w : tie.Need-add-w Inv-loop μ-loop
-add-w c = omega arith
+add-word : tie.Need-add-word Inv-loop μ-loop
+add-word c = omega arith
 
 loop-less : tie.Need-loop-less Inv-loop μ-loop
 loop-less c = omega arith
@@ -64,7 +64,7 @@ loop-again c =
     let l = c .before .before .before .before .loop in
     let s = c .before .before .before .before .before .before in
     let a = s .args in
-    (omega arith, rw (add-one (l .w)) (below-suc {P = λ i. test (now (a .table)) (a .first) (a .second) i ≡ false} (l .inv .1) (ap not (eq-eqb _ _ (sym (c .before .before .read .ensures .0) ∙ c .if1 .left ∙ c .before .read2 .ensures .0)))))
+    (omega arith, rw (add-one (l .word)) (below-suc {P = λ i. test (now (a .table)) (a .first) (a .second) i ≡ false} (l .inv .1) (ap not (eq-eqb _ _ (sym (c .before .before .read .ensures .0) ∙ c .if1 .left ∙ c .before .read2 .ensures .0)))))
 
 returns-2 : tie.Need-returns-2 Inv-loop μ-loop
 returns-2 c =
@@ -86,7 +86,7 @@ first-word-spec =
     add-read-2
     read-requires-2
     returns
-    add-w
+    add-word
     loop-less
     loop-again
     returns-2)

@@ -59,8 +59,8 @@ number-is c =
     let s = s₁ (c .before) in
     c .first-list .ensures ∙ ap (firstList (2 ^ inputs (b₀ s)) (machine (b₀ s)) (p₀ s .layer) (p₀ s .first) (p₀ s .second)) (add-one (c .before .before .loop .k))
 
-add-first-list : tie.Need-add-first-list Inv-loop μ-loop
-add-first-list c = omega arith
+add-length : tie.Need-add-length Inv-loop μ-loop
+add-length c = omega arith
 
 first-list-requires : tie.Need-first-list-requires Inv-loop μ-loop
 first-list-requires c κs =
@@ -74,9 +74,6 @@ mul-rest c =
     let s = s₁ (c .before) in
     let few : (2 ^ inputs (b₀ s)) ^ suc (c .before .before .loop .k) ≤ 65536 = lists-few (b₀ s) (s .pre .0) _ (omega (arith, within (c .before))) in
     omega (arith, lists-are (c .before), few)
-
-add-t11 : tie.Need-add-t11 Inv-loop μ-loop
-add-t11 c = omega arith
 
 returns : tie.Need-returns Inv-loop μ-loop
 unfolding distinguishing
@@ -127,10 +124,9 @@ shortest-list-spec =
     μ-loop
     sub-left
     loop-holds
-    add-first-list
+    add-length
     first-list-requires
     mul-rest
-    add-t11
     returns
     add-k
     loop-less
