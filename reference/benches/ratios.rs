@@ -110,7 +110,8 @@ fn check_line(case: &str, runs: &Runs, circuit: &[u8]) {
     );
 }
 
-/// Checking a table of a million entries, pricing it and counting what reaches its states.
+/// Checking a table of a million entries, pricing it, counting what reaches its states and telling two
+/// of them apart; and two states of tables in which every history has its own, and nothing tells.
 fn table_level() {
     let table = million_entries();
     let often = Runs { runs: 21, calls: 5 };
@@ -128,6 +129,24 @@ fn table_level() {
     );
     reach_line("reach counts of a table of 1000000 entries", &table);
     reach_line("reach counts of a table of 491521 states", &most_states());
+    distinguish_line("two of its states told apart", &table, [1, 0, 15_623]);
+    for (inputs, frames) in [(1, 16), (2, 8), (4, 4), (8, 2)] {
+        // Nothing is ever set, so all lists of all lengths are fed.
+        let apart = tables::histories_apart(Sizes::new(inputs, 1, frames));
+        let case = format!("two states never told apart, {inputs} x {frames}");
+        distinguish_line(&case, &apart.to_bytes(), [1, 0, 1]);
+    }
+}
+
+/// Telling two states of a layer apart.
+fn distinguish_line(case: &str, table: &[u8], [layer, first, second]: [u16; 3]) {
+    let often = Runs { runs: 21, calls: 5 };
+    often.measure(
+        case,
+        &mut [0; 16],
+        |result| tff::distinguish(black_box(table), layer, first, second, result),
+        |result| reference::distinguish(black_box(table), layer, first, second, result),
+    );
 }
 
 fn reach_line(case: &str, table: &[u8]) {

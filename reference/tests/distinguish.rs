@@ -624,7 +624,7 @@ fn every_length_and_every_word_of_the_table_is_judged() {
             }
         }
     }
-    seen.expect(&[0, 1, 2, 5, 11]);
+    seen.expect(&[0, 1, 2, 5]);
 }
 
 #[test]
@@ -634,9 +634,10 @@ fn damaged_tables_are_refused_and_change_nothing() {
         let mut rng = Rng::new(seed);
         let table = tables::any_legal(&mut rng, 10, 3);
         let file = damaged(&mut rng, &table.to_bytes());
-        let states = any_states(&mut rng, &table);
-        let room = rng.below(12);
-        seen.note(distinguish(seed, &file, states, room));
+        // Layers have up to three states, and a layer or a state may be one too high.
+        let layer = rng.below(table.head.sizes.frames + 2);
+        let states = [layer, rng.below(4), rng.below(4)].map(|number| number as u16);
+        seen.note(distinguish(seed, &file, states, rng.below(12)));
     }
     seen.expect(&[0, 1, 2, 5, 7, 11]);
 }

@@ -17,7 +17,7 @@ use reference::vectors::{PARITY_PLAN, PARITY_TABLE};
 use reference::words::{to_bytes, words_at};
 use reference::{
     ask, check_circuit, check_table, commit, distinguish, examples, fold, layer_outputs, price,
-    quiet_step, reach, run, simulate, spread, step, unfold, view, Node, Position, Schedule,
+    quiet_step, reach, run, simulate, spread, step, unfold, view, Node, Position, Schedule, Table,
 };
 use root::root;
 
@@ -470,6 +470,39 @@ fn the_c_program_spreads_the_adder() {
     assert_eq!(spread("0,2,4,1,3", "0,2,4,5"), "refused 12 5\n");
     assert_eq!(spread("0,2,4,1,3,65536", "0,2,4,5"), "refused 19 5\n");
     assert_eq!(spread("0,2,4,1,3,5", "0,2,4,4"), "refused 20 9\n");
+}
+
+/// What `examples/distinguish.c` is to print for a circuit that folds to this table.
+fn told_apart(table: &[u8]) -> String {
+    let head = Table::read(table).expect("a table").head;
+    let mut text = String::new();
+    for (layer, &count) in head.counts.iter().enumerate() {
+        for second in 0..count {
+            for first in 0..second {
+                let mut words = [0; 16];
+                let (_, found) = distinguish(table, layer as u16, first, second, &mut words);
+                let words = listed(&words[..found as usize]);
+                writeln!(text, "layer {layer}, states {first} and {second}:{words}").unwrap();
+            }
+        }
+    }
+    text
+}
+
+#[test]
+fn the_c_program_tells_states_apart() {
+    let program = compiled("examples/distinguish.c");
+    let tell = |circuit: &[u8]| written(&mut Command::new(&program), circuit);
+    let parity = examples::parity().to_bytes();
+    assert_eq!(tell(&parity), "layer 1, states 0 and 1: 0\n");
+    assert_eq!(tell(&parity[..27]), "refused 1 27\n");
+    let s27 = fs::read(root().join("examples/s27.circuit")).expect("s27");
+    let mut table = [0; 1 << 10];
+    let (number, length) = fold(&s27, &mut [0; 1 << 13], &mut [[0; 3]; 1 << 14], &mut table);
+    assert_eq!(number, 0);
+    let lines = told_apart(&table[..length as usize]);
+    assert_eq!(lines.lines().count(), 12);
+    assert_eq!(tell(&s27), lines);
 }
 
 #[test]
