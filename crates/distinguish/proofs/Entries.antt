@@ -5,10 +5,9 @@ use Prim.Native.Nat.{ℕ, suc, _+_, _*_, _^_, _≤_, _<_}
 use native.Mathlib.Nat.{suc-mul, mul-le-mul-right}
 use native.Mathlib.Numerals.{add-one}
 use native.Mathlib.Omega.{arith}
-use lib.ListN.{length}
 use Rattle.words.specs.Words.{wordAt}
 use Rattle.sizes.specs.Sizes.{inputs, frames}
-use Rattle.table.specs.Table.{states, entriesBelow, entryCount, entryAt, outputsAt, nextsAt, machine}
+use Rattle.table.specs.Table.{states, entriesBelow, entryCount, entryAt, machine}
 use Rattle.table.specs.Sound.{Sound, layoutOf}
 use Rattle.table.specs.declared.Layout.{Layout}
 use Rattle.table.proofs.Offsets.{Laid, laid, layer-in, below-next}

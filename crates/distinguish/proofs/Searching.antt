@@ -1,5 +1,5 @@
 -- What the search for the first list of so many words finds, turn by turn. Assumes nothing.
-use mathlib.Core.Path.{_≡_, refl, sym, ap, ap₂, _∙_, subst}
+use mathlib.Core.Path.{_≡_, sym, ap, ap₂, _∙_, subst}
 use mathlib.Core.Bool.{false, not}
 use mathlib.Core.List.{List}
 use Prim.Native.Nat.{ℕ, suc, _+_, _-_, _*_, _/_, _^_, _≤_, _<_}
@@ -12,7 +12,6 @@ use Rattle.words.specs.Words.{wordAt}
 use Rattle.sizes.specs.Sizes.{inputs, frames}
 use Rattle.layered.specs.Search.{least}
 use Rattle.layered.specs.Histories.{historyWords}
-use Rattle.layered.specs.Machines.{Machine}
 use Rattle.layered.proofs.Search.{least-cong}
 use Rattle.layered.proofs.Rows.{pow-mul}
 use Rattle.table.specs.Table.{states, entryCount, machine}

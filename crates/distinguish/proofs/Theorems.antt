@@ -8,19 +8,19 @@ use native.Mathlib.Decide.{decLt}
 use native.Mathlib.Omega.{arith}
 use lib.Bits.{bitAnd}
 use lib.Dec.{ltb, eqb}
-use lib.ListN.{length, getD, take, drop}
+use lib.ListN.{length, getD, drop}
 use lib.Pow.{pow-pos}
-use borrow.Author.Tests.{eq-eqb, eqb-true, ltb-true, ltb-false, lt-ltb, le-ltb, not-false, leb-false}
+use borrow.Author.Tests.{eq-eqb, eqb-true, ltb-true, ltb-false, lt-ltb, le-ltb, not-false}
 use Rattle.verdict.specs.Judgements.{answer}
 use Rattle.verdict.specs.declared.Figures.{Figures}
 use Rattle.verdict.proofs.Laws.{both-accept, passed}
 use Rattle.sizes.specs.Sizes.{inputs, outputs, frames}
 use Rattle.layered.specs.States.{Words, none, more}
 use Rattle.layered.specs.Histories.{historyWords, historyNumber}
-use Rattle.layered.specs.Machines.{Machine, Legal, feed, Gives, masked}
-use Rattle.layered.proofs.Search.{least-le, least-tells}
+use Rattle.layered.specs.Machines.{Machine, feed, Gives, masked}
+use Rattle.layered.proofs.Search.{least-tells}
 use Rattle.layered.proofs.Feeding.{words-length, words-whole, feed-then}
-use Rattle.layered.proofs.Histories.{history-below, number-words, history-words, history-length, words-number}
+use Rattle.layered.proofs.Histories.{history-below, number-words, history-words, words-number}
 use Rattle.table.specs.Table.{states, connected, machine, strays, badOutput, checked}
 use Rattle.table.specs.Sound.{Sound}
 use Rattle.table.proofs.Accepted.{sound}
@@ -30,7 +30,7 @@ use Rattle.folded.specs.Theorems.{stateOf, Folding, Foldings}
 use Rattle.folded.proofs.Theorems.{foldings}
 use Rattle.distinguish.specs.Distinguish.{lastOutput, separates, firstList, separable, fewest, shortest, distinguishing, pairChecked, roomChecked, distinguishChecked}
 use Rattle.distinguish.specs.Theorems.{Distinguishing, Distinguishes, FoldedDistinguishes}
-use Rattle.distinguish.proofs.Separating.{separates-one, separates-more, first-to}
+use Rattle.distinguish.proofs.Separating.{separates-one, separates-more}
 
 -- a list without length
 no-words : (c : List ℕ) → length c ≡ 0 → c ≡ []

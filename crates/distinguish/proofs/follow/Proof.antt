@@ -11,7 +11,6 @@ use denote.Ref.{now}
 use Rattle.words.specs.Words.{wordAt}
 use Rattle.table.specs.Table.{states, entriesBelow, entryCount, machine}
 use Rattle.table.proofs.Offsets.{Laid, layer-in, below-next}
-use Rattle.distinguish.specs.Pairs.{PairOf}
 use Rattle.distinguish.specs.declared.Pair.{Pair}
 use Rattle.distinguish.proofs.Entries as entries
 use Rattle.distinguish.proofs.follow.Statement.{statement}

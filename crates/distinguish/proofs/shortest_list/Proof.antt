@@ -11,7 +11,7 @@ use Rattle.sizes.specs.Sizes.{inputs, frames}
 use Rattle.layered.specs.Histories.{historyWords}
 use Rattle.table.specs.Table.{machine}
 use Rattle.table.proofs.Offsets.{Laid, laid}
-use Rattle.distinguish.specs.Distinguish.{firstList, shortest, distinguishing}
+use Rattle.distinguish.specs.Distinguish.{firstList, distinguishing}
 use Rattle.distinguish.specs.declared.Pair.{Pair}
 use Rattle.distinguish.proofs.Separating.{NoneOf, none-longer, shortest-here, shortest-none}
 use Rattle.distinguish.proofs.Searching.{lists-few}

@@ -6,8 +6,6 @@ use Prim.Native.Nat.{ℕ, zero, suc, _+_, _-_, _/_, _%_, _≤_, _<_}
 use native.Mathlib.Nat.{mod-lt}
 use native.Mathlib.Omega.{arith}
 use lib.ListN.{length, drop, set, length-set}
-use borrow.Author.Needs.{needs}
-use denote.Ref.{now}
 use Rattle.layered.specs.Histories.{historyWords}
 use Rattle.distinguish.proofs.store_words.Statement.{statement}
 use Rattle.distinguish.proofs.store_words.Tie as tie
