@@ -105,8 +105,8 @@ fn is_connected(circuit: &[u8], source: Source, q: usize) -> bool
     !is_unconnected(circuit, own, own.gates - own.total + k)
 }
 
-// The operands of gate g of what is folded: one of the circuit or network, or one that shows its output at a place.
-pub fn gate_of(circuit: &[u8], source: Source, g: usize) -> Gate
+// The operands of gate g of what is folded, where the lists of places have a say: one of the network, or one that shows its output at a place.
+fn gate_by_lists(circuit: &[u8], source: Source, g: usize) -> Gate
     requires { ⌜ SourceOf (now circuit) source × (g < gates (sourced source (now circuit))) ⌝ }
     ensures { λ r. ⌜ GateOf (sourced source (now (circuit .entry))) g r ⌝ }
 {
@@ -127,6 +127,17 @@ pub fn gate_of(circuit: &[u8], source: Source, g: usize) -> Gate
         };
     }
     Gate { left: 0, right: 0 }
+}
+
+// The operands of gate g of what is folded. A circuit as it stands is read with no further copy of the source.
+pub fn gate_of(circuit: &[u8], source: Source, g: usize) -> Gate
+    requires { ⌜ SourceOf (now circuit) source × (g < gates (sourced source (now circuit))) ⌝ }
+    ensures { λ r. ⌜ GateOf (sourced source (now (circuit .entry))) g r ⌝ }
+{
+    if source.whole {
+        return read_gate(circuit, source.own, g);
+    }
+    gate_by_lists(circuit, source, g)
 }
 
 // The connected outputs of frame t, from 0.
