@@ -1,21 +1,17 @@
--- The bits of a sequence's number that are the inputs of a source, and the signals that its places of outputs show, case by case. Assumes nothing.
-use mathlib.Core.Path.{_≡_, refl, sym, ap, ap₂, _∙_}
+-- The bits of a sequence's number that are the inputs of a source, case by case. Assumes nothing.
+use mathlib.Core.Path.{_≡_, ap, ap₂}
 use mathlib.Core.Bool.{true, false}
 use mathlib.Core.Logic.{⊎-elim}
 use mathlib.Core.List.{List}
 use Prim.Native.Nat.{ℕ, suc, _+_, _*_, _-_, _/_, _%_, _≤_, _<_}
 use native.Mathlib.Nat.{mul-comm, mul-suc, mul-le-mul-right, div-lt-iff-lt-mul, div-add-mod', mod-lt, eq-or-lt-of-le}
 use native.Mathlib.Omega.{arith}
-use lib.Dec.{ltb}
 use lib.ListN.{length, getD, set}
 use lib.Seq.{getD-set-same, getD-set-other}
 use borrow.Author.Tests.{lt-ltb, le-ltb}
-use Rattle.sizes.specs.Limits.{mostBits}
-use Rattle.circuit.specs.Limits.{mostSignals}
 use Rattle.circuit.specs.Circuit.{frameOf}
-use Rattle.source.specs.Source.{itemIn}
 use Rattle.source.specs.declared.Source.{Source}
-use Rattle.causal.specs.Played.{Placed, placeBit, ownBit, shownSignal}
+use Rattle.causal.specs.Played.{placeBit, ownBit}
 
 -- ---- a place's frame and its bit
 
@@ -62,17 +58,6 @@ module _ (s : Source) (i : ℕ) where
     pub own-place : i + 1 < s .own .base → ownBit s i ≡ placeBit (s .inputs) (s .frames) (getD (s .places) i 0)
     unfolding ownBit
     own-place h = rw (e, lt-ltb (i + 1) (s .own .base) h)
-
--- ---- the signal that is shown
-
-module _ (s : Source) (q k : ℕ) (e : k ≡ itemIn s q) where
-  pub shown-none : s .own .total ≤ k → 0 ≡ shownSignal s q
-  unfolding shownSignal
-  shown-none h = rw (le-ltb (itemIn s q) (s .own .total) (omega arith))
-
-  pub shown-item : k < s .own .total → s .own .base + (s .own .gates - s .own .total) + k ≡ shownSignal s q
-  unfolding shownSignal
-  shown-item h = rw (lt-ltb (itemIn s q) (s .own .total) (omega arith)) (omega arith)
 
 -- ---- a list of numbers, stored one by one
 

@@ -1,6 +1,6 @@
 -- The lanes that the circuit or network has, played by its own inputs, have the outputs of the circuit that the source is. Assumes nothing.
 use mathlib.Core.Path.{_≡_, refl, sym, ap, ap₂, _∙_}
-use mathlib.Core.Bool.{Bool, true, false, cond, false≢true}
+use mathlib.Core.Bool.{Bool, true, false, cond}
 use mathlib.Core.Logic.{⊎-elim}
 use mathlib.Core.List.{List, []}
 use Prim.Native.Nat.{ℕ, suc, _+_, _*_, _-_, _/_, _%_, _^_, _≤_, _<_}
@@ -9,38 +9,37 @@ use native.Mathlib.Omega.{arith}
 use lib.Dec.{ltb}
 use lib.ListN.{length, getD}
 use lib.Seq.{getD-take}
-use lib.Pow.{pow-pos}
 use borrow.Author.Tests.{lt-ltb, le-ltb}
 use Rattle.sizes.specs.Limits.{mostBits}
-use Rattle.sizes.specs.Sizes.{inputs, outputs, frames}
+use Rattle.sizes.specs.Sizes.{inputs, frames}
 use Rattle.layered.specs.Histories.{historyWords}
 use Rattle.layered.proofs.Histories.{history-length}
 use Rattle.layered.proofs.Search.{below-or}
-use Rattle.circuit.specs.Limits.{mostSignals}
 use Rattle.circuit.specs.Lists.{listed, bit}
 use Rattle.circuit.specs.Circuit.{gates, allInputs, allOutputs, gateSignal, gateOfOutput, outputSignal, gateValue, signalValues}
 use Rattle.circuit.specs.Circuit as circuit
 use Rattle.circuit.specs.WellFormed.{CircuitHeaded, WellFormed}
 use Rattle.circuit.proofs.Bits.{equal-bits}
 use Rattle.circuit.proofs.Lists.{listed-at, listed-length, grown-start}
-use Rattle.circuit.proofs.Laws.{output-in, packed-below}
+use Rattle.circuit.proofs.Laws.{packed-below}
 use Rattle.circuit.proofs.Ahead.{output-value}
 use Rattle.functions.specs.Functions.{signalOn, outputOn}
 use Rattle.functions.proofs.Sequences.{bitsOf, words-listed}
 use Rattle.functions.proofs.Outputs.{values-on}
 use Rattle.source.specs.Rearranged.{itemAt}
-use Rattle.source.specs.Source.{headOf, sourced, itemIn, Spreads, SourceOf, stands, spread}
+use Rattle.source.specs.Source.{sourced, itemIn, shownSignal, Spreads, SourceOf, stands, spread}
 use Rattle.source.specs.declared.Source.{Source}
 use Rattle.source.proofs.Rearranged.{b, rearranged-formed, rearranged-head, outputs-are}
+use Rattle.source.proofs.Standing.{shown-none, shown-item}
 use Rattle.source.proofs.Signals.{output-same}
-use Rattle.source.proofs.Sources.{sourced-whole, sourced-spread, own-well}
+use Rattle.source.proofs.Sources.{sourced-whole, sourced-spread, is-spread}
 use Rattle.lanes.specs.Limits.{laneCount}
 use Rattle.lanes.specs.Lanes.{lane, sequence, picked, Lanes, SignalLanes}
 use Rattle.lanes.proofs.Laws.{lane-at, whole, picked-bit, input-bit}
 use Rattle.blocks.specs.Blocks.{Holds}
 use Rattle.causal.specs.Limits.{mostAllOutputs}
-use Rattle.causal.specs.Played.{Placed, placeBit, ownBit, OwnBits, shownSignal, ShownSignals, Outputs}
-use Rattle.causal.proofs.Places.{own-whole, own-place, shown-item, shown-none}
+use Rattle.causal.specs.Played.{Placed, placeBit, OwnBits, ShownSignals, Outputs}
+use Rattle.causal.proofs.Places.{own-whole, own-place}
 
 -- ---- the outputs of a circuit by the bits of a sequence
 
@@ -198,15 +197,12 @@ module _ (c : List ℕ) (s : Source) (bits shown : List ℕ) (OB : OwnBits s bit
 
 -- ---- what playing asks of a source
 
-module _ (c : List ℕ) (s : Source) where
-  pub placed : SourceOf c s → s .whole ≡ false → Placed s
-  placed (stands O _) e = absurd (false≢true (sym e ∙ O .whole-is))
-  placed (spread w P) e = record {
-    inputs-from = P .sizes .inputs-from;
-    inputs-to = P .sizes .inputs-to;
-    bits-to = P .sizes .bits-to;
-    places-in = λ i h. P .places-in i (omega (arith, P .network .head-is .base-is));
-  }
-
-  pub own-room : SourceOf c s → (s .own .base + s .own .gates ≤ mostSignals) × (s .own .total ≤ s .own .gates)
-  own-room S = let W = own-well c s S in (omega (arith, W), omega (arith, W))
+pub placed : (c : List ℕ) (s : Source) → SourceOf c s → s .whole ≡ false → Placed s
+placed c s S e =
+    let P = is-spread c s S e in
+    record {
+      inputs-from = P .sizes .inputs-from;
+      inputs-to = P .sizes .inputs-to;
+      bits-to = P .sizes .bits-to;
+      places-in = λ i h. P .places-in i (omega (arith, P .network .head-is .base-is));
+    }

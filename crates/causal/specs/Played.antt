@@ -10,7 +10,7 @@ use Rattle.sizes.specs.Limits.{mostInputs, mostBits}
 use Rattle.circuit.specs.Limits.{mostSignals}
 use Rattle.circuit.specs.Lists.{blockStart}
 use Rattle.circuit.specs.Circuit.{allOutputs, outputOn, laterInputs, asFirst}
-use Rattle.source.specs.Source.{itemIn}
+use Rattle.source.specs.Source.{shownSignal}
 use Rattle.source.specs.declared.Source.{Source}
 use Rattle.lanes.specs.Limits.{laneCount}
 use Rattle.blocks.specs.Blocks.{Holds}
@@ -38,11 +38,7 @@ pub record OwnBits (s : Source) (v : List ℕ) : Type 0 where
   pub as-many : length v ≡ mostBits
   pub are : (i : ℕ) → i < mostBits → (getD v i 0 ≡ ownBit s i) × (getD v i 0 < mostBits)
 
--- the signal of the circuit or network that place q of an output shows; the constant where it shows none
-unfoldable pub shownSignal : Source → (q : ℕ) → ℕ
-shownSignal s q = cond (ltb (itemIn s q) (s .own .total)) (s .own .base + (s .own .gates - s .own .total) + itemIn s q) 0
-
--- v has these signals
+-- v has the signals that the places of outputs show
 pub record ShownSignals (s : Source) (v : List ℕ) : Type 0 where
   pub as-many : length v ≡ mostAllOutputs
   pub are : (q : ℕ) → q < mostAllOutputs → (getD v q 0 ≡ shownSignal s q) × (getD v q 0 < mostSignals)

@@ -10,7 +10,7 @@ use latest::first_reaching;
 use latest::output_frame;
 use sizes::power;
 use source::Source;
-use source::item_at;
+use source::shown_signal;
 use verdict::Refusal;
 use verdict::Verdict;
 ghost use mathlib.Core.Path.{_≡_};
@@ -26,7 +26,7 @@ ghost use Rattle.circuit.specs.Theorems.{FirstAhead, JudgedAlike, AcceptedCausa
 ghost use Rattle.source.specs.Source.{sourced, SourceOf};
 ghost use Rattle.lanes.specs.Limits.{laneCount};
 ghost use Rattle.causal.specs.Limits.{mostAllOutputs};
-ghost use Rattle.causal.specs.Played.{Placed, ownBit, OwnBits, shownSignal, ShownSignals, Outputs, Firsts, FirstDiffering};
+ghost use Rattle.causal.specs.Played.{Placed, ownBit, OwnBits, ShownSignals, Outputs, Firsts, FirstDiffering};
 
 // The most outputs over all frames.
 pub struct Limits;
@@ -71,20 +71,7 @@ fn own_bits(source: Source) -> [usize; sizes::Limits::BITS]
     bits
 }
 
-// The signal of the circuit or network that place q of an output shows; the constant where it shows none.
-fn shown_signal(source: Source, q: usize) -> usize
-    requires { ⌜ (source .whole ≡ false → source .own .total ≤ mostOutputs) × (source .own .base + source .own .gates ≤ mostSignals) × (source .own .total ≤ source .own .gates) ⌝ }
-    ensures { λ r. ⌜ (r ≡ shownSignal source q) × (r < mostSignals) ⌝ }
-{
-    let own = source.own;
-    let k = item_at(source, q);
-    if own.total <= k {
-        return 0;
-    }
-    own.base + (own.gates - own.total) + k
-}
-
-// These signals of all places.
+// The signals that all places of outputs show.
 fn shown_signals(source: Source) -> [usize; Limits::OUTPUTS]
     requires { ⌜ (source .whole ≡ false → source .own .total ≤ mostOutputs) × (source .own .base + source .own .gates ≤ mostSignals) × (source .own .total ≤ source .own .gates) ⌝ }
     ensures { λ r. ⌜ ShownSignals source r ⌝ }

@@ -1,22 +1,22 @@
 -- Laws of latest frames as the code has them. Assumes nothing.
 use mathlib.Core.Path.{_≡_, refl, sym, ap, ap₂, _∙_}
+use mathlib.Core.Bool.{true, false}
 use mathlib.Core.List.{List, [], _∷_, _++_}
 use Prim.Native.Nat.{ℕ, zero, suc, _+_, _*_, _-_, _/_, _%_, _≤_, _<_, max}
-use native.Mathlib.Nat.{mul-comm, mod-lt, div-add-mod, div-lt-iff-lt-mul}
+use native.Mathlib.Nat.{add-zero, mul-comm, mod-lt, div-add-mod, div-lt-iff-lt-mul}
 use native.Mathlib.Numerals.{add-one}
 use native.Mathlib.Decide.{decLt}
 use native.Mathlib.Omega.{arith}
-use lib.ListN.{length, getD, take, set}
+use lib.ListN.{length, getD, take, set, length-set}
 use lib.Arith.{digits-div, digits-mod}
 use lib.Seq.{take-suc, getD-take, getD-set-same, getD-set-other}
-use lib.Dec.{ltb}
-use Rattle.sizes.specs.Sizes.{inputs, outputs}
-use Rattle.circuit.specs.Lists.{grown}
-use Rattle.circuit.specs.Circuit.{gates, leftsAt, rightsAt, operand, allInputs, gateSignal, outputSignal, frameOf}
+use Rattle.circuit.specs.Lists.{grown, listed}
+use Rattle.circuit.specs.Circuit.{leftsAt, rightsAt, operand, frameOf}
 use Rattle.circuit.specs.Frames.{OnlyInputOf}
 use Rattle.circuit.proofs.Laws.{fill-grown}
 use Rattle.circuit.proofs.Frames.{frame-output, only-input}
-use Rattle.latest.specs.Latest.{inputFrames, InputsTo, laterFrame, latestFrames, reachesLater}
+use Rattle.source.specs.declared.Source.{Source}
+use Rattle.latest.specs.Latest.{inputFrames, InputsTo, laterFrame, ownInputFrames}
 
 -- ---- inputs
 
@@ -84,18 +84,46 @@ input-only n T v hn I s h l =
     let stored : getD v s 0 ≡ frameOf n i = ap (λ x. getD v x 0) (sym e) ∙ input-frame n T v hn I i (omega arith) in
     rw stored (only-input n (frameOf n i) s (omega (arith, frame-output n i hn)))
 
+-- ---- the inputs of a source
+
+module _ (s : Source) where
+  -- of a circuit as it stands
+  pub own-inputs-whole : (v : List ℕ) (count : ℕ) → s .whole ≡ true → s .own .base ≡ 1 + count → take (1 + count) v ≡ inputFrames (s .inputs) count → take (s .own .base) v ≡ ownInputFrames s
+  unfolding ownInputFrames
+  own-inputs-whole v count e b h =
+      let p : count ≡ s .own .base - 1 = omega arith in
+      rw e (ap (λ i. take i v) b ∙ h ∙ ap (inputFrames (s .inputs)) p)
+
+  -- of a network: of the constant and the first i inputs
+  abbrev pub placed : (i : ℕ) → List ℕ
+  placed i = listed (0 ∷ []) (λ i. frameOf (s .inputs) (getD (s .places) i 0)) i
+
+  pub placed-none : (v : List ℕ) → 0 < length v → take (1 + 0) (set v 0 0) ≡ placed 0
+  unfolding grown
+  placed-none v h = take-suc (set v 0 0) 0 0 (simp length-set h) ∙ ap (λ x. x ∷ []) (getD-set-same v 0 0 0 h)
+
+  pub placed-more : (v : List ℕ) (i x : ℕ) → 1 + i < length v → take (1 + i) v ≡ placed i → x ≡ frameOf (s .inputs) (getD (s .places) i 0) → take (1 + (i + 1)) (set v (1 + i) x) ≡ placed (i + 1)
+  placed-more v i x h e ex = fill-grown (0 ∷ []) (λ _ i. frameOf (s .inputs) (getD (s .places) i 0)) v (1 + i) i x h e ex (1 + (i + 1)) (i + 1) (omega arith) refl
+
+  pub placed-all : (v : List ℕ) (i : ℕ) → s .whole ≡ false → s .own .base ≡ 1 + i → take (1 + i) v ≡ placed i → take (s .own .base) v ≡ ownInputFrames s
+  unfolding ownInputFrames
+  placed-all v i e b h =
+      let p : i ≡ s .own .base - 1 = omega arith in
+      rw e (ap (λ i. take i v) b ∙ h ∙ ap placed p)
+
 -- ---- gates
 
-pub latest-more : (b v : List ℕ) (g n l r : ℕ) → n < length v → take n v ≡ latestFrames b g
-    → l ≡ operand b (leftsAt b) g → r ≡ operand b (rightsAt b) g → l / 2 < n → r / 2 < n
-    → (j : ℕ) → j ≡ n + 1 → take j (set v n (max (getD v (l / 2) 0) (getD v (r / 2) 0))) ≡ latestFrames b (g + 1)
-unfolding latestFrames laterFrame
-latest-more b v g n l r room e el er hl hr j ej =
-    fill-grown (inputFrames (inputs b) (allInputs b)) (laterFrame b) v n g _ room e
-    (rw (← e, ← el, ← er, getD-take n v (l / 2) 0 hl, getD-take n v (r / 2) 0 hr)) j (g + 1) ej refl
+-- before the first gate there is what v begins with
+pub latest-none : (b v : List ℕ) (n : ℕ) → take (n + 0) v ≡ grown (take n v) (laterFrame b) 0
+unfolding grown
+latest-none b v n = ap (λ i. take i v) (add-zero n)
 
--- output q's frame against its latest frame, which the array v holds at `at`
-pub reaches-is : (b v : List ℕ) (m f at q : ℕ) → take (gateSignal b (gates b)) v ≡ latestFrames b (gates b) → m ≡ outputs b → f ≡ frameOf m q
-    → at ≡ outputSignal b q → at < gateSignal b (gates b) → reachesLater b q ≡ ltb f (getD v at 0)
-unfolding reachesLater
-reaches-is b v m f at q e em ef ea h = rw (← e, ← em, ← ef, ← ea, getD-take (gateSignal b (gates b)) v at 0 h)
+module _ (start b v : List ℕ) where
+  -- one gate more, where v begins with what was grown of `start`
+  pub latest-more : (g n l r : ℕ) → n < length v → take n v ≡ grown start (laterFrame b) g
+      → l ≡ operand b (leftsAt b) g → r ≡ operand b (rightsAt b) g → l / 2 < n → r / 2 < n
+      → (j : ℕ) → j ≡ n + 1 → take j (set v n (max (getD v (l / 2) 0) (getD v (r / 2) 0))) ≡ grown start (laterFrame b) (g + 1)
+  unfolding laterFrame
+  latest-more g n l r room e el er hl hr j ej =
+      fill-grown start (laterFrame b) v n g _ room e
+      (rw (← e, ← el, ← er, getD-take n v (l / 2) 0 hl, getD-take n v (r / 2) 0 hr)) j (g + 1) ej refl

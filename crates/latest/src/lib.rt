@@ -1,8 +1,10 @@
 // The latest frames that the signals of a circuit, or of a network by its source, depend on by their gates, and the first output whose gates reach a later frame than its own.
 use circuit::Limits;
+use circuit::read_gate;
 use source::Source;
-use source::gate_of;
+use source::shown_signal;
 ghost use mathlib.Core.Path.{_≡_};
+ghost use mathlib.Core.List.{List};
 ghost use Prim.Native.Nat.{ℕ, _+_, _*_, _≤_, _<_, max};
 ghost use lib.ListN.{length, getD, take, replicate};
 ghost use Rattle.sizes.specs.Limits.{mostOutputs, mostBits};
@@ -11,7 +13,7 @@ ghost use Rattle.circuit.specs.Limits.{mostWired, mostSignals};
 ghost use Rattle.circuit.specs.Circuit.{gates, gateSignal, allOutputs, frameOf};
 ghost use Rattle.circuit.specs.Frames.{NotAfter, OnlyInputOf, OnlyOutputOf};
 ghost use Rattle.source.specs.Source.{sourced, SourceOf};
-ghost use Rattle.latest.specs.Latest.{inputFrames, InputsTo, latestFrames, reachesLater};
+ghost use Rattle.latest.specs.Latest.{inputFrames, InputsTo, reachesLater, ownInputFrames, ownFrames};
 
 // The frame, from 1, of output q, counted along from a frame that is not later.
 pub fn output_frame(outputs: usize, from: usize, q: usize) -> usize
@@ -66,24 +68,43 @@ fn store_inputs(inputs: usize, frames: usize, latest: &mut [u8])
     }
 }
 
-// Stores the latest frames of all signals.
+// Stores the latest frames of the constant and of all inputs of what is read: those of a network's by their places.
+fn store_own_inputs(source: Source, latest: &mut [u8])
+    requires { ⌜ ((c : List ℕ) × SourceOf c source) ⌝ }
+    requires { ⌜ mostSignals ≤ length (now latest) ⌝ }
+    ensures { λ _. ⌜ take (source .own .base) (now (latest .exit)) ≡ ownInputFrames source ⌝ }
+{
+    if source.whole {
+        store_inputs(source.inputs, source.frames, latest);
+        return;
+    }
+    latest[0] = 0;
+    let count = source.own.base - 1;
+    for i in 0..count {
+        latest[1 + i] = output_frame(source.inputs, 1, source.places[i] as usize) as u8;
+    }
+}
+
+// Stores the latest frames of all signals, in the numbering of what is read.
 fn store_signals(circuit: &[u8], source: Source, latest: &mut [u8])
     requires { ⌜ SourceOf (now circuit) source ⌝ }
     requires { ⌜ mostSignals ≤ length (now latest) ⌝ }
-    ensures { λ _. ⌜ take (gateSignal (sourced source (now (circuit .entry))) (gates (sourced source (now (circuit .entry))))) (now (latest .exit)) ≡ latestFrames (sourced source (now (circuit .entry))) (gates (sourced source (now (circuit .entry)))) ⌝ }
+    ensures { λ _. ⌜ take (gateSignal (now (circuit .entry)) (gates (now (circuit .entry)))) (now (latest .exit)) ≡ ownFrames source (now (circuit .entry)) (gates (now (circuit .entry))) ⌝ }
 {
-    let count = source.gates;
-    let base = source.base;
-    store_inputs(source.inputs, source.frames, latest);
+    let own = source.own;
+    let count = own.gates;
+    let base = own.base;
+    store_own_inputs(source, latest);
     for g in 0..count {
-        let gate = gate_of(circuit, source, g);
+        let gate = read_gate(circuit, own, g);
         let left = gate.left / 2;
         let right = gate.right / 2;
         latest[base + g] = later(latest[left], latest[right]);
     }
 }
 
-// The first output whose gates reach an input of a later frame; the number of outputs where there is none.
+// The first output whose gates reach an input of a later frame; the number of outputs where there is none. A place of an output has the latest frame of the
+// signal that it shows.
 pub fn first_reaching(circuit: &[u8], source: Source) -> usize
     requires { ⌜ SourceOf (now circuit) source ⌝ }
     ensures { λ r. ⌜ r ≡ least (allOutputs (sourced source (now (circuit .entry)))) (reachesLater (sourced source (now (circuit .entry)))) ⌝ }
@@ -91,11 +112,10 @@ pub fn first_reaching(circuit: &[u8], source: Source) -> usize
     let mut latest = room();
     store_signals(circuit, source, &mut latest);
     let total = source.total;
-    let first = source.base + (source.gates - total);
     let mut frame = 1;
     for q in 0..total {
         frame = output_frame(source.outputs, frame, q);
-        if (frame as u8) < latest[first + q] {
+        if (frame as u8) < latest[shown_signal(source, q)] {
             return q;
         }
     }

@@ -1,19 +1,19 @@
 -- What is read of a source is what the circuit that it is has. Assumes nothing.
-use mathlib.Core.Path.{_≡_, refl, sym, ap, ap₂, _∙_, subst}
-use mathlib.Core.Bool.{Bool, true, false, not, _&&_, false≢true}
+use mathlib.Core.Path.{_≡_, refl, sym, ap, _∙_, subst}
+use mathlib.Core.Bool.{Bool, true, false, not, false≢true}
 use mathlib.Core.List.{List}
-use Prim.Native.Nat.{ℕ, _+_, _*_, _-_, _/_, _%_, _≤_, _<_}
+use Prim.Native.Nat.{ℕ, _+_, _*_, _-_, _/_, _≤_, _<_}
 use native.Mathlib.Omega.{arith}
 use lib.Dec.{ltb}
-use lib.ListN.{getD}
 use borrow.Author.Tests.{lt-ltb, le-ltb}
 use Rattle.layered.proofs.Search.{least-le}
-use Rattle.circuit.specs.Circuit.{gates, leftsAt, rightsAt, allInputs, allOutputs, gateOfOutput, unconnected, operand}
+use Rattle.circuit.specs.Limits.{mostSignals}
+use Rattle.circuit.specs.Circuit.{gates, allInputs, allOutputs, gateOfOutput, unconnected}
 use Rattle.circuit.specs.WellFormed.{WellFormed, Formed, GateOf}
 use Rattle.circuit.specs.declared.Head.{Head}
 use Rattle.circuit.specs.declared.Gate.{Gate}
 use Rattle.circuit.proofs.Accepted.{well-formed}
-use Rattle.source.specs.Rearranged.{rearranged, renamed, standing, itemAt, connectsAt, shownLiteral}
+use Rattle.source.specs.Rearranged.{rearranged, renamed, itemAt, connectsAt, shownLiteral}
 use Rattle.source.specs.Source.{headOf, sourced, standingIn, renamedIn, itemIn, Renames, Spreads, WholeOf, SourceOf, stands, spread}
 use Rattle.source.specs.declared.Source.{Source}
 use Rattle.source.proofs.Rearranged.{rearranged-well, gates-are, inner-gate, shown-gate, blank-gate, place-unconnected}
@@ -32,9 +32,22 @@ module _ (c : List ℕ) (s : Source) where
   pub whole-source : Formed c → WholeOf c s → SourceOf c s
   whole-source F O = stands O (subst (WellFormed c) (sym (O .own-is)) (well-formed F (O .head-is)))
 
+  -- whether it is so is told by the flag
+  pub is-whole : SourceOf c s → s .whole ≡ true → WholeOf c s
+  is-whole (stands O _) e = O
+  is-whole (spread w _) e = absurd (false≢true (sym w ∙ e))
+
+  pub is-spread : SourceOf c s → s .whole ≡ false → Spreads c s
+  is-spread (stands O _) e = absurd (false≢true (sym e ∙ O .whole-is))
+  is-spread (spread _ P) e = P
+
   pub own-well : SourceOf c s → WellFormed c (s .own)
   own-well (stands O W) = W
   own-well (spread w P) = P .network
+
+  -- it has room for its signals
+  pub own-room : SourceOf c s → (s .own .base + s .own .gates ≤ mostSignals) × (s .own .total ≤ s .own .gates)
+  own-room S = let W = own-well S in (omega (arith, W), omega (arith, W))
 
   pub well : SourceOf c s → WellFormed (sourced s c) (headOf s)
   well (stands O W) = subst (λ b. WellFormed b (headOf s)) (sym (sourced-whole (O .whole-is))) (subst (WellFormed c) (O .own-is) W)
@@ -55,14 +68,11 @@ module _ (c : List ℕ) (s : Source) where
 
   -- a signal before a gate can be renamed
   pub can-rename : SourceOf c s → (g l : ℕ) → g < gates c → l / 2 < 1 + allInputs c + g → (l < 65536) × (s .whole ≡ false → Renames s (l / 2))
-  can-rename S g l h k = (omega (arith, W .headed .inputs-to, W .headed .gates-to), λ e. go S e)
-    where
-      W : WellFormed c (s .own)
-      W = own-well S
-
-      go : SourceOf c s → s .whole ≡ false → Renames s (l / 2)
-      go (stands O _) e = absurd (false≢true (sym e ∙ O .whole-is))
-      go (spread w P) e = renames P (l / 2) (omega (arith, P .base-is, P .sizes .bits-to, W .headed .inputs-to, W .headed .gates-to))
+  can-rename S g l h k =
+      let W = own-well S in (
+        omega (arith, W .headed .inputs-to, W .headed .gates-to),
+        λ e. let P = is-spread S e in renames P (l / 2) (omega (arith, P .base-is, P .sizes .bits-to, W .headed .inputs-to, W .headed .gates-to)),
+      )
 
   -- a literal of a circuit as it stands is itself
   whole-literal : s .whole ≡ true → (l : ℕ) → renamedIn s l ≡ l
@@ -99,13 +109,12 @@ module _ (c : List ℕ) (s : Source) where
   -- ---- connected outputs
 
   -- the item that stands at a place
-  spread-item : s .whole ≡ false → Spreads c s → (q : ℕ) → itemIn s q ≡ itemAt (allOutputs c) (s .shown) q
+  pub spread-item : s .whole ≡ false → Spreads c s → (q : ℕ) → itemIn s q ≡ itemAt (allOutputs c) (s .shown) q
   unfolding itemIn
   spread-item e P q = rw (e, P .network .head-is .total-is)
 
   pub few-items : SourceOf c s → s .whole ≡ false → s .own .total ≤ 16
-  few-items (stands O _) e = absurd (false≢true (sym e ∙ O .whole-is))
-  few-items (spread w P) e = omega (arith, P .few-outputs, P .network .head-is .total-is)
+  few-items S e = let P = is-spread S e in omega (arith, P .few-outputs, P .network .head-is .total-is)
 
   pub item-most : s .whole ≡ false → (q : ℕ) → itemIn s q ≤ s .own .total
   unfolding itemIn itemAt

@@ -1,16 +1,16 @@
 -- Where signals stand and what is shown, case by case. Assumes nothing.
-use mathlib.Core.Path.{_≡_, refl, sym, ap, _∙_}
+use mathlib.Core.Path.{_≡_, refl, sym}
 use mathlib.Core.Bool.{Bool, true, false}
 use mathlib.Core.Logic.{inl, inr, ⊎-elim}
 use mathlib.Core.List.{List}
-use Prim.Native.Nat.{ℕ, suc, _+_, _*_, _-_, _/_, _%_, _≤_, _<_}
+use Prim.Native.Nat.{ℕ, _+_, _*_, _-_, _/_, _%_, _≤_, _<_}
 use native.Mathlib.Omega.{arith}
 use lib.Dec.{ltb, eqb}
 use lib.ListN.{getD}
-use borrow.Author.Tests.{lt-ltb, le-ltb, ltb-true, ltb-false, eq-eqb, ne-eqb, eqb-true, eqb-false}
+use borrow.Author.Tests.{lt-ltb, le-ltb, ltb-true, ltb-false, ne-eqb, eqb-true, eqb-false}
 use Rattle.layered.proofs.Search.{below-or, least-is}
 use Rattle.source.specs.Rearranged.{standing, renamed, itemAt}
-use Rattle.source.specs.Source.{standingIn, renamedIn, itemIn, Renames}
+use Rattle.source.specs.Source.{standingIn, itemIn, shownSignal, Renames}
 use Rattle.source.specs.declared.Source.{Source}
 
 -- ---- as which signal a signal stands
@@ -102,3 +102,14 @@ module _ (s : Source) (q : ℕ) where
     pub item-none : ((i : ℕ) → i < s .own .total → eqb (getD (s .shown) i 0) q ≡ false) → s .own .total ≡ itemIn s q
     unfolding itemIn itemAt
     item-none N = rw e (sym (least-is (s .own .total) (s .own .total) (λ k. eqb (getD (s .shown) k 0) q) (omega arith) N (λ h. absurd (omega arith))))
+
+-- ---- the signal that is shown
+
+module _ (s : Source) (q k : ℕ) (e : k ≡ itemIn s q) where
+  pub shown-none : s .own .total ≤ k → 0 ≡ shownSignal s q
+  unfolding shownSignal
+  shown-none h = rw (le-ltb (itemIn s q) (s .own .total) (omega arith))
+
+  pub shown-item : k < s .own .total → s .own .base + (s .own .gates - s .own .total) + k ≡ shownSignal s q
+  unfolding shownSignal
+  shown-item h = rw (lt-ltb (itemIn s q) (s .own .total) (omega arith)) (omega arith)

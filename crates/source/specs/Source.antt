@@ -3,6 +3,7 @@ use Prim.Native.Nat.{ℕ, _+_, _*_, _-_, _/_, _%_, _≤_, _<_}
 use mathlib.Core.Path.{_≡_}
 use mathlib.Core.List.{List}
 use mathlib.Core.Bool.{true, false, cond}
+use lib.Dec.{ltb}
 use lib.ListN.{getD}
 use Rattle.sizes.specs.Limits.{mostInputs, mostOutputs, mostBits}
 use Rattle.sizes.specs.Sizes.{frames}
@@ -32,6 +33,10 @@ renamedIn s literal = 2 * standingIn s (literal / 2) + literal % 2
 
 unfoldable pub itemIn : Source → (q : ℕ) → ℕ
 itemIn s q = cond (s .whole) q (itemAt (s .own .total) (s .shown) q)
+
+-- the signal of the circuit or network that place q of an output shows; the constant where it shows none
+unfoldable pub shownSignal : Source → (q : ℕ) → ℕ
+shownSignal s q = cond (ltb (itemIn s q) (s .own .total)) (s .own .base + (s .own .gates - s .own .total) + itemIn s q) 0
 
 -- what renaming a signal of a network needs
 pub record Renames (s : Source) (signal : ℕ) : Type 0 where

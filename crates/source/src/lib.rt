@@ -6,11 +6,12 @@ use circuit::is_unconnected;
 use circuit::read_gate;
 ghost use mathlib.Core.Path.{_≡_};
 ghost use mathlib.Core.Bool.{false, not};
-ghost use Prim.Native.Nat.{_/_, _≤_, _<_};
+ghost use Prim.Native.Nat.{_+_, _/_, _≤_, _<_};
 ghost use Rattle.sizes.specs.Limits.{mostOutputs};
+ghost use Rattle.circuit.specs.Limits.{mostSignals};
 ghost use Rattle.circuit.specs.Circuit.{gates, gateOfOutput, unconnected, connectedOutputs};
 ghost use Rattle.circuit.specs.WellFormed.{CircuitHeaded, GateOf};
-ghost use Rattle.source.specs.Source.{sourced, standingIn, renamedIn, itemIn, Renames, WholeOf, SourceOf};
+ghost use Rattle.source.specs.Source.{sourced, standingIn, renamedIn, itemIn, shownSignal, Renames, WholeOf, SourceOf};
 
 // The sizes of what is folded: those of the circuit, or those that are given for the network. `own` are the sizes of the circuit or network that is read,
 // and `whole` tells that it is folded as it stands; else `places` has the place of each of its inputs, and `shown` that of each of its outputs.
@@ -68,7 +69,7 @@ fn stands(source: Source, signal: usize) -> usize
 }
 
 // Which output of the circuit or network stands at place q; as many as it has where none does.
-pub fn item_at(source: Source, q: usize) -> usize
+fn item_at(source: Source, q: usize) -> usize
     requires { ⌜ (source .whole ≡ false → source .own .total ≤ mostOutputs) ⌝ }
     ensures { λ r. ⌜ r ≡ itemIn source q ⌝ }
 {
@@ -82,6 +83,19 @@ pub fn item_at(source: Source, q: usize) -> usize
         }
     }
     count
+}
+
+// The signal of the circuit or network that place q of an output shows; the constant where it shows none.
+pub fn shown_signal(source: Source, q: usize) -> usize
+    requires { ⌜ (source .whole ≡ false → source .own .total ≤ mostOutputs) × (source .own .base + source .own .gates ≤ mostSignals) × (source .own .total ≤ source .own .gates) ⌝ }
+    ensures { λ r. ⌜ (r ≡ shownSignal source q) × (r < mostSignals) ⌝ }
+{
+    let own = source.own;
+    let k = item_at(source, q);
+    if own.total <= k {
+        return 0;
+    }
+    own.base + (own.gates - own.total) + k
 }
 
 // A literal of the circuit or network, by the signal as which its own stands.

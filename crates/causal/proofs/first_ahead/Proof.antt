@@ -12,14 +12,14 @@ use Rattle.circuit.specs.Limits.{mostSignals}
 use Rattle.circuit.specs.Circuit.{allInputs}
 use Rattle.circuit.specs.WellFormed.{WellFormed}
 use Rattle.source.specs.Source.{headOf, sourced}
-use Rattle.source.proofs.Sources.{well, own-well, few-items}
+use Rattle.source.proofs.Sources.{well, own-well, own-room, few-items}
 use Rattle.lanes.specs.Limits.{laneCount}
 use Rattle.lanes.specs.Lanes.{FirstUses, Ready}
 use Rattle.lanes.proofs.Laws.{room-ready}
 use Rattle.causal.specs.Limits.{mostAllOutputs}
 use Rattle.causal.specs.Played.{Firsts}
 use Rattle.causal.proofs.Parts.{output-few}
-use Rattle.causal.proofs.Played.{outputs-played, placed, own-room}
+use Rattle.causal.proofs.Played.{outputs-played, placed}
 use Rattle.causal.proofs.Pass.{Pass, pass-start, pass-more, pass-end, pass-early}
 use Rattle.causal.proofs.first_ahead.Statement.{statement}
 use Rattle.causal.proofs.first_ahead.Tie as tie

@@ -5,8 +5,8 @@ use Prim.Native.Nat.{ℕ, _-_, _≤_, _<_}
 use native.Mathlib.Omega.{arith}
 use lib.ListN.{length, getD, length-set}
 use Rattle.circuit.specs.Limits.{mostSignals}
+use Rattle.source.specs.Source.{shownSignal}
 use Rattle.causal.specs.Limits.{mostAllOutputs}
-use Rattle.causal.specs.Played.{shownSignal}
 use Rattle.causal.proofs.Places.{stored-more}
 use Rattle.causal.proofs.shown_signals.Statement.{statement}
 use Rattle.causal.proofs.shown_signals.Tie as tie

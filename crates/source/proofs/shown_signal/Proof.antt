@@ -1,11 +1,11 @@
--- `causal::shown_signal` meets its contract.
+-- `source::shown_signal` meets its contract.
 -- Assumes nothing.
 use Prim.Native.Nat.{_<_}
 use native.Mathlib.Omega.{arith}
 use borrow.Author.Needs.{needs}
-use Rattle.causal.proofs.Places.{shown-none, shown-item}
-use Rattle.causal.proofs.shown_signal.Statement.{statement}
-use Rattle.causal.proofs.shown_signal.Tie as tie
+use Rattle.source.proofs.Standing.{shown-none, shown-item}
+use Rattle.source.proofs.shown_signal.Statement.{statement}
+use Rattle.source.proofs.shown_signal.Tie as tie
 
 item-at-requires : tie.Need-item-at-requires
 item-at-requires c κs = search needs
