@@ -1,12 +1,14 @@
 -- What is read of a source is what the circuit that it is has. Assumes nothing.
-use mathlib.Core.Path.{_≡_, refl, sym, ap, _∙_, subst}
+use mathlib.Core.Path.{_≡_, refl, sym, ap, ap₂, _∙_, subst}
 use mathlib.Core.Bool.{Bool, true, false, not, false≢true}
 use mathlib.Core.List.{List}
-use Prim.Native.Nat.{ℕ, _+_, _*_, _-_, _/_, _≤_, _<_}
+use Prim.Native.Nat.{ℕ, _+_, _*_, _-_, _≤_, _<_}
 use native.Mathlib.Omega.{arith}
 use lib.Dec.{ltb}
+use lib.ListN.{length}
 use borrow.Author.Tests.{lt-ltb, le-ltb}
 use Rattle.layered.proofs.Search.{least-le}
+use Rattle.sizes.specs.Limits.{mostBits}
 use Rattle.circuit.specs.Limits.{mostSignals}
 use Rattle.circuit.specs.Circuit.{gates, allInputs, allOutputs, gateOfOutput, unconnected}
 use Rattle.circuit.specs.WellFormed.{WellFormed, Formed, GateOf}
@@ -14,7 +16,7 @@ use Rattle.circuit.specs.declared.Head.{Head}
 use Rattle.circuit.specs.declared.Gate.{Gate}
 use Rattle.circuit.proofs.Accepted.{well-formed}
 use Rattle.source.specs.Rearranged.{rearranged, renamed, itemAt, connectsAt, shownLiteral}
-use Rattle.source.specs.Source.{headOf, sourced, standingIn, renamedIn, itemIn, Renames, Spreads, WholeOf, SourceOf, stands, spread}
+use Rattle.source.specs.Source.{headOf, sourced, itemIn, Renames, Spreads, WholeOf, SourceOf, stands, spread}
 use Rattle.source.specs.declared.Source.{Source}
 use Rattle.source.proofs.Rearranged.{rearranged-well, gates-are, inner-gate, shown-gate, blank-gate, place-unconnected}
 
@@ -55,51 +57,35 @@ module _ (c : List ℕ) (s : Source) where
 
   -- ---- gates
 
-  renames : Spreads c s → (x : ℕ) → s .base + x < 65536 → Renames s x
-  renames P x l =
+  -- a signal before a gate of a network can be renamed
+  pub renames : Spreads c s → (g x : ℕ) → g < gates c → x < 1 + allInputs c + g → mostBits ≤ length (s .places) → Renames (s .own .base) (s .base) (s .places) x
+  renames P g x h k n =
       let O = P .network .head-is in
       record {
-        inputs-to = omega (arith, O .base-is, P .network .headed .inputs-to);
-        base-from = omega (arith, O .base-is);
-        base-is = P .base-is;
-        low = l;
-        places-to = λ i h. omega (arith, P .places-in i (omega (arith, O .base-is)), P .sizes .bits-to);
+        first-from = omega (arith, O .base-is);
+        first-to = omega (arith, O .base-is, P .network .headed .inputs-to);
+        base-from = omega (arith, P .base-is);
+        low = omega (arith, P .base-is, P .sizes .bits-to, P .network .headed .inputs-to, P .network .headed .gates-to);
+        places-to = λ i l. omega (arith, P .places-in i (omega (arith, O .base-is)), P .sizes .bits-to);
       }
 
-  -- a signal before a gate can be renamed
-  pub can-rename : SourceOf c s → (g l : ℕ) → g < gates c → l / 2 < 1 + allInputs c + g → (l < 65536) × (s .whole ≡ false → Renames s (l / 2))
-  can-rename S g l h k =
-      let W = own-well S in (
-        omega (arith, W .headed .inputs-to, W .headed .gates-to),
-        λ e. let P = is-spread S e in renames P (l / 2) (omega (arith, P .base-is, P .sizes .bits-to, W .headed .inputs-to, W .headed .gates-to)),
-      )
+  -- a gate of a circuit as it stands is itself
+  pub whole-gate : s .whole ≡ true → (g : ℕ) (r : Gate) → GateOf c g r → GateOf (sourced s c) g r
+  whole-gate e g r G = subst (λ b. GateOf b g r) (sym (sourced-whole e)) G
 
-  -- a literal of a circuit as it stands is itself
-  whole-literal : s .whole ≡ true → (l : ℕ) → renamedIn s l ≡ l
-  unfolding renamedIn standingIn
-  whole-literal e l = rw e (omega arith)
+  -- a network's is renamed
+  pub spread-gate : s .whole ≡ false → Spreads c s → (g : ℕ) → g < gates c → (r x : Gate) → GateOf c g x
+      → r .left ≡ renamed (s .own .base - 1) (s .places) (s .base - 1) (x .left) → r .right ≡ renamed (s .own .base - 1) (s .places) (s .base - 1) (x .right) → GateOf (sourced s c) g r
+  spread-gate w P g l r x X el er = rw (sourced-spread w) (inner-gate c s P g l r (el ∙ same (x .left) ∙ ap name (X .left-is)) (er ∙ same (x .right) ∙ ap name (X .right-is)))
+    where
+      name : ℕ → ℕ
+      name l = renamed (allInputs c) (s .places) (s .inputs * s .frames) l
 
-  spread-literal : s .whole ≡ false → s .own .base ≡ 1 + allInputs c → (l : ℕ) → renamedIn s l ≡ renamed (allInputs c) (s .places) (s .inputs * s .frames) l
-  unfolding renamedIn standingIn renamed
-  spread-literal e o l =
-      let n : s .own .base - 1 ≡ allInputs c = omega arith in
-      rw (e, n)
-
-  pub own-gate : SourceOf c s → (g : ℕ) → g < gates c → (r x : Gate) → GateOf c g x → r .left ≡ renamedIn s (x .left) → r .right ≡ renamedIn s (x .right) → GateOf (sourced s c) g r
-  own-gate (stands O W) g l r x X el er =
-      let w = O .whole-is in
-      rw (sourced-whole w)
-      (record {
-        left-is = el ∙ whole-literal w (x .left) ∙ X .left-is;
-        right-is = er ∙ whole-literal w (x .right) ∙ X .right-is;
-        left-before = rw (el ∙ whole-literal w (x .left)) (X .left-before);
-        right-before = rw (er ∙ whole-literal w (x .right)) (X .right-before);
-      })
-  own-gate (spread w P) g l r x X el er =
-      let O = P .network .head-is .base-is in
-      rw (sourced-spread w)
-      (inner-gate c s P g l r (el ∙ spread-literal w O (x .left) ∙ ap (renamed (allInputs c) (s .places) (s .inputs * s .frames)) (X .left-is))
-      (er ∙ spread-literal w O (x .right) ∙ ap (renamed (allInputs c) (s .places) (s .inputs * s .frames)) (X .right-is)))
+      same : (l : ℕ) → renamed (s .own .base - 1) (s .places) (s .base - 1) l ≡ name l
+      same l =
+          let n : s .own .base - 1 ≡ allInputs c = omega (arith, P .network .head-is .base-is) in
+          let a : s .base - 1 ≡ s .inputs * s .frames = omega (arith, P .base-is) in
+          ap₂ (λ n a. renamed n (s .places) a l) n a
 
   -- a gate behind all of c's own: c is spread
   pub behind : SourceOf c s → (g : ℕ) → g < gates (sourced s c) → gates c ≤ g → (s .whole ≡ false) × Spreads c s × (g - gates c < s .total)
@@ -162,13 +148,13 @@ module _ (c : List ℕ) (s : Source) where
         twice true = refl
         twice false = refl
 
-    pub shows-none : false ≡ not (unconnected (sourced s c) (gateOfOutput (sourced s c) q)) → (g : ℕ) → g ≡ gates c + q → (r : Gate) → r .left ≡ 0 → r .right ≡ 0 → GateOf (sourced s c) g r
-    shows-none f g eg r el er = rw (sourced-spread w, eg) (blank-gate c s S q places-in (connected-is false f) r el er)
+    pub shows-none : false ≡ not (unconnected (sourced s c) (gateOfOutput (sourced s c) q)) → (r : Gate) → r .left ≡ 0 → r .right ≡ 0 → GateOf (sourced s c) (gates c + q) r
+    shows-none f r el er = rw (sourced-spread w) (blank-gate c s S q places-in (connected-is false f) r el er)
 
-    pub shows-item : true ≡ not (unconnected (sourced s c) (gateOfOutput (sourced s c) q)) → (g : ℕ) → g ≡ gates c + q → (r : Gate) → r .left ≡ 2 * (s .base + (s .own .gates - s .own .total + k)) → r .right ≡ 1 → GateOf (sourced s c) g r
+    pub shows-item : true ≡ not (unconnected (sourced s c) (gateOfOutput (sourced s c) q)) → (r : Gate) → r .left ≡ 2 * (s .base + (s .own .gates - s .own .total + k)) → r .right ≡ 1 → GateOf (sourced s c) (gates c + q) r
     unfolding shownLiteral
-    shows-item f g eg r el er =
+    shows-item f r el er =
         let O = S .network .head-is in
         let i = e ∙ spread-item w S q in
         let same : 2 * (s .base + (s .own .gates - s .own .total + k)) ≡ 2 * (1 + s .inputs * s .frames + gateOfOutput c (itemAt (allOutputs c) (s .shown) q)) = omega (arith, S .base-is, O .gates-is, O .total-is, i) in
-        rw (sourced-spread w, eg) (shown-gate c s S q places-in (connected-is true f) r (el ∙ same) er)
+        rw (sourced-spread w) (shown-gate c s S q places-in (connected-is true f) r (el ∙ same) er)

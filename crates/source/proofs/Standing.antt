@@ -1,16 +1,15 @@
 -- Where signals stand and what is shown, case by case. Assumes nothing.
 use mathlib.Core.Path.{_≡_, refl, sym}
 use mathlib.Core.Bool.{Bool, true, false}
-use mathlib.Core.Logic.{inl, inr, ⊎-elim}
 use mathlib.Core.List.{List}
-use Prim.Native.Nat.{ℕ, _+_, _*_, _-_, _/_, _%_, _≤_, _<_}
+use Prim.Native.Nat.{ℕ, _+_, _-_, _/_, _%_, _≤_, _<_}
 use native.Mathlib.Omega.{arith}
 use lib.Dec.{ltb, eqb}
 use lib.ListN.{getD}
 use borrow.Author.Tests.{lt-ltb, le-ltb, ltb-true, ltb-false, ne-eqb, eqb-true, eqb-false}
-use Rattle.layered.proofs.Search.{below-or, least-is}
+use Rattle.layered.proofs.Search.{least-is}
 use Rattle.source.specs.Rearranged.{standing, renamed, itemAt}
-use Rattle.source.specs.Source.{standingIn, itemIn, shownSignal, Renames}
+use Rattle.source.specs.Source.{itemIn, shownSignal}
 use Rattle.source.specs.declared.Source.{Source}
 
 -- ---- as which signal a signal stands
@@ -52,40 +51,15 @@ renamed-sign own places all l = omega arith
 
 -- ---- as the code has it
 
-module _ (s : Source) (x : ℕ) where
-  pub stands-whole : s .whole ≡ true → x ≡ standingIn s x
-  unfolding standingIn
-  stands-whole e = rw e
+module _ (first base : ℕ) (places : List ℕ) (x : ℕ) (f : 1 ≤ first) (b : 1 ≤ base) where
+  pub stands-gate : first ≤ x → base + (x - first) ≡ standing (first - 1) places (base - 1) x
+  stands-gate h = omega (arith, standing-gate (first - 1) places (base - 1) x (omega arith))
 
-  module _ (e : s .whole ≡ false) (b : s .base ≡ 1 + s .inputs * s .frames) (p : 1 ≤ s .own .base) where
-    abbrev all : ℕ
-    all = s .inputs * s .frames
+  pub stands-constant : x ≡ 0 → 0 ≡ standing (first - 1) places (base - 1) x
+  stands-constant z = rw z (sym (standing-constant (first - 1) places (base - 1)))
 
-    pub stands-gate : s .own .base ≤ x → s .base + (x - s .own .base) ≡ standingIn s x
-    unfolding standingIn
-    stands-gate h = rw e (omega (arith, standing-gate (s .own .base - 1) (s .places) all x (omega arith)))
-
-    pub stands-constant : x ≡ 0 → 0 ≡ standingIn s x
-    unfolding standingIn
-    stands-constant z = rw (e, z) (sym (standing-constant (s .own .base - 1) (s .places) all))
-
-    pub stands-input : x < s .own .base → ¬ (x ≡ 0) → 1 + getD (s .places) (x - 1) 0 ≡ standingIn s x
-    unfolding standingIn
-    stands-input h n = rw e (sym (standing-input (s .own .base - 1) (s .places) all x (omega arith) n))
-
-  -- it is not far
-  pub stands-low : (s .whole ≡ false → Renames s x) → standingIn s x ≤ x + 65536
-  stands-low R = go (s .whole) refl
-    where
-      go : (t : Bool) → s .whole ≡ t → standingIn s x ≤ x + 65536
-      go true e = omega (arith, stands-whole e)
-      go false e =
-          let r = R e in
-          let b = r .base-from in
-          ⊎-elim
-          (λ h. omega (arith, r .low, stands-gate e (r .base-is) b h))
-          (λ h. ⊎-elim (λ z. omega (arith, stands-constant e (r .base-is) b (let y : x ≡ 0 = omega arith in y))) (λ (p : 1 ≤ x). omega (arith, stands-input e (r .base-is) b h (λ z. absurd (omega arith)), r .places-to (x - 1) (omega arith))) (below-or x 1))
-          (⊎-elim inr inl (below-or x (s .own .base)))
+  pub stands-input : x < first → ¬ (x ≡ 0) → 1 + getD places (x - 1) 0 ≡ standing (first - 1) places (base - 1) x
+  stands-input h n = sym (standing-input (first - 1) places (base - 1) x (omega arith) n)
 
 -- ---- which output stands at a place
 

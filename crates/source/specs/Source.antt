@@ -1,10 +1,10 @@
 -- What folding needs of its source, as the code holds it, and the circuit that a source is.
-use Prim.Native.Nat.{ℕ, _+_, _*_, _-_, _/_, _%_, _≤_, _<_}
+use Prim.Native.Nat.{ℕ, _+_, _*_, _-_, _≤_, _<_}
 use mathlib.Core.Path.{_≡_}
 use mathlib.Core.List.{List}
 use mathlib.Core.Bool.{true, false, cond}
 use lib.Dec.{ltb}
-use lib.ListN.{getD}
+use lib.ListN.{length, getD}
 use Rattle.sizes.specs.Limits.{mostInputs, mostOutputs, mostBits}
 use Rattle.sizes.specs.Sizes.{frames}
 use Rattle.sizes.specs.Sized.{Sized}
@@ -12,7 +12,7 @@ use Rattle.circuit.specs.Limits.{mostGates}
 use Rattle.circuit.specs.Circuit.{gates, allInputs, allOutputs}
 use Rattle.circuit.specs.WellFormed.{HeadOf, WellFormed}
 use Rattle.circuit.specs.declared.Head.{Head}
-use Rattle.source.specs.Rearranged.{rearranged, standing, itemAt}
+use Rattle.source.specs.Rearranged.{rearranged, itemAt}
 use Rattle.source.specs.declared.Source.{Source}
 
 -- the sizes of what is folded
@@ -23,14 +23,7 @@ headOf s = record { inputs = s .inputs; outputs = s .outputs; frames = s .frames
 unfoldable pub sourced : Source → (c : List ℕ) → List ℕ
 sourced s c = cond (s .whole) c (rearranged c (s .inputs) (s .outputs) (s .frames) (s .places) (s .shown))
 
--- as which signal a signal of c stands, and which output of c stands at place q; for a circuit as it stands both are the same
-unfoldable pub standingIn : Source → (signal : ℕ) → ℕ
-standingIn s signal = cond (s .whole) signal (standing (s .own .base - 1) (s .places) (s .inputs * s .frames) signal)
-
--- a literal's
-unfoldable pub renamedIn : Source → (literal : ℕ) → ℕ
-renamedIn s literal = 2 * standingIn s (literal / 2) + literal % 2
-
+-- which output of c stands at place q; for a circuit as it stands, the same
 unfoldable pub itemIn : Source → (q : ℕ) → ℕ
 itemIn s q = cond (s .whole) q (itemAt (s .own .total) (s .shown) q)
 
@@ -38,13 +31,13 @@ itemIn s q = cond (s .whole) q (itemAt (s .own .total) (s .shown) q)
 unfoldable pub shownSignal : Source → (q : ℕ) → ℕ
 shownSignal s q = cond (ltb (itemIn s q) (s .own .total)) (s .own .base + (s .own .gates - s .own .total) + itemIn s q) 0
 
--- what renaming a signal of a network needs
-pub record Renames (s : Source) (signal : ℕ) : Type 0 where
-  pub inputs-to : s .own .base ≤ 1 + mostBits
-  pub base-from : 1 ≤ s .own .base
-  pub base-is : s .base ≡ 1 + s .inputs * s .frames
-  pub low : s .base + signal < 65536
-  pub places-to : (i : ℕ) → i < s .own .base - 1 → getD (s .places) i 0 < mostBits
+-- what renaming a network's signal needs, where its gates are signals from `first` on, and stand from `base` on
+pub record Renames (first base : ℕ) (places : List ℕ) (signal : ℕ) : Type 0 where
+  pub first-from : 1 ≤ first
+  pub first-to : first ≤ 1 + length places
+  pub base-from : 1 ≤ base
+  pub low : base + signal < 65536
+  pub places-to : (i : ℕ) → i < first - 1 → getD places i 0 < mostBits
 
 -- c is a network that s spreads
 pub record Spreads (c : List ℕ) (s : Source) : Type 0 where

@@ -6,12 +6,13 @@ use circuit::is_unconnected;
 use circuit::read_gate;
 ghost use mathlib.Core.Path.{_≡_};
 ghost use mathlib.Core.Bool.{false, not};
-ghost use Prim.Native.Nat.{_+_, _/_, _≤_, _<_};
+ghost use Prim.Native.Nat.{_+_, _-_, _/_, _≤_, _<_};
 ghost use Rattle.sizes.specs.Limits.{mostOutputs};
 ghost use Rattle.circuit.specs.Limits.{mostSignals};
 ghost use Rattle.circuit.specs.Circuit.{gates, gateOfOutput, unconnected, connectedOutputs};
 ghost use Rattle.circuit.specs.WellFormed.{CircuitHeaded, GateOf};
-ghost use Rattle.source.specs.Source.{sourced, standingIn, renamedIn, itemIn, shownSignal, Renames, WholeOf, SourceOf};
+ghost use Rattle.source.specs.Rearranged.{standing, renamed};
+ghost use Rattle.source.specs.Source.{sourced, itemIn, shownSignal, Renames, Spreads, WholeOf, SourceOf};
 
 // The sizes of what is folded: those of the circuit, or those that are given for the network. `own` are the sizes of the circuit or network that is read,
 // and `whole` tells that it is folded as it stands; else `places` has the place of each of its inputs, and `shown` that of each of its outputs.
@@ -50,24 +51,6 @@ impl Source {
     }
 }
 
-// As which signal a signal of the circuit or network stands.
-fn stands(source: Source, signal: usize) -> usize
-    requires { ⌜ (source .whole ≡ false → Renames source signal) ⌝ }
-    ensures { λ r. ⌜ r ≡ standingIn source signal ⌝ }
-{
-    if source.whole {
-        return signal;
-    }
-    let first = source.own.base;
-    if first <= signal {
-        return source.base + (signal - first);
-    }
-    if signal == 0 {
-        return 0;
-    }
-    1 + source.places[signal - 1] as usize
-}
-
 // Which output of the circuit or network stands at place q; as many as it has where none does.
 fn item_at(source: Source, q: usize) -> usize
     requires { ⌜ (source .whole ≡ false → source .own .total ≤ mostOutputs) ⌝ }
@@ -98,14 +81,6 @@ pub fn shown_signal(source: Source, q: usize) -> usize
     own.base + (own.gates - own.total) + k
 }
 
-// A literal of the circuit or network, by the signal as which its own stands.
-fn renamed(source: Source, literal: usize) -> usize
-    requires { ⌜ (literal < 65536) × (source .whole ≡ false → Renames source (literal / 2)) ⌝ }
-    ensures { λ r. ⌜ r ≡ renamedIn source literal ⌝ }
-{
-    2 * stands(source, literal / 2) + literal % 2
-}
-
 // Whether the output at place q is connected.
 fn is_connected(circuit: &[u8], source: Source, q: usize) -> bool
     requires { ⌜ SourceOf (now circuit) source × (q < source .total) ⌝ }
@@ -119,20 +94,35 @@ fn is_connected(circuit: &[u8], source: Source, q: usize) -> bool
     !is_unconnected(circuit, own, own.gates - own.total + k)
 }
 
-// The operands of gate g of what is folded, where the lists of places have a say: one of the network, or one that shows its output at a place.
-fn gate_by_lists(circuit: &[u8], source: Source, g: usize) -> Gate
-    requires { ⌜ SourceOf (now circuit) source × (g < gates (sourced source (now circuit))) ⌝ }
-    ensures { λ r. ⌜ GateOf (sourced source (now (circuit .entry))) g r ⌝ }
+// As which signal a network's signal stands. Before signal `first` there are the constant, which stands as itself, and the inputs, each by its place; the
+// gates stand from signal `base` on.
+fn stands(first: usize, base: usize, places: &[u16], signal: usize) -> usize
+    requires { ⌜ Renames first base (now places) signal ⌝ }
+    ensures { λ r. ⌜ (r ≡ standing (first - 1) (now (places .entry)) (base - 1) signal) × (r < 65536) ⌝ }
+{
+    if first <= signal {
+        return base + (signal - first);
+    }
+    if signal == 0 {
+        return 0;
+    }
+    1 + places[signal - 1] as usize
+}
+
+// A literal of a network, by the signal as which its own stands.
+fn rename(first: usize, base: usize, places: &[u16], literal: usize) -> usize
+    requires { ⌜ Renames first base (now places) (literal / 2) ⌝ }
+    ensures { λ r. ⌜ r ≡ renamed (first - 1) (now (places .entry)) (base - 1) literal ⌝ }
+{
+    2 * stands(first, base, places, literal / 2) + literal % 2
+}
+
+// The operands of the gate that shows the output at place q, behind all gates of a network.
+fn shown_gate(circuit: &[u8], source: Source, q: usize) -> Gate
+    requires { ⌜ (source .whole ≡ false) × Spreads (now circuit) source × (q < source .total) ⌝ }
+    ensures { λ r. ⌜ GateOf (sourced source (now (circuit .entry))) (gates (now (circuit .entry)) + q) r ⌝ }
 {
     let own = source.own;
-    if g < own.gates {
-        let gate = read_gate(circuit, own, g);
-        return Gate {
-            left: renamed(source, gate.left),
-            right: renamed(source, gate.right),
-        };
-    }
-    let q = g - own.gates;
     if is_connected(circuit, source, q) {
         let shown = own.gates - own.total + item_at(source, q);
         return Gate {
@@ -143,15 +133,25 @@ fn gate_by_lists(circuit: &[u8], source: Source, g: usize) -> Gate
     Gate { left: 0, right: 0 }
 }
 
-// The operands of gate g of what is folded. A circuit as it stands is read with no further copy of the source.
+// The operands of gate g of what is folded: one of the circuit or network, or one that shows its output at a place. This is asked for each gate, and a source is
+// large: so what reads and renames one of its own is passed no source.
 pub fn gate_of(circuit: &[u8], source: Source, g: usize) -> Gate
     requires { ⌜ SourceOf (now circuit) source × (g < gates (sourced source (now circuit))) ⌝ }
     ensures { λ r. ⌜ GateOf (sourced source (now (circuit .entry))) g r ⌝ }
 {
-    if source.whole {
-        return read_gate(circuit, source.own, g);
+    let own = source.own;
+    if own.gates <= g {
+        return shown_gate(circuit, source, g - own.gates);
     }
-    gate_by_lists(circuit, source, g)
+    let gate = read_gate(circuit, own, g);
+    if source.whole {
+        return gate;
+    }
+    let places = source.places;
+    Gate {
+        left: rename(own.base, source.base, &places, gate.left),
+        right: rename(own.base, source.base, &places, gate.right),
+    }
 }
 
 // The connected outputs of frame t, from 0.
