@@ -84,15 +84,12 @@ cast-output-frame : tie.Need-cast-output-frame Inv-loop μ-loop
 cast-output-frame c = omega (arith, inside (c .before))
 
 output-frame-requires : tie.Need-output-frame-requires Inv-loop μ-loop
-output-frame-requires c κs =
-    let P = of-turn (c .before) in
-    ((P .sizes .inputs-from, omega (arith, P .sizes .inputs-to), omega (arith, inside (c .before))), not-after-first _ _)
+output-frame-requires c κs = (omega (arith, of-turn (c .before) .sizes, inside (c .before)), not-after-first _ _)
 
 cast-latest : tie.Need-cast-latest Inv-loop μ-loop
 cast-latest c =
-    let i = c .before .before in
     let k = c .output-frame in
-    omega (arith, inside i, k .ensures .1 .0, le-mul-of-pos-right (k .result - 1) (of-turn i .sizes .inputs-from))
+    omega (arith, inside (c .before .before), k .ensures .1 .0, le-mul-of-pos-right (k .result - 1) (output-frame-requires (c .before) (k .lifetimes) .0 .0))
 
 add-latest : tie.Need-add-latest Inv-loop μ-loop
 add-latest c = omega (arith, few (c .before .before))
