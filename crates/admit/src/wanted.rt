@@ -3,7 +3,6 @@ use ask::plan::Limits;
 use ask::plan::Plan;
 ghost use mathlib.Core.Path.{_≡_};
 ghost use mathlib.Core.Bool.{true, false};
-ghost use Prim.Native.Nat.{_≤_};
 ghost use lib.ListN.{length};
 ghost use Rattle.layered.specs.Search.{equal};
 ghost use Rattle.folded.specs.Planned.{planLength};

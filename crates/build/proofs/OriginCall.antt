@@ -29,7 +29,7 @@ use denote.Triple.Clauses.{ensured, lasts}
 use Rattle.circuit.specs.Limits.{mostSignals}
 use Rattle.circuit.specs.Circuit.{gates, allInputs}
 use Rattle.source.specs.declared.Source.{Source}
-use Rattle.source.specs.Source.{headOf, sourced, SourceOf}
+use Rattle.source.specs.Source.{sourced, SourceOf}
 use Rattle.source.proofs.Source as D
 use Rattle.source.proofs.Source.Laws as D′
 use Rattle.source.proofs.Values.{sourceVal}

@@ -9,7 +9,7 @@ use native.Mathlib.Omega.{arith}
 use lib.ListN.{length, getD, set}
 use lib.Seq.{getD-set-same, getD-set-other}
 use Rattle.sizes.specs.Limits.{mostBits}
-use Rattle.sizes.specs.Sizes.{inputs, outputs, frames}
+use Rattle.sizes.specs.Sizes.{inputs, frames}
 use Rattle.layered.specs.Search.{every}
 use Rattle.layered.proofs.Search.{every-true, every-each}
 use Rattle.circuit.specs.Lists.{bit, blockStart}

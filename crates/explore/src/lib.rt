@@ -8,8 +8,7 @@ use refine::collect;
 use refine::refine;
 ghost use mathlib.Core.Path.{_≡_};
 ghost use mathlib.Core.List.{List};
-ghost use Prim.Native.Nat.{ℕ, suc, _+_, _*_, _/_, _≤_, _<_, min};
-ghost use lib.ListN.{length};
+ghost use Prim.Native.Nat.{ℕ, suc, _+_, _*_, _/_, _<_, min};
 ghost use Rattle.explore.specs.Explore.{columnCount, Laid, Starts, Underway, Moves, grouped, nextLayer, rowsOf, jobOf, Groupable, Rowable, Nextable, Explorable, Ends};
 
 // How many ids of candidates work has room for, and how many layers there are at most.

@@ -9,7 +9,6 @@ use lib.ListN.{length, take, drop, replicate, length-take}
 use borrow.Author.Tests.{lt-ltb, le-ltb}
 use Rattle.verdict.specs.Judgements.{answer, figures}
 use Rattle.verdict.specs.declared.Verdict.{Verdict}
-use Rattle.sizes.specs.Sizes.{inputs, frames}
 use Rattle.circuit.specs.Circuit.{allInputs, checked}
 use Rattle.circuit.specs.WellFormed.{CircuitHeaded, HeadOf}
 use Rattle.source.specs.Source.{headOf}

@@ -1,7 +1,7 @@
 // What the AND of two diagrams and the search for a record decide, by value: no list of records is read here.
 ghost use mathlib.Core.Path.{_≡_};
 ghost use mathlib.Core.Bool.{cond, _&&_};
-ghost use Prim.Native.Nat.{_+_, _≤_, _<_, min};
+ghost use Prim.Native.Nat.{_+_, _<_, min};
 ghost use lib.Dec.{eqb, ltb};
 ghost use Rattle.diagrams.specs.Making.{Known, home};
 ghost use Rattle.nodes.specs.Nodes.{halvesOf, Stops, Merges, nextId};

@@ -2,7 +2,6 @@
 use sizes::Sizes;
 use table::head::states_below;
 use table::head::states_of;
-ghost use mathlib.Core.Path.{_≡_};
 ghost use Prim.Native.Nat.{_+_, _*_, _≤_};
 ghost use lib.ListN.{length};
 ghost use Rattle.sizes.specs.Sizes.{frames};

@@ -1,7 +1,7 @@
 -- The lists of places: what the searches find in them, as the definition judges both joined, and what is stored of them. Assumes nothing.
 use mathlib.Core.Path.{_≡_, refl, sym, ap, subst, _∙_}
 use mathlib.Core.Bool.{Bool, true, false, not, cond}
-use mathlib.Core.List.{List, _++_}
+use mathlib.Core.List.{List}
 use mathlib.Core.Logic.{⊎-elim}
 use Prim.Native.Nat.{ℕ, _+_, _*_, _-_, _≤_, _<_}
 use native.Mathlib.Nat.{eq-or-lt-of-le}
@@ -10,8 +10,7 @@ use lib.Dec.{T, ltb, leb, eqb}
 use lib.ListN.{length, getD, set, List·getD-append}
 use lib.Seq.{getD-append-add, getD-set-same, getD-set-other}
 use borrow.Author.Tests.{lt-ltb, le-ltb, ltb-true, ltb-false, eq-eqb, ne-eqb}
-use Rattle.verdict.specs.Judgements.{answer, andThen, refuseFirst}
-use Rattle.verdict.specs.declared.Figures.{Figures}
+use Rattle.verdict.specs.Judgements.{answer, refuseFirst}
 use Rattle.verdict.proofs.Laws.{first-is, finds-none}
 use Rattle.layered.specs.Search.{least, every}
 use Rattle.layered.proofs.Search.{below-or, every-each, least-le, least-tells, least-is}

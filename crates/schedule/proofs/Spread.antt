@@ -1,29 +1,28 @@
 -- The source that the lists make of a network, and what is judged by it. Assumes nothing.
-use mathlib.Core.Path.{_≡_, refl, sym, ap, ap₂, _∙_}
+use mathlib.Core.Path.{_≡_, refl, ap, ap₂, _∙_}
 use mathlib.Core.Bool.{Bool, true, false, cond}
 use mathlib.Core.List.{List, _++_}
-use Prim.Native.Nat.{ℕ, _+_, _*_, _-_, _/_, _%_, _^_, _≤_, _<_}
+use Prim.Native.Nat.{ℕ, _+_, _*_, _-_, _/_, _%_, _<_}
 use native.Mathlib.Omega.{arith}
 use lib.Dec.{ltb, eqb}
 use lib.ListN.{length, getD}
 use borrow.Author.Tests.{ltb-false, eqb-false}
-use Rattle.verdict.specs.Judgements.{answer, figures, andThen}
+use Rattle.verdict.specs.Judgements.{answer, figures}
 use Rattle.verdict.specs.declared.Figures.{Figures}
 use Rattle.verdict.specs.declared.Verdict.{Verdict}
 use Rattle.words.specs.Words.{wordBytes}
 use Rattle.layered.proofs.Search.{least-cong}
-use Rattle.circuit.specs.Circuit.{gates, leftsAt, rightsAt, allInputs, allOutputs, gateOfOutput, unconnected, operand, circuitWords, outputGate, lookAheadChecked}
+use Rattle.circuit.specs.Circuit.{gates, leftsAt, rightsAt, allInputs, allOutputs, operand, circuitWords, outputGate, lookAheadChecked}
 use Rattle.circuit.specs.WellFormed.{HeadOf}
 use Rattle.circuit.specs.declared.Head.{Head}
 use Rattle.circuit.proofs.Lists.{listed-cong}
 use Rattle.source.specs.Rearranged.{standing, renamed, renamedGate, itemAt, connectsAt, shownLiteral, rearrangedGates, rearranged}
-use Rattle.source.specs.Source.{headOf, sourced, Spreads, SourceOf}
+use Rattle.source.specs.Source.{sourced, SourceOf}
 use Rattle.source.specs.Source.SourceOf.{spread}
 use Rattle.source.specs.declared.Source.{Source}
 use Rattle.source.proofs.Sources.{sourced-spread}
 use Rattle.folded.specs.Folded.{scratchNeeded, sixChecked, clearedTo, cleared}
 use Rattle.lent.specs.Lent.{Takes}
-use Rattle.lent.proofs.Needed.{needed-is}
 use Rattle.spreading.specs.Spread.{scheduleChecked, spreadLent, spreadScratch}
 use Rattle.spreading.proofs.Schedule.{Scheduled}
 

@@ -17,7 +17,7 @@ ghost use Rattle.sizes.specs.Limits.{mostInputs, mostBits};
 ghost use Rattle.sizes.specs.Sized.{Sized};
 ghost use Rattle.layered.specs.Search.{least};
 ghost use Rattle.circuit.specs.Limits.{mostWired};
-ghost use Rattle.circuit.specs.WellFormed.{CircuitHeaded, HeadOf};
+ghost use Rattle.circuit.specs.WellFormed.{CircuitHeaded};
 ghost use Rattle.source.specs.Rearranged.{rearranged};
 ghost use Rattle.source.specs.Source.{sourced, SourceOf};
 ghost use Rattle.spreading.specs.Spread.{isRepeated, listsChecked, scheduleChecked, spreadLent, spreadScratch};

@@ -1,14 +1,13 @@
 -- The rearranged network is a well-formed circuit, and its gates are the network's, renamed, and those that show its outputs. Assumes nothing.
-use mathlib.Core.Path.{_≡_, refl, sym, ap, ap₂, _∙_, subst}
-use mathlib.Core.Bool.{Bool, true, false, not, _&&_, cond, false≢true}
+use mathlib.Core.Path.{_≡_, refl, sym, ap, _∙_, subst}
+use mathlib.Core.Bool.{Bool, true, false, not, _&&_, false≢true}
 use mathlib.Core.List.{List, []}
-use Prim.Native.Nat.{ℕ, suc, _+_, _*_, _-_, _/_, _%_, _≤_, _<_}
+use Prim.Native.Nat.{ℕ, _+_, _*_, _-_, _/_, _≤_, _<_}
 use native.Mathlib.Nat.{mul-le-mul}
 use native.Mathlib.Omega.{arith}
-use lib.Dec.{ltb, eqb}
-use lib.ListN.{length, getD}
+use lib.Dec.{ltb}
+use lib.ListN.{length}
 use borrow.Author.Tests.{ltb-true}
-use Rattle.words.specs.Words.{wordBytes}
 use Rattle.verdict.specs.Judgements.{answer}
 use Rattle.layered.proofs.Search.{least-le}
 use Rattle.circuit.specs.Lists.{listed}
@@ -21,7 +20,7 @@ use Rattle.circuit.proofs.Literals.{operand-before}
 use Rattle.circuit.proofs.Gates.{closing, closed, closed-length, growing-admitted, closing-connected, closing-blank}
 use Rattle.circuit.proofs.Accepted.{well-formed}
 use Rattle.circuit.proofs.Written.{circuitBytes, Drawable, fitting, inputs-back, outputs-back, frames-back, gates-back, all-inputs-back, all-outputs-back, inner-judged, output-judged, form-passes, is-formed, unconnected-is}
-use Rattle.source.specs.Rearranged.{standing, renamed, renamedGate, itemAt, connectsAt, shownLiteral, rearrangedGates, rearranged}
+use Rattle.source.specs.Rearranged.{renamed, renamedGate, itemAt, connectsAt, shownLiteral, rearrangedGates, rearranged}
 use Rattle.source.specs.Source.{headOf, Spreads}
 use Rattle.source.specs.declared.Source.{Source}
 use Rattle.source.proofs.Standing.{standing-before, renamed-signal}

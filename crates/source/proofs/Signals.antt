@@ -8,10 +8,8 @@ use native.Mathlib.Nat.{eq-or-lt-of-le}
 use native.Mathlib.Omega.{arith}
 use lib.Dec.{ltb, eqb}
 use lib.ListN.{length, getD}
-use borrow.Author.Tests.{ltb-true, ltb-false, lt-ltb}
-use Rattle.layered.proofs.Search.{below-or}
+use borrow.Author.Tests.{ltb-true}
 use Rattle.circuit.specs.Circuit.{gates, leftsAt, rightsAt, literalAt, allInputs, allOutputs, gateOfOutput, unconnected, operand}
-use Rattle.circuit.specs.WellFormed.{WellFormed}
 use Rattle.circuit.proofs.Literals.{operand-before}
 use Rattle.circuit.proofs.Gates.{closing, closing-connected, closing-blank}
 use Rattle.diagrams.specs.Building.{signal, literal, Family}

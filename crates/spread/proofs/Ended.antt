@@ -17,7 +17,6 @@ use Rattle.source.specs.Rearranged.{rearranged}
 use Rattle.source.specs.Source.{sourced, SourceOf}
 use Rattle.source.specs.declared.Source.{Source}
 use Rattle.folded.specs.Folded.{foldedBytes, scratchNeeded, nodesChecked, roomChecked, cleared}
-use Rattle.folded.specs.Planned.{foldedPlan}
 use Rattle.ask.proofs.Answered.{cleared-zero, cleared-beyond, cleared-same}
 use Rattle.admit.specs.declared.wanted.Wanted.{Wanted}
 use Rattle.admit.specs.Admit.{agreedOn}

@@ -3,7 +3,7 @@
 -- e % 2^n, so that edges go by state, then word.
 use Prim.Native.Nat.{ℕ, zero, suc, _+_, _*_, _-_, _/_, _%_, _^_}
 use mathlib.Core.Bool.{Bool, cond}
-use mathlib.Core.List.{List, [], _∷_, _++_, map}
+use mathlib.Core.List.{List, [], _∷_, _++_}
 use lib.Dec.{ltb, eqb}
 use lib.ListN.{length, getD}
 use Rattle.words.specs.Words.{wordBytes}
@@ -11,7 +11,7 @@ use Rattle.verdict.specs.Judgements.{answer, refuse, andThen, resultAfter}
 use Rattle.verdict.specs.declared.Figures.{Figures}
 use Rattle.sizes.specs.Sizes.{inputs, outputs, frames}
 use Rattle.circuit.specs.Circuit.{circuitWords, outputGate}
-use Rattle.circuit.specs.Limits.{mostGates, mark}
+use Rattle.circuit.specs.Limits.{mostGates}
 use Rattle.circuit.specs.Lists.{grown, listed, bit}
 use Rattle.table.specs.Table.{states, connected, machine, checked, entryAt, outputsAt, nextsAt}
 

@@ -6,7 +6,6 @@ use Rattle.verdict.proofs.Laws.{stop, go-on, accepts}
 use Rattle.circuit.specs.Circuit.{formWithin, formChecked, lookAheadChecked, checked}
 use Rattle.circuit.specs.WellFormed.{Formed}
 use Rattle.circuit.proofs.Accepted.{formed}
-use Rattle.source.specs.Source.{sourced}
 use Rattle.source.proofs.Sources.{whole-source, sourced-whole}
 use Rattle.circuit.proofs.Judged.{first-ahead-shown, judged-alike}
 use Rattle.circuit.proofs.Causal.{causal}

@@ -2,16 +2,15 @@
 -- Assumes nothing.
 use mathlib.Core.Path.{_≡_, ap, ap₂, _∙_}
 use mathlib.Core.Bool.{cond}
-use Prim.Native.Nat.{ℕ, _+_, _*_, _≤_}
+use Prim.Native.Nat.{ℕ, _+_, _≤_}
 use native.Mathlib.Nat.{mul-le-mul}
 use native.Mathlib.Omega.{arith}
 use lib.Dec.{ltb}
 use lib.ListN.{length}
 use denote.Ref.{now}
-use borrow.Author.Needs.{needs}
 use Rattle.verdict.specs.Judgements.{answer}
 use Rattle.circuit.specs.Circuit.{allInputs, allOutputs}
-use Rattle.schedule.proofs.Lists.{found-to, outsideAt, takenAt, inputs-wrong, outputs-wrong, outside-found, taken-found}
+use Rattle.schedule.proofs.Lists.{found-to, outsideAt, inputs-wrong, outputs-wrong, outside-found, taken-found}
 use Rattle.schedule.proofs.check_lists.Statement.{statement}
 use Rattle.schedule.proofs.check_lists.Tie as tie
 

@@ -5,9 +5,9 @@ use mathlib.Core.Bool.{true, not}
 use Prim.Native.Nat.{ℕ, _-_, _≤_, _<_}
 use native.Mathlib.Omega.{arith}
 use lib.Dec.{eqb}
-use lib.ListN.{length, getD}
+use lib.ListN.{getD}
 use denote.Ref.{now}
-use borrow.Author.Tests.{eq-eqb, ne-eqb}
+use borrow.Author.Tests.{ne-eqb}
 use Rattle.layered.proofs.Search.{every-true, below-suc}
 use Rattle.spreading.specs.Spread.{isRepeated}
 use Rattle.schedule.proofs.Lists.{repeated-here}

@@ -1,10 +1,8 @@
 -- `schedule::spread_source` meets its contract.
 -- Assumes nothing.
 use mathlib.Core.Path.{ap}
-use Prim.Native.Nat.{_*_}
 use native.Mathlib.Nat.{mul-le-mul}
 use native.Mathlib.Omega.{arith}
-use lib.ListN.{length}
 use denote.Ref.{now}
 use Rattle.verdict.specs.Judgements.{answer}
 use Rattle.verdict.specs.declared.Figures.{Figures}

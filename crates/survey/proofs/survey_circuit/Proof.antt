@@ -58,7 +58,6 @@ use Rattle.survey.proofs.Survey.Laws as Y′
 use Rattle.survey.proofs.Surveying as stage
 use Rattle.verdict.proofs.Walks.{ifs, leaves, full, empty}
 use Rattle.verdict.proofs.Pass.{own-at, shr-at, calls-plain, calls-again}
-use Rattle.verdict.proofs.Copied.{calls-copied}
 use Rattle.records.proofs.Locals.{local}
 use Rattle.records.proofs.ClearCall.{Clear, Emptied, clear-met}
 use Rattle.build.proofs.BuildCall as build

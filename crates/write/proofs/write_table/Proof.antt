@@ -41,7 +41,7 @@ use denote.Triple.Walked.{says, needs, Stays, stay-none-slice, stay-slice, stay-
 use denote.Exit.{yes}
 use Rattle.verdict.proofs.Walks.{leaves, full}
 use Rattle.verdict.proofs.Pass.{own-at, shr-at, calls-plain}
-use Rattle.verdict.proofs.Copied.{calls-copied, calls-both}
+use Rattle.verdict.proofs.Copied.{calls-both}
 use Rattle.nodes.specs.declared.Node.{Node}
 use Rattle.nodes.proofs.Node as T
 use Rattle.records.proofs.Locals.{local}
