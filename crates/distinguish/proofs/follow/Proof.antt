@@ -91,22 +91,22 @@ second-room c =
     omega (arith, c .before .before .before .before .row2 .ensures, row-in s _ (second-in s), s .pre .1 .1, stands s)
 
 mul-read : tie.Need-mul-read
-mul-read c = omega (arith, first-room c)
+mul-read c = omega (arith, first-room c, second-room c)
 
 add-read : tie.Need-add-read
-add-read c = omega (arith, first-room c)
+add-read c = omega (arith, first-room c, second-room c)
 
 read-requires : tie.Need-read-requires
-read-requires c κs = first-room c
+read-requires c κs = omega (arith, first-room c, second-room c)
 
 mul-read-2 : tie.Need-mul-read-2
-mul-read-2 c = omega (arith, second-room (c .before))
+mul-read-2 c = omega (arith, first-room (c .before), second-room (c .before))
 
 add-read-2 : tie.Need-add-read-2
-add-read-2 c = omega (arith, second-room (c .before))
+add-read-2 c = omega (arith, first-room (c .before), second-room (c .before))
 
 read-requires-2 : tie.Need-read-requires-2
-read-requires-2 c κs = second-room (c .before)
+read-requires-2 c κs = omega (arith, first-room (c .before), second-room (c .before))
 
 returns : tie.Need-returns
 returns c =
