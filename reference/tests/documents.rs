@@ -149,3 +149,27 @@ fn every_dependency_is_named_in_its_crate() {
     }
     assert!(unnamed.is_empty(), "listed, but never named: {unnamed:?}");
 }
+
+/// The edits that a text names, as CRATE/EDIT; a file's path has more parts.
+fn edits_named<'a>(text: &'a str, crates: &[Crate]) -> Vec<(&'a str, &'a str)> {
+    let in_name = |letter: char| letter.is_alphanumeric() || "_/.".contains(letter);
+    text.split(|letter| !in_name(letter))
+        .filter_map(|word| word.split_once('/'))
+        .filter(|(name, edit)| crates.iter().any(|of| of.name == *name) && !edit.contains('/'))
+        .collect()
+}
+
+#[test]
+fn every_edit_that_the_promises_name_is_there() {
+    let promises = read(&root().join("docs/PROMISES.md"));
+    let named = edits_named(&promises, &crates());
+    assert!(!named.is_empty(), "docs/PROMISES.md names no edit");
+    let missing: Vec<_> = named
+        .into_iter()
+        .filter(|(name, edit)| {
+            let edits = root().join("crates").join(name).join("must-fail");
+            !edits.join(format!("{edit}.edit")).is_file()
+        })
+        .collect();
+    assert!(missing.is_empty(), "named, but not there: {missing:?}");
+}
