@@ -9,9 +9,9 @@ use lib.Dec.{eqb}
 use lib.Pow.{pow-pos, pow-mono, pow-add, split, high, low, mod-mod-pow, ones-split}
 use lib.Bits.{bitAnd, and-block, and-mask, and-le-r}
 use Rattle.circuit.specs.Lists.{bit, blockStart}
-use Rattle.circuit.proofs.Bits.{bit-zero, bit-none}
+use Rattle.circuit.proofs.Bits.{bit-zero, bit-none, bit-not}
 use Rattle.lanes.specs.Limits.{laneBits, laneCount}
-use Rattle.lanes.proofs.Bits.{bit-not, bit-low, bit-high}
+use Rattle.lanes.proofs.Bits.{bit-low, bit-high}
 
 -- ---- a one at the start of each block
 

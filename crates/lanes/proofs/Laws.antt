@@ -24,14 +24,14 @@ use Rattle.circuit.specs.Lists.{grown, listed, bit, packed}
 use Rattle.circuit.specs.Circuit.{gates, leftsAt, rightsAt, operand, allInputs, gateSignal, inputValues, literalValue, gateValue}
 use Rattle.circuit.specs.WellFormed.{LegalGates}
 use Rattle.circuit.proofs.Ahead.{beq-same}
-use Rattle.circuit.proofs.Bits.{digit, bit-none, bit-packed, bit-and}
+use Rattle.circuit.proofs.Bits.{digit, bit-none, bit-packed, bit-and, bit-not}
 use Rattle.circuit.proofs.Literals.{operand-before}
 use Rattle.circuit.proofs.Laws.{fill-grown, values-grow}
 use Rattle.circuit.proofs.Lists.{listed-after, listed-at}
 use Rattle.circuit.proofs.Frames.{ends, inputs-are, from-first, only-input}
 use Rattle.lanes.specs.Limits.{laneBits, laneCount}
 use Rattle.lanes.specs.Lanes.{lane, literalLanes, sequence, picked, Lanes, InputLanes, FrameLanes, Settled, Ready, Unnamed, FirstUses, SignalLanes}
-use Rattle.lanes.proofs.Bits.{bit-not, bit-part, bit-low, bit-high}
+use Rattle.lanes.proofs.Bits.{bit-part, bit-low, bit-high}
 
 -- ---- a lane of a list
 
