@@ -15,7 +15,7 @@ use Rattle.verdict.specs.declared.Figures.{Figures}
 use Rattle.verdict.specs.declared.Verdict.{Verdict}
 use Rattle.verdict.specs.declared.Verdict.the-variants.{Accepted, Refused}
 use Rattle.verdict.specs.declared.Refusal.{Refusal}
-use Rattle.verdict.specs.declared.Refusal.the-variants.{Length, Size, Literal, LookAhead, Entry, Scratch, Room, Gates, Word, End, Position, Count, Sequences, Plan, Window, Minute, Mask, Nodes, Outside, Taken}
+use Rattle.verdict.specs.declared.Refusal.the-variants.{Length, Size, Literal, LookAhead, Entry, Scratch, Room, Gates, Word, End, Position, Count, Sequences, Plan, Window, Minute, Mask, Nodes, Outside, Taken, Unmatched}
 
 -- ---- stages one after the other
 
@@ -41,6 +41,7 @@ refusal-number (Mask p) = refl
 refusal-number (Nodes p) = refl
 refusal-number (Outside p) = refl
 refusal-number (Taken p) = refl
+refusal-number (Unmatched p) = refl
 
 -- no refusal is an acceptance
 pub never : (r : Refusal) (p : ℕ) → refusalFigures r ≡ answer 0 p → ⊥

@@ -8,7 +8,7 @@ use Rattle.verdict.specs.declared.Figures.{Figures}
 use Rattle.verdict.specs.declared.Verdict.{Verdict}
 use Rattle.verdict.specs.declared.Verdict.the-variants.{Accepted, Refused}
 use Rattle.verdict.specs.declared.Refusal.{Refusal}
-use Rattle.verdict.specs.declared.Refusal.the-variants.{Length, Size, Literal, LookAhead, Entry, Scratch, Room, Gates, Word, End, Position, Count, Sequences, Plan, Window, Minute, Mask, Nodes, Outside, Taken}
+use Rattle.verdict.specs.declared.Refusal.the-variants.{Length, Size, Literal, LookAhead, Entry, Scratch, Room, Gates, Word, End, Position, Count, Sequences, Plan, Window, Minute, Mask, Nodes, Outside, Taken, Unmatched}
 
 -- a number and a place; number 0 is acceptance
 abbrev pub answer : (number place : ℕ) → Figures
@@ -36,6 +36,7 @@ refusalFigures (Mask p) = answer 17 p
 refusalFigures (Nodes p) = answer 18 p
 refusalFigures (Outside p) = answer 19 p
 refusalFigures (Taken p) = answer 20 p
+refusalFigures (Unmatched p) = answer 21 p
 
 abbrev pub figures : Verdict → Figures
 figures (Accepted p) = answer 0 p

@@ -30,6 +30,7 @@ pub enum Refusal {
     Nodes(usize),
     Outside(usize),
     Taken(usize),
+    Unmatched(usize),
 }
 
 // Document 01's number and place.
@@ -63,6 +64,7 @@ impl Refusal {
             Refusal::Nodes(place) => Figures { number: 18, place },
             Refusal::Outside(place) => Figures { number: 19, place },
             Refusal::Taken(place) => Figures { number: 20, place },
+            Refusal::Unmatched(place) => Figures { number: 21, place },
         }
     }
 }

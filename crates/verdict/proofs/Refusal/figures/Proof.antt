@@ -64,6 +64,9 @@ enum-known-self-19 c = search needs
 enum-known-self-20 : tie.Need-enum-known-self-20
 enum-known-self-20 c = search needs
 
+enum-known-self-21 : tie.Need-enum-known-self-21
+enum-known-self-21 c = search needs
+
 returns : tie.Need-returns
 returns c = sym (ap refusalFigures (c .before .self .given .1))
 
@@ -124,6 +127,9 @@ returns-19 c = sym (ap refusalFigures (c .before .self19 .given .1))
 returns-20 : tie.Need-returns-20
 returns-20 c = sym (ap refusalFigures (c .before .self20 .given .1))
 
+returns-21 : tie.Need-returns-21
+returns-21 c = sym (ap refusalFigures (c .before .self21 .given .1))
+
 pub figures-spec : {M : Type 1} → statement M
 figures-spec =
     tie.close
@@ -148,6 +154,7 @@ figures-spec =
     enum-known-self-18
     enum-known-self-19
     enum-known-self-20
+    enum-known-self-21
     returns
     returns-2
     returns-3
@@ -167,4 +174,5 @@ figures-spec =
     returns-17
     returns-18
     returns-19
-    returns-20)
+    returns-20
+    returns-21)
