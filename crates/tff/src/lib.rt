@@ -26,6 +26,7 @@ ghost use Rattle.spreading.specs.Spread.{spreadChecked, spreadResult, spreadScr
 ghost use Rattle.price.specs.Price.{priced};
 ghost use Rattle.reach.specs.Reach.{reachChecked, reachResult};
 ghost use Rattle.distinguish.specs.Distinguish.{distinguishChecked, distinguishResult};
+ghost use Rattle.merge.specs.Merge.{mergeChecked, mergeResult};
 ghost use Rattle.unfolded.specs.Unfolded.{unfoldChecked, unfoldResult};
 ghost use Rattle.answers.specs.Answer.{verdictNumbers, stepNumbers, quietNumbers, priceNumbers, layerNumbers, answerAfter, verdictLength, quietLength, askLength, lentAfter};
 
@@ -283,6 +284,18 @@ pub extern "C" fn tff_distinguish(
         second as usize,
         result,
     );
+    put(verdict, answer);
+}
+
+#[no_mangle]
+pub extern "C" fn tff_merge(table: &[u8], result: &mut [u8], answer: &mut [u64])
+    ensures answer { λ _. ⌜ now (answer .exit) ≡ answerAfter (verdictNumbers (mergeChecked (now (table .entry)) (length (now (result .entry))))) (now (answer .entry)) ⌝ }
+    ensures result { λ _. ⌜ now (result .exit) ≡ lentAfter verdictLength (now (answer .entry)) (mergeResult (now (table .entry)) (now (result .entry))) (now (result .entry)) ⌝ }
+{
+    if answer.len() < Limits::VERDICT {
+        return;
+    }
+    let verdict: Verdict = merge::merge(table, result);
     put(verdict, answer);
 }
 
