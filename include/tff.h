@@ -1,6 +1,6 @@
 /* Time-frame folding: the C interface of the static library tff.
  *
- * A circuit, a network and a table are bytes, made of 16-bit words with the low byte first:
+ * A circuit, a network, a table and a machine are bytes, made of 16-bit words with the low byte first:
  *
  *   circuit: n inputs per frame (1 to 8), m outputs per frame (1 to 16), T frames (1 to 16, n*T at
  *            most 16), G gates (m*T to 4,096); G left literals; G right literals.
@@ -14,6 +14,8 @@
  *            outputs, bit j-1 of word t set where output j of frame t is connected (below 2^m); all
  *            output words (connected outputs of their frame alone); all next states (below the next
  *            layer's count); both by layer, state, word.
+ *   machine: n (1 or 2), m, k states (1 to 3), the same in all frames; all output words (below 2^m);
+ *            all next states (below k); both by state and word. It starts in state 0.
  *
  * Input i is bit i-1 of a frame's input word, output j bit j-1 of its output word.
  *
@@ -31,7 +33,8 @@
  *   1       length given                not the length that the format asks for
  *   2       byte offset                 first size, else first count, else first word of connected
  *                                       outputs out of limits; n*T above 16 counts at T. The sizes
- *                                       given to tff_spread count as at 0, 2 and 4
+ *                                       given to tff_spread count as at 0, 2 and 4. For tff_merge an
+ *                                       n above 2 is out of limits
  *   3       byte offset                 first literal, in the order of the file, that is too high
  *                                       or names an unconnected output; 65,535 is too high wherever
  *                                       it does not mark an output
@@ -57,6 +60,7 @@
  *   19      index in both lists         first place that the frames do not have; the outputs' list
  *                                       counts on behind the inputs'
  *   20      index in both lists         first place that an earlier item of the same list has
+ *   21      0                           no machine of one to three states matches the table
  *
  * A refused call changes nothing but answer and, as said here, scratch and nodes. tff_fold, tff_ask,
  * tff_commit and tff_spread need 2 * 2^(n*T) numbers of scratch. These end as zeros where the call is
@@ -236,6 +240,18 @@ void tff_distinguish(const uint8_t *table, size_t table_len,
                      uint16_t layer, uint16_t first, uint16_t second,
                      uint16_t *result, size_t result_len,
                      uint64_t *answer, size_t answer_len);
+
+/* Puts into result one machine for all frames that matches the table: on every sequence, from state 0,
+ * its T output words have the table's connected bits. What states of the table give that no sequence
+ * reaches does not matter. The machine has the fewest states with which one matches; of those that
+ * match with as many, it is the first when all next states are compared in order and then all output
+ * words. So 0 stands wherever nothing decides: in bits that are unconnected wherever the entry is used,
+ * in entries that no sequence uses, and for next states that are used in frame T alone.
+ * Refuses as the check, with 2 at 0 for an n above 2 where n is judged; then 21, whatever the length of
+ * result; then 7. Accepted: place is the bytes written, 6 + 4*k*2^n. */
+void tff_merge(const uint8_t *table, size_t table_len,
+               uint8_t *result, size_t result_len,
+               uint64_t *answer, size_t answer_len);
 
 /* Puts into result a circuit whose outputs are the table's, the same of them connected.
  * Refuses as the check, then 8, 7. Accepted: place is the bytes written. */

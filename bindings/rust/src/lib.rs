@@ -9,6 +9,7 @@
 mod circuit;
 mod distinguish;
 mod fold;
+mod merge;
 mod nodes;
 mod plan;
 mod price;
@@ -24,6 +25,7 @@ pub mod raw;
 pub use circuit::{check_circuit, simulate, simulate_one};
 pub use distinguish::distinguish;
 pub use fold::fold;
+pub use merge::merge;
 pub use nodes::Nodes;
 pub use plan::{ask, commit, Plan};
 pub use price::{price, Priced};

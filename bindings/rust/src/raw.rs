@@ -181,6 +181,15 @@ extern "C" {
         answer_len: usize,
     );
 
+    pub fn tff_merge(
+        table: *const u8,
+        table_len: usize,
+        result: *mut u8,
+        result_len: usize,
+        answer: *mut u64,
+        answer_len: usize,
+    );
+
     pub fn tff_unfold(
         table: *const u8,
         table_len: usize,
