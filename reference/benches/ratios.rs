@@ -5,14 +5,16 @@
 //!
 //! The two take turns in one run; a line gives their median times and the ratio of these. Folding is
 //! measured beside plain Rust of the same algorithm, with the circuit's nodes and states behind the
-//! ratio, and then beside a linear search for states without nodes.
+//! ratio, and then beside a linear search for states without nodes. Merging is measured beside plain Rust
+//! of the same search, with the number that is answered behind the ratio.
 
 use std::hint::black_box;
 use std::time::Instant;
 
 use reference::diagrams::nodes_made;
 use reference::gen::{
-    any_sequence, any_sequences, any_windows, circuits, look_ahead, machines, networks, tables, Rng,
+    any_sequence, any_sequences, any_windows, circuits, look_ahead, machines, merging, networks,
+    tables, Rng,
 };
 use reference::program::NODE_RECORDS as LENT;
 use reference::quiet::MOST_WINDOWS;
@@ -34,6 +36,9 @@ fn main() {
     fold_without_patterns();
     heading("fold, proved", "by search");
     fold_beside_search();
+    heading("merge, proved", "plain");
+    merge_shown_last();
+    merge_machines();
     heading("ask", "fold");
     each_planned(ask_beside_fold);
     heading("commit", "fold");
@@ -319,6 +324,75 @@ fn fold_beside_search() {
             |(scratch, _, result)| reference::plain_fold(black_box(&file), scratch, result),
         );
     }
+}
+
+/// Merging tables with the most sequences that show something in the last frame alone: folded, and with a
+/// state for each history.
+fn merge_shown_last() {
+    for (inputs, frames) in [(2, 8), (1, 16)] {
+        let [one, sixteen] = [1, 16].map(|outputs| Sizes::new(inputs, outputs, frames));
+        let mut rng = Rng::new(1);
+        // A one after these sequences alone.
+        let after = |late: &'static [usize]| {
+            merging::in_last_frame(one, |sequence| u16::from(late.contains(&sequence)))
+        };
+        for (kind, table) in [
+            ("random", merging::in_last_frame(one, |_| rng.word() & 1)),
+            (
+                "random words",
+                merging::in_last_frame(sixteen, |_| rng.word()),
+            ),
+            ("a late history", after(&[0xffb9])),
+            ("two late histories", after(&[0xffb9, 0xfe1e])),
+            ("a history", after(&[0xd2b9])),
+            (
+                "12 ones at least",
+                merging::in_last_frame(one, |sequence| u16::from(sequence.count_ones() >= 12)),
+            ),
+        ] {
+            merge_line(kind, &merging::folded(&table));
+            merge_line(&format!("{kind}, apart"), &table);
+        }
+    }
+}
+
+/// Merging tables of machines over the most frames, with a state for each history where three states are
+/// too few for certain.
+fn merge_machines() {
+    for (inputs, frames) in [(2, 8), (1, 16)] {
+        let mut rng = Rng::new(1);
+        for states in 3..=5 {
+            let machine = merging::any_machine(&mut rng, inputs, 1, states);
+            let table = merging::repeated(&machine, frames);
+            merge_line(&format!("a machine of {states} states"), &table);
+        }
+        for modulus in [4, 9] {
+            let sizes = Sizes::new(inputs, 4, frames);
+            let ones = |history: usize| history.count_ones() as u16;
+            let table = merging::by_history(sizes, |_, history| ones(history) % modulus);
+            merge_line(&format!("ones modulo {modulus}, apart"), &table);
+            let carried =
+                merging::by_history(sizes, |_, history| ones(history) % modulus / (modulus - 1));
+            merge_line(&format!("carry modulo {modulus}, apart"), &carried);
+        }
+    }
+}
+
+fn merge_line(kind: &str, table: &Table) {
+    let Sizes { inputs, frames, .. } = table.head.sizes;
+    let file = table.to_bytes();
+    let mut result = [0; 54];
+    let answer = tff::merge(&file, &mut result);
+    let plain = reference::plain_merge(&file, &mut result);
+    assert_eq!(plain, (answer.number, answer.place));
+    let few = Runs { runs: 5, calls: 1 };
+    few.measure_noted(
+        &format!("{inputs}x{frames}, {kind}"),
+        &format!("answers {}", answer.number),
+        &mut result,
+        |result| tff::merge(black_box(&file), result),
+        |result| reference::plain_merge(black_box(&file), result),
+    );
 }
 
 /// Circuits that fold to few and to many states, with 200 gates and with the most.

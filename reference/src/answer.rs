@@ -47,6 +47,8 @@ pub const NODES: u64 = 18;
 pub const NO_SUCH_PLACE: u64 = 19;
 /// A place that an earlier item of the same list has; place: its index likewise.
 pub const PLACE_TAKEN: u64 = 20;
+/// No machine of one to three states matches the table; place: 0.
+pub const UNMATCHED: u64 = 21;
 
 pub fn accepted(place: usize) -> Answer {
     (0, place as u64)

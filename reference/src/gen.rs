@@ -3,6 +3,7 @@
 pub mod circuits;
 pub mod look_ahead;
 pub mod machines;
+pub mod merging;
 pub mod networks;
 pub mod tables;
 

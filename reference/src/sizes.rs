@@ -19,6 +19,8 @@ impl Sizes {
     pub const MOST_FRAMES: usize = 16;
     /// Most inputs of all frames together.
     pub const MOST_SIGNALS: usize = 16;
+    /// Most inputs per frame of a table that is merged.
+    pub const MOST_MERGED_INPUTS: usize = 2;
 
     /// Sizes in the order of the files: n, m, T.
     pub fn new(inputs: usize, outputs: usize, frames: usize) -> Sizes {
@@ -37,6 +39,12 @@ impl Sizes {
     /// The sizes of a plain network in the first six bytes: the one frame may have all inputs.
     pub fn read_plain(bytes: &[u8]) -> Result<Sizes, Answer> {
         Sizes::within(Self::MOST_SIGNALS, 1, sizes_at_front(bytes))
+    }
+
+    /// The sizes of a table to be merged in the first six bytes.
+    pub fn read_to_merge(bytes: &[u8]) -> Result<Sizes, Answer> {
+        let sizes = sizes_at_front(bytes);
+        Sizes::within(Self::MOST_MERGED_INPUTS, Self::MOST_FRAMES, sizes)
     }
 
     /// The sizes n, m, T, or the place in a file of the first that is out of limits.

@@ -99,10 +99,22 @@ pub fn step(table: &[u8], layer: u16, state: u16, word: u16) -> Stepped {
 impl Head {
     /// Judges sizes, counts and length: all but the entries.
     pub fn read(bytes: &[u8]) -> Result<Head, Answer> {
+        Head::read_with(bytes, Sizes::read)
+    }
+
+    /// The same of a table to be merged, which has fewer inputs.
+    pub fn read_to_merge(bytes: &[u8]) -> Result<Head, Answer> {
+        Head::read_with(bytes, Sizes::read_to_merge)
+    }
+
+    fn read_with(
+        bytes: &[u8],
+        read_sizes: fn(&[u8]) -> Result<Sizes, Answer>,
+    ) -> Result<Head, Answer> {
         if bytes.len() < 6 {
             return Err(refused(LENGTH, bytes.len()));
         }
-        let sizes = Sizes::read(bytes)?;
+        let sizes = read_sizes(bytes)?;
         if bytes.len() < Head::length(&sizes) {
             return Err(refused(LENGTH, bytes.len()));
         }
@@ -254,7 +266,15 @@ impl Table {
 
     /// The table in `bytes`, if it passes every check.
     pub fn read(bytes: &[u8]) -> Result<Table, Answer> {
-        let head = Head::read(bytes)?;
+        Table::with_head(Head::read(bytes)?, bytes)
+    }
+
+    /// The same of a table to be merged, which has fewer inputs.
+    pub fn read_to_merge(bytes: &[u8]) -> Result<Table, Answer> {
+        Table::with_head(Head::read_to_merge(bytes)?, bytes)
+    }
+
+    fn with_head(head: Head, bytes: &[u8]) -> Result<Table, Answer> {
         head.judge_entries(bytes)?;
         Ok(Table {
             output_words: words_at(bytes, head.output_at(0), head.entries()),

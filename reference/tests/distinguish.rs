@@ -116,20 +116,12 @@ fn all_pairs(table: &Table) -> impl Iterator<Item = [u16; 3]> + '_ {
     (0..=table.head.sizes.frames).flat_map(|layer| pairs(table, layer))
 }
 
-/// A table with all outputs connected, of zeros that lead to state 0.
-fn zeros(sizes: Sizes, counts: Vec<u16>) -> Table {
-    let mut table = tables::connected(&mut Rng::new(0), sizes, counts);
-    table.output_words.fill(0);
-    table.next_states.fill(0);
-    table
-}
-
 /// Of zeros, with two states in each layer between the first and the last; each leads to its like.
 fn two_chains(sizes: Sizes) -> Table {
     let mut counts = vec![2; sizes.frames + 1];
     counts[0] = 1;
     counts[sizes.frames] = 1;
-    let mut table = zeros(sizes, counts);
+    let mut table = tables::zeros(sizes, counts);
     for layer in 1..sizes.frames - 1 {
         let second = table.head.entry(layer, 1, 0);
         table.next_states[second..second + sizes.input_words()].fill(1);
@@ -154,7 +146,7 @@ fn tables_are_told_apart_as_by_hand() {
 
     // Two words: word 1 leads states 0 and 1 of layer 1 apart, and then word 3 is the first that tells.
     let sizes = Sizes::new(2, 3, 3);
-    let mut table = zeros(sizes, vec![1, 2, 2, 1]);
+    let mut table = tables::zeros(sizes, vec![1, 2, 2, 1]);
     let entry = table.head.entry(1, 1, 1);
     table.next_states[entry] = 1;
     let entry = table.head.entry(2, 1, 3);
@@ -395,7 +387,7 @@ fn states_can_differ_after_the_largest_words_alone() {
 fn each_output_tells() {
     for output in 0..16 {
         let sizes = Sizes::new(1, 16, 2);
-        let mut table = zeros(sizes, vec![1, 2, 1]);
+        let mut table = tables::zeros(sizes, vec![1, 2, 1]);
         let entry = table.head.entry(1, 1, 1);
         table.output_words[entry] = 1 << output;
         assert_eq!(telling_apart(0, &table, [1, 0, 1]), [1]);

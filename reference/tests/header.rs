@@ -16,8 +16,9 @@ use child::written;
 use reference::vectors::{PARITY_PLAN, PARITY_TABLE};
 use reference::words::{to_bytes, words_at};
 use reference::{
-    ask, check_circuit, check_table, commit, distinguish, examples, fold, layer_outputs, price,
-    quiet_step, reach, run, simulate, spread, step, unfold, view, Node, Position, Schedule, Table,
+    ask, check_circuit, check_table, commit, distinguish, examples, fold, layer_outputs, merge,
+    price, quiet_step, reach, run, simulate, spread, step, unfold, view, Node, Position, Schedule,
+    Table,
 };
 use root::root;
 
@@ -235,6 +236,21 @@ fn calls_lines() -> String {
         (40, 1, 0, 1, 0),
         (40, 0, 0, 0, 1),
     ];
+    // One state a layer, and output words that are the frames, from 0.
+    let head = [1, 2, 4, 1, 1, 1, 1, 1, 3, 3, 3, 3];
+    let entries = [0, 0, 1, 1, 2, 2, 3, 3, 0, 0, 0, 0, 0, 0, 0, 0];
+    let four_frames = to_bytes(&[&head[..], &entries].concat());
+    // Accepted, and refused with 1, 2, 21, 21, 7, 7.
+    let merges = [
+        (&table[..], 22),
+        (&table, 23),
+        (&four_frames[..55], 76),
+        (&[3, 0, 1, 0, 1, 0], 76),
+        (&four_frames, 76),
+        (&four_frames, 0),
+        (&table, 21),
+        (&table, 0),
+    ];
     let mut text = String::new();
     for length in [28, 27] {
         text += &line("check_circuit", |_| {
@@ -361,6 +377,13 @@ fn calls_lines() -> String {
     }
     // Its answer is too short.
     text += &line("distinguish", |_| []);
+    for (table, result) in merges {
+        text += &line("merge", |lent| {
+            merge(table, &mut lent.bytes[..result]).into()
+        });
+    }
+    // Its answer is too short.
+    text += &line("merge", |_| []);
     for (length, result) in [(40, 76), (39, 76), (40, 75)] {
         text += &line("unfold", |lent| {
             unfold(&table[..length], &mut lent.bytes[..result]).into()
@@ -503,6 +526,33 @@ fn the_c_program_tells_states_apart() {
     let lines = told_apart(&table[..length as usize]);
     assert_eq!(lines.lines().count(), 12);
     assert_eq!(tell(&s27), lines);
+}
+
+/// What `examples/merge.c` is to print for the adder with its empty outputs unconnected: state 1 is the
+/// carry.
+const MERGED_ADDER: &str = "\
+n 2, m 2, states 2
+state 0 word 0: output 0, next state 0
+state 0 word 1: output 1, next state 0
+state 0 word 2: output 1, next state 0
+state 0 word 3: output 2, next state 1
+state 1 word 0: output 1, next state 0
+state 1 word 1: output 2, next state 1
+state 1 word 2: output 2, next state 1
+state 1 word 3: output 3, next state 1
+";
+
+#[test]
+fn the_c_program_merges_the_adder() {
+    let program = compiled("examples/merge.c");
+    let merge = |circuit: &[u8]| written(&mut Command::new(&program), circuit);
+    let file = fs::read(root().join("examples/unconnected_adder.circuit")).expect("the adder");
+    assert_eq!(file, examples::unconnected_adder().to_bytes());
+    assert_eq!(merge(&file), MERGED_ADDER);
+    assert_eq!(merge(&examples::adder().to_bytes()), "refused 21 0\n");
+    // It folds, and has too many inputs to be merged.
+    assert_eq!(merge(&examples::s27().to_bytes()), "refused 2 0\n");
+    assert_eq!(merge(&file[..7]), "refused 1 7\n");
 }
 
 #[test]

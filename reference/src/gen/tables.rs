@@ -72,6 +72,16 @@ pub fn connected(rng: &mut Rng, sizes: Sizes, counts: Vec<u16>) -> Table {
     table
 }
 
+/// A table with all outputs connected, of zeros that lead to state 0.
+pub fn zeros(sizes: Sizes, counts: Vec<u16>) -> Table {
+    let head = every_output_connected(sizes, counts);
+    Table {
+        output_words: vec![0; head.entries()],
+        next_states: vec![0; head.entries()],
+        head,
+    }
+}
+
 /// A head whose outputs are all connected.
 fn every_output_connected(sizes: Sizes, counts: Vec<u16>) -> Head {
     Head {
@@ -157,16 +167,13 @@ pub fn histories_apart(sizes: Sizes) -> Table {
         .map(|layer| sizes.histories(layer) as u16)
         .collect();
     counts.push(1);
-    let head = every_output_connected(sizes, counts);
-    let mut next_states: Vec<u16> = (1..sizes.frames)
-        .flat_map(|layer| 0..head.counts[layer])
-        .collect();
-    next_states.resize(head.entries(), 0);
-    Table {
-        output_words: vec![0; head.entries()],
-        next_states,
-        head,
+    let mut table = zeros(sizes, counts);
+    // The entries before the last layer's lead to a state each.
+    let nexts = (1..sizes.frames).flat_map(|layer| 0..table.head.counts[layer]);
+    for (entry, next) in table.next_states.iter_mut().zip(nexts) {
+        *entry = next;
     }
+    table
 }
 
 /// The same table with all entries of a layer leading to one state of the next, whichever.

@@ -60,6 +60,11 @@ int main(void) {
                                2, 0, 3, 0, 7, 0, 2, 0, 11, 0,
                                5, 0, 4, 0, 9, 0, 1, 0, 1, 0};
     const uint16_t places[] = {0, 1, 0, 0, 2};
+    const uint8_t four_frames[56] = {1, 0, 2, 0, 4, 0,          /* a table that shows its frames, from 0 */
+                                     1, 0, 1, 0, 1, 0, 1, 0, 1, 0,
+                                     3, 0, 3, 0, 3, 0, 3, 0,
+                                     0, 0, 0, 0, 1, 0, 1, 0, 2, 0, 2, 0, 3, 0, 3, 0};
+    const uint8_t three_inputs[] = {3, 0, 1, 0, 1, 0};
 
     CALL(check_circuit, circuit, 28);
     CALL(check_circuit, circuit, 27);
@@ -174,6 +179,16 @@ int main(void) {
     CALL(distinguish, table, 40, 1, 0, 1, numbers, 0);
     CALL(distinguish, table, 40, 0, 0, 0, numbers, 1);
     CALL_FOR(1, distinguish, table, 40, 1, 0, 1, numbers, 1);
+
+    CALL(merge, table, 40, bytes, 22);
+    CALL(merge, table, 40, bytes, 23);
+    CALL(merge, four_frames, 55, bytes, 76);
+    CALL(merge, three_inputs, 6, bytes, 76);
+    CALL(merge, four_frames, 56, bytes, 76);
+    CALL(merge, four_frames, 56, bytes, 0);
+    CALL(merge, table, 40, bytes, 21);
+    CALL(merge, table, 40, bytes, 0);
+    CALL_FOR(1, merge, table, 40, bytes, 22);
 
     CALL(unfold, table, 40, bytes, 76);
     CALL(unfold, table, 39, bytes, 76);
