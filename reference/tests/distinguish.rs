@@ -15,7 +15,7 @@ use reference::gen::{all_sizes, any_sizes, circuits, damaged, tables, Rng};
 use reference::vectors::{counts, PARITY_TABLE};
 use reference::words::{set_word, to_bytes, word_at};
 use reference::{Circuit, Sizes, Table};
-use three_frames::{three_frames, ENTRY_FAULTS, HEAD_FAULTS};
+use three_frames::{faults_across, three_frames, ENTRY_FAULTS, HEAD_FAULTS};
 
 /// Inputs and frames of the shapes with the longest lists, and the most of each length.
 const LARGEST: [(usize, usize); 4] = [(1, 16), (2, 8), (4, 4), (8, 2)];
@@ -48,19 +48,12 @@ fn case<'a>(seed: u64, file: &'a [u8], states: &'a [u16; 3]) -> Case<'a> {
     }
 }
 
-fn result_of(numbers: usize) -> Room {
-    Room {
-        numbers,
-        ..Room::default()
-    }
-}
-
 /// Tells two states apart with both implementations; `states` are a layer and two states of it.
 fn distinguish(seed: u64, file: &[u8], states: [u16; 3], room: usize) -> [u64; 2] {
     let [layer, first, second] = states;
     compare(
         &case(seed, file, &states),
-        result_of(room),
+        Room::of_numbers(room),
         |lent| reference::distinguish(file, layer, first, second, lent.numbers).into(),
         |lent, answer| call_distinguish(file, states, lent.numbers, answer),
     )
@@ -586,13 +579,7 @@ fn judges_in_order(faults: &[Fault<Vec<u8>>]) {
 fn every_combination_of_faults_names_the_first() {
     judges_in_order(&HEAD_FAULTS);
     judges_in_order(&ENTRY_FAULTS);
-    // The first and the last of both, together.
-    let across: Vec<Fault<Vec<u8>>> = HEAD_FAULTS
-        .into_iter()
-        .step_by(5)
-        .chain(ENTRY_FAULTS.into_iter().step_by(2))
-        .collect();
-    judges_in_order(&across);
+    judges_in_order(&faults_across());
 }
 
 #[test]
@@ -652,7 +639,7 @@ fn a_short_answer_changes_nothing() {
             for room in [0, 16] {
                 short_answers_change_nothing(
                     &case(seed, file, &states),
-                    result_of(room),
+                    Room::of_numbers(room),
                     2,
                     |lent, answer| call_distinguish(file, states, lent.numbers, answer),
                 );

@@ -19,7 +19,7 @@ use reference::gen::{any_connected, circuits, damaged, machines, merging, tables
 use reference::vectors::{PARITY_TABLE, UNCONNECTED_TABLE};
 use reference::words::{set_word, to_bytes, word_at, words_at};
 use reference::{examples, Circuit, Machine, Sizes, Table};
-use three_frames::{three_frames, ENTRY_FAULTS, HEAD_FAULTS};
+use three_frames::{faults_across, three_frames, ENTRY_FAULTS, HEAD_FAULTS};
 
 /// Inputs and frames of the shapes with the most sequences.
 const LARGEST: [(usize, usize); 2] = [(1, 16), (2, 8)];
@@ -53,18 +53,11 @@ fn case(seed: u64, file: &[u8]) -> Case<'_> {
     }
 }
 
-fn result_of(bytes: usize) -> Room {
-    Room {
-        bytes,
-        ..Room::default()
-    }
-}
-
 /// Merges with both implementations, with a result of `length` bytes.
 fn merge(seed: u64, file: &[u8], length: usize) -> [u64; 2] {
     compare(
         &case(seed, file),
-        result_of(length),
+        Room::of_bytes(length),
         |lent| reference::merge(file, lent.bytes).into(),
         |lent, answer| call_merge(file, lent.bytes, answer),
     )
@@ -817,13 +810,7 @@ fn every_combination_of_faults_names_the_first() {
     head_faults.insert(1, (|file| set_word(file, 0, 3), |_| [2, 0]));
     judges_in_order(&head_faults);
     judges_in_order(&ENTRY_FAULTS);
-    // The first and the last of both, together.
-    let across: Vec<Fault<Vec<u8>>> = HEAD_FAULTS
-        .into_iter()
-        .step_by(5)
-        .chain(ENTRY_FAULTS.into_iter().step_by(2))
-        .collect();
-    judges_in_order(&across);
+    judges_in_order(&faults_across());
 }
 
 #[test]
@@ -878,7 +865,7 @@ fn a_short_answer_changes_nothing() {
         for file in [&file[..], &file[1..]] {
             for room in [0, 60] {
                 let case = case(seed, file);
-                short_answers_change_nothing(&case, result_of(room), 2, |lent, answer| {
+                short_answers_change_nothing(&case, Room::of_bytes(room), 2, |lent, answer| {
                     call_merge(file, lent.bytes, answer)
                 });
             }

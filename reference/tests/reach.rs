@@ -37,18 +37,11 @@ fn reach_case(seed: u64, file: &[u8]) -> Case<'_> {
     }
 }
 
-fn result_of(bytes: usize) -> Room {
-    Room {
-        bytes,
-        ..Room::default()
-    }
-}
-
 /// Counts with both implementations, with a result of `length` bytes.
 fn reach(seed: u64, file: &[u8], length: usize) -> [u64; 2] {
     compare(
         &reach_case(seed, file),
-        result_of(length),
+        Room::of_bytes(length),
         |lent| reference::reach(file, lent.bytes).into(),
         |lent, answer| call_reach(file, lent.bytes, answer),
     )
@@ -525,7 +518,7 @@ fn a_short_answer_changes_nothing() {
             for length in [0, needed(&table), needed(&table) + 3] {
                 short_answers_change_nothing(
                     &reach_case(seed, file),
-                    result_of(length),
+                    Room::of_bytes(length),
                     2,
                     |lent, answer| call_reach(file, lent.bytes, answer),
                 );

@@ -29,7 +29,7 @@ fn simulate(seed: u64, file: &[u8], count: usize, words: &[u16], length: usize) 
             words,
             ..Case::default()
         },
-        result_of(length),
+        Room::of_numbers(length),
         |lent| reference::simulate(file, count, words, lent.numbers).into(),
         |lent, answer| call_simulate(file, count, words, lent.numbers, answer),
     )
@@ -37,13 +37,6 @@ fn simulate(seed: u64, file: &[u8], count: usize, words: &[u16], length: usize) 
 
 fn called(count: usize) -> String {
     format!("simulate with count {count}")
-}
-
-fn result_of(numbers: usize) -> Room {
-    Room {
-        numbers,
-        ..Room::default()
-    }
 }
 
 /// A legal circuit is simulated on the sequences in `words`, with room for more than 32.
@@ -420,7 +413,7 @@ fn a_short_answer_changes_nothing() {
                 words: &words,
                 ..Case::default()
             };
-            let room = result_of(words.len());
+            let room = Room::of_numbers(words.len());
             short_answers_change_nothing(&case, room, 2, |lent, answer| {
                 call_simulate(&file, count, &words, lent.numbers, answer)
             });

@@ -41,18 +41,11 @@ fn unfold_case(seed: u64, file: &[u8]) -> Case<'_> {
     }
 }
 
-fn result_of(bytes: usize) -> Room {
-    Room {
-        bytes,
-        ..Room::default()
-    }
-}
-
 /// Unfolds with both implementations, with a result of `length` bytes.
 fn unfold(seed: u64, file: &[u8], length: usize) -> [u64; 2] {
     compare(
         &unfold_case(seed, file),
-        result_of(length),
+        Room::of_bytes(length),
         |lent| reference::unfold(file, lent.bytes).into(),
         |lent, answer| call_unfold(file, lent.bytes, answer),
     )
@@ -274,7 +267,7 @@ fn a_short_answer_changes_nothing() {
     for seed in seeds(300) {
         let file = tables::any_legal(&mut Rng::new(seed), 8, 4).to_bytes();
         let case = unfold_case(seed, &file);
-        short_answers_change_nothing(&case, result_of(LONGEST), 2, |lent, answer| {
+        short_answers_change_nothing(&case, Room::of_bytes(LONGEST), 2, |lent, answer| {
             call_unfold(&file, lent.bytes, answer)
         });
     }

@@ -102,6 +102,24 @@ pub struct Room {
     pub bytes: usize,
 }
 
+/// Those of calls that write to a result alone. A file of tests needs one of them, or none.
+#[allow(dead_code)]
+impl Room {
+    pub fn of_bytes(bytes: usize) -> Room {
+        Room {
+            bytes,
+            ..Room::default()
+        }
+    }
+
+    pub fn of_numbers(numbers: usize) -> Room {
+        Room {
+            numbers,
+            ..Room::default()
+        }
+    }
+}
+
 /// Those slices. Few calls write to all of them.
 #[allow(dead_code)]
 pub struct Lent<'a> {

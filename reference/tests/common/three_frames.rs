@@ -36,3 +36,10 @@ pub const ENTRY_FAULTS: [Fault<Vec<u8>>; 5] = [
     (|file| set_word(file, 40, 2), |_| [5, 40]),
     (|file| set_word(file, 58, 1), |_| [5, 58]),
 ];
+
+/// The first and the last of both, together. Not every file of tests has these.
+#[allow(dead_code)]
+pub fn faults_across() -> Vec<Fault<Vec<u8>>> {
+    let head = HEAD_FAULTS.into_iter().step_by(5);
+    head.chain(ENTRY_FAULTS.into_iter().step_by(2)).collect()
+}
