@@ -1,4 +1,6 @@
 // Whether a circuit that was surveyed is folded: 18, 14 by which plan is wanted, and 7.
+#![tactic(auto)]
+
 pub mod wanted;
 
 ghost use Rattle.source.specs.Source.{sourced, SourceOf};

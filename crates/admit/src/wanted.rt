@@ -8,7 +8,7 @@ ghost use Rattle.admit.specs.Admit.{agreed_on, WantedOf};
 use ask::plan::{Limits, Plan};
 
 // Any plan, or the one with these numbers, where there are as many as a plan has; else none.
-#[derive(Drop)]
+#[derive(Clone, Copy)]
 pub struct Wanted {
     pub any: bool,
     pub fits: bool,

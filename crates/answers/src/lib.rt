@@ -1,5 +1,7 @@
 // What a call of the C interface leaves in `answer`: number and place, and the further values of a step, of a step of the board, of a price,
 // of asking and of a layer's outputs.
+#![tactic(auto)]
+
 ghost use Rattle.std.specs.Prelude.{◌≡◌, ◌≤◌, length};
 ghost use Rattle.verdict.specs.Judgements.{figures};
 ghost use Rattle.steps.specs.Steps.{step_figures};

@@ -1,4 +1,6 @@
 // Asks for the plan of a circuit's table: its sizes, counts and bytes, before it is written.
+#![tactic(auto)]
+
 pub mod plan;
 
 ghost use Rattle.std.specs.Prelude.{◌≡◌, length};

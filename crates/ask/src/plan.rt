@@ -18,7 +18,7 @@ impl Limits {
 }
 
 // The counts of layers 0 to T, and 0 beyond: a field each, since the borrow checker does not cover an enum that holds an array.
-#[derive(Drop)]
+#[derive(Clone, Copy)]
 pub struct Counts(
     pub u16,
     pub u16,
@@ -60,7 +60,7 @@ impl Counts {
 }
 
 // Document 02's record: n, m, T, the counts, and how many bytes the table takes.
-#[derive(Drop)]
+#[derive(Clone, Copy)]
 pub struct Plan {
     pub inputs: usize,
     pub outputs: usize,
@@ -88,7 +88,7 @@ impl Plan {
 }
 
 // What asking answers.
-#[derive(Drop)]
+#[derive(Clone, Copy)]
 pub enum Asked {
     Planned(Plan),
     Refused(Refusal),

@@ -1,4 +1,6 @@
 // Lanes of numbers that stand in blocks: each lane as the first of its block has it.
+#![tactic(auto)]
+
 ghost use Rattle.std.specs.Prelude.{◌≡◌, Bool, ℕ, ◌-◌, ◌%◌, ◌≤◌, ◌<◌};
 ghost use Rattle.sizes.specs.Limits.{most_bits};
 ghost use Rattle.circuit.specs.Lists.{bit, block_start};

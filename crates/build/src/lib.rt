@@ -1,5 +1,7 @@
 // The diagrams of a circuit's signals: of its inputs, then of its gates, one after the other. The ids of the signals lie in `work`, signal by signal,
 // with the cache of the AND behind them.
+#![tactic(auto)]
+
 ghost use Rattle.std.specs.Prelude.{◌≡◌, cond, ◌+◌, ◌-◌, ◌<◌, ◌≤◌, ltb, length, set};
 ghost use Rattle.circuit.specs.Circuit.{gates, all_inputs};
 ghost use Rattle.circuit.specs.Limits.{most_signals};
@@ -13,7 +15,7 @@ use records::join;
 use source::{Source, gate_of};
 
 // What is to be made of a signal: the node of an input, at its level, or the AND of a pair.
-#[derive(Drop)]
+#[derive(Clone, Copy)]
 pub struct Origin {
     pub input: bool,
     pub level: u32,

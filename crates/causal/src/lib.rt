@@ -1,5 +1,7 @@
 // The check of a circuit. Number 4 is judged by what the circuit, or the network by its source, does: where its gates alone do not show that no output looks ahead, all
 // sequences are played, many side by side.
+#![tactic(auto)]
+
 ghost use Rattle.std.specs.Prelude.{◌≡◌, false, ℕ, ◌+◌, ◌-◌, ◌%◌, ◌≤◌, ◌<◌, length, replicate};
 ghost use Rattle.verdict.specs.Judgements.{figures};
 ghost use Rattle.sizes.specs.Limits.{most_outputs, most_bits};

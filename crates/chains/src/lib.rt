@@ -1,4 +1,6 @@
 // Chains of gates, stored one behind the other: the matches of a frame, and its edges (document 01, "Drawing back into gates").
+#![tactic(auto)]
+
 pub mod gates;
 
 ghost use Rattle.std.specs.Prelude.{◌≡◌, [], ◌+◌, ◌*◌, ◌^◌, ◌≤◌, ◌<◌, length};
@@ -13,7 +15,7 @@ use gates::{chain_end, put_gate};
 
 // The circuit that is drawn: its inputs in a frame and how many words they have, its outputs in a frame, the signal of its first gate, and
 // how many gates it has.
-#[derive(Drop)]
+#[derive(Clone, Copy)]
 pub struct Target {
     pub inputs: usize,
     pub words: usize,

@@ -1,4 +1,6 @@
 // Circuits over frames ("charts" in document 01): the format, and every check but that of number 4.
+#![tactic(auto)]
+
 ghost use Rattle.std.specs.Prelude.{◌≡◌, false, ℕ, ◌+◌, ◌*◌, ◌-◌, ◌≤◌, ◌<◌, length};
 ghost use Rattle.verdict.specs.Judgements.{figures};
 ghost use Rattle.sizes.specs.Limits.{most_outputs, most_bits};
@@ -29,7 +31,7 @@ impl Limits {
 }
 
 // The sizes of a circuit, with the signal of its first gate and its number of outputs over all frames.
-#[derive(Drop)]
+#[derive(Clone, Copy)]
 pub struct Head {
     pub inputs: usize,
     pub outputs: usize,
@@ -58,7 +60,7 @@ impl Head {
 }
 
 // Two literals of a gate: those that stand in the circuit, or its operands.
-#[derive(Drop)]
+#[derive(Clone, Copy)]
 pub struct Gate {
     pub left: usize,
     pub right: usize,

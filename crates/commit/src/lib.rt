@@ -1,4 +1,6 @@
 // Commits to a plan: folds a circuit if its table has the sizes, counts and bytes that were agreed on.
+#![tactic(auto)]
+
 ghost use Rattle.std.specs.Prelude.{◌≡◌, length};
 ghost use Rattle.verdict.specs.Judgements.{figures};
 ghost use Rattle.folded.specs.Folded.{scratch_after, nodes_after};

@@ -1,5 +1,7 @@
 // The AND of two diagrams, with a cache of results. The cache lies in `work`, a lent list of numbers: each entry has two ids, their inversions as one
 // number, and the id of their AND. A place keeps the latest.
+#![tactic(auto)]
+
 ghost use Rattle.std.specs.Prelude.{◌≡◌, suc, ◌+◌, ◌-◌, ◌<◌, ◌≤◌, length};
 ghost use Rattle.diagrams.specs.Caching.{flags_of};
 ghost use Rattle.records.specs.Records.{nodes_in};
@@ -19,7 +21,7 @@ impl Limits {
 }
 
 // How many records may be used, of how many inputs the diagrams are, and where in `work` the cache begins.
-#[derive(Drop)]
+#[derive(Clone, Copy)]
 pub struct Shape {
     pub room: u32,
     pub inputs: u32,

@@ -1,4 +1,6 @@
 // How many gates a table needs, counted before any is drawn.
+#![tactic(auto)]
+
 ghost use Rattle.std.specs.Prelude.{◌≡◌, cond, suc, ◌*◌, ◌/◌, ◌≤◌, ◌<◌, ltb, length};
 ghost use Rattle.words.specs.Words.{word_at};
 ghost use Rattle.sizes.specs.Limits.{most_outputs};

@@ -1,4 +1,6 @@
 // Follows decision diagrams down by given inputs: the records are read only, ids lie in a lent list of numbers.
+#![tactic(auto)]
+
 ghost use Rattle.std.specs.Prelude.{◌≡◌, cond, ◌+◌, ◌≤◌, ◌<◌, ◌^◌, eqb, length, get_or, set};
 ghost use Rattle.diagrams.specs.Diagrams.{follow as leads_to};
 ghost use Rattle.diagrams.specs.Frames.{word_bits};
@@ -9,7 +11,7 @@ use nodes::{Node, parts};
 use records::node_of;
 
 // Where a node's ids go: those of word w, below `size`, to `at + w * stride`; the words' first bit is tested at `level`.
-#[derive(Drop)]
+#[derive(Clone, Copy)]
 pub struct Spread {
     pub level: u32,
     pub size: usize,
@@ -19,7 +21,7 @@ pub struct Spread {
 
 // The words of i bits are split into those of one bit more, which is tested at `level`: `count` is the next word to be made,
 // `low` the place of the word that is split, `high` that of the next, and `end` the first of one bit more.
-#[derive(Drop)]
+#[derive(Clone, Copy)]
 pub struct Cursor {
     pub level: u32,
     pub count: usize,
@@ -29,7 +31,7 @@ pub struct Cursor {
 }
 
 // The ids at `from` to `from + count` are followed by the first `top` bits of `path`, then by each word below `fan`; those of word w go to `at + w * count` on.
-#[derive(Drop)]
+#[derive(Clone, Copy)]
 pub struct Job {
     pub from: usize,
     pub count: usize,

@@ -1,4 +1,6 @@
 // The theory of shared, reduced, ordered decision diagrams: definitions and statements are in specs/, their proofs in proofs/.
+#![tactic(auto)]
+
 ghost use Rattle.diagrams.specs.Theorems.{Canonical, Counted, Cut};
 ghost use Rattle.diagrams.specs.Frames.{StatesByCut};
 ghost use Rattle.diagrams.specs.Forward.{InForwardOrder, StatesByClasses};

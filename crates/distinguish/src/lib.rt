@@ -1,5 +1,7 @@
 // The words that tell two states of a layer apart (document 02, Point 12): the shortest list after which the outputs differ, and of the shortest the
 // first in word order.
+#![tactic(auto)]
+
 ghost use Rattle.std.specs.Prelude.{◌≡◌, not, ◌++◌, ◌+◌, ◌-◌, ◌*◌, ◌^◌, ◌≤◌, ◌<◌, eqb, length, drop};
 ghost use Rattle.words.specs.Words.{word_at};
 ghost use Rattle.verdict.specs.Judgements.{figures};
@@ -19,7 +21,7 @@ use verdict::{Refusal, Verdict};
 use words::read;
 
 // Two states of a layer, and how many entries stand below the layer.
-#[derive(Drop)]
+#[derive(Clone, Copy)]
 struct Pair {
     layer: usize,
     below: usize,
@@ -28,7 +30,7 @@ struct Pair {
 }
 
 // A list of words: how many they are, and its number, which has its first word highest.
-#[derive(Drop)]
+#[derive(Clone, Copy)]
 struct Sequence {
     length: usize,
     number: usize,

@@ -1,4 +1,6 @@
 // Draws the gates of a table (document 01, "Drawing back into gates"), gate after gate, into a result with room for all of them.
+#![tactic(auto)]
+
 ghost use Rattle.std.specs.Prelude.{◌≡◌, cond, ◌∷◌, [], suc, ◌+◌, ◌*◌, ◌≤◌, ◌<◌, ltb, length, get_or, take, drop, replicate};
 ghost use Rattle.sizes.specs.Sizes.{outputs, frames};
 ghost use Rattle.circuit.specs.Lists.{listed, bit};
@@ -42,7 +44,7 @@ fn drawn_states(table: &[u8], layout: Layout, t: usize) -> usize
 
 // What a frame is drawn from: its number, its first gate, how many edges it has and how many next states are drawn, and the byte offsets of
 // the edges' next states and outputs.
-#[derive(Drop)]
+#[derive(Clone, Copy)]
 struct Source {
     frame: usize,
     first: usize,

@@ -1,5 +1,7 @@
 // The states of all layers, found forward: each state of a layer, by its smallest history, followed by each word in order. Two such candidates are the
 // same state exactly when they lead to the same id in the diagram of every output of a later frame.
+#![tactic(auto)]
+
 ghost use Rattle.std.specs.Prelude.{◌≡◌, List, ℕ, suc, ◌+◌, ◌*◌, ◌/◌, ◌<◌, min};
 ghost use Rattle.explore.specs.Explore.{column_count, Laid, Starts, Underway, Moves, grouped, next_layer, rows_of, job_of, Groupable, Rowable, Nextable, Explorable, Ends};
 
@@ -19,7 +21,7 @@ impl Limits {
 
 // The sizes of an exploration: so many words (`fan`) of so many bits, frames and outputs to a frame; where the scratch's second half begins, where in
 // work the ids of the outputs stand, and where there is room for the ids of candidates.
-#[derive(Drop)]
+#[derive(Clone, Copy)]
 pub struct Layout {
     pub fan: usize,
     pub bits: usize,
@@ -32,7 +34,7 @@ pub struct Layout {
 
 // Where an exploration stands: at a state of a layer, of which there are so many, their paths from `at` on in the scratch; and at a group of `parts`
 // outputs, the first of which is `first` among all. `counts` has the counts of the layers up to this one.
-#[derive(Drop)]
+#[derive(Clone, Copy)]
 pub struct Cursor {
     pub layer: usize,
     pub states: usize,

@@ -1,4 +1,6 @@
 // Folds a circuit into its table of layered states: the fewest at every layer.
+#![tactic(auto)]
+
 ghost use Rattle.std.specs.Prelude.{◌≡◌, length};
 ghost use Rattle.verdict.specs.Judgements.{figures};
 ghost use Rattle.source.specs.Source.{sourced, SourceOf};

@@ -1,4 +1,6 @@
 // What folding, asking and committing must answer and leave, and what holds of it: definitions and statements are in specs/, proofs in proofs/.
+#![tactic(auto)]
+
 ghost use Rattle.std.specs.Prelude.{ℕ, List};
 ghost use Rattle.folded.specs.Theorems.{MatchesBits, Foldings, TooManyNodes, EnoughNodes, MoreNodes, Askings, Committing};
 

@@ -1,4 +1,6 @@
 // Folds the circuit on standard input and prints how many states each layer has, or why it is refused.
+#![tactic(auto)]
+
 use libc::{STDIN_FILENO, STDOUT_FILENO};
 use program::{Limits, run};
 

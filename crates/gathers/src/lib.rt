@@ -1,4 +1,6 @@
 // Gather chains: over the edges into a state, or over those whose output has a bit.
+#![tactic(auto)]
+
 ghost use Rattle.std.specs.Prelude.{◌≡◌, ◌+◌, ◌/◌, ◌≤◌, ◌<◌, length};
 ghost use Rattle.sizes.specs.Limits.{most_outputs};
 ghost use Rattle.unfolded.specs.Unfolded.{inverted, chain};
@@ -11,14 +13,14 @@ use circuit::is_set;
 use words::read;
 
 // By what an edge belongs to gather chain i: its next state is i, or bit i of its output is 1.
-#[derive(Drop)]
+#[derive(Clone, Copy)]
 pub enum Key {
     NextState,
     OutputBit,
 }
 
 // What is gathered: the edges from gate `edges` on, by their next states or by the bits of their outputs.
-#[derive(Drop)]
+#[derive(Clone, Copy)]
 pub struct Gathering {
     pub key: Key,
     pub edges: usize,

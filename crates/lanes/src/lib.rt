@@ -1,4 +1,6 @@
 // A circuit on several sequences side by side: of each signal there is a number whose bit j, its lane j, is the signal's value on sequence j.
+#![tactic(auto)]
+
 ghost use Rattle.std.specs.Prelude.{◌≡◌, cond, List, [], ℕ, ◌+◌, ◌*◌, ◌-◌, ◌/◌, ◌%◌, ◌^◌, ◌≤◌, ◌<◌, min, ltb, eqb, length, get_or, set, take, drop, replicate};
 ghost use Rattle.sizes.specs.Limits.{most_outputs, most_bits};
 ghost use Rattle.sizes.specs.Sizes.{frames};

@@ -1,4 +1,6 @@
 // The latest frames that the signals of a circuit, or of a network by its source, depend on by their gates, and the first output whose gates reach a later frame than its own.
+#![tactic(auto)]
+
 ghost use Rattle.std.specs.Prelude.{◌≡◌, List, ℕ, ◌+◌, ◌*◌, ◌≤◌, ◌<◌, max, length, get_or, take, replicate};
 ghost use Rattle.sizes.specs.Limits.{most_outputs, most_bits};
 ghost use Rattle.layered.specs.Search.{least};

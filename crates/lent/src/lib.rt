@@ -1,4 +1,6 @@
 // The circuit and the scratch, judged before anything that is lent is used, and what is needed of the scratch cleared.
+#![tactic(auto)]
+
 ghost use Rattle.std.specs.Prelude.{◌≡◌, ◌*◌, ◌^◌, ◌≤◌, eqb, length, replicate};
 ghost use Rattle.verdict.specs.Judgements.{figures};
 ghost use Rattle.sizes.specs.Limits.{most_bits};

@@ -1,4 +1,6 @@
 // One machine for all frames of a table (document 02, Point 13): of the fewest states, one to three, that match it, the first in dictionary order.
+#![tactic(auto)]
+
 ghost use Rattle.std.specs.Prelude.{◌≡◌, ◌+◌, ◌*◌, ◌≤◌, ◌<◌, length};
 ghost use Rattle.words.specs.Words.{stored};
 ghost use Rattle.verdict.specs.Judgements.{figures};
@@ -29,7 +31,7 @@ impl Limits {
 }
 
 // The fewest states of which some machine matches, and the outputs and next states of the first; one more than are tried where none does.
-#[derive(Drop)]
+#[derive(Clone, Copy)]
 struct Fewest {
     states: usize,
     outs: [u16; trial::Limits::ENTRIES],

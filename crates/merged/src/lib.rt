@@ -1,4 +1,6 @@
 // One machine for all frames (document 02, Point 13): definitions and statements are in specs/, their proofs in proofs/.
+#![tactic(auto)]
+
 ghost use Rattle.merged.specs.Theorems.{Tested, FirstChosen, NoneExactly, Only, UndecidedZero, SameMachine, ByDemands, InOrder, FirstFound, NoneFound};
 
 // Computes nothing: its contract states the theorems, so that the check fails where one is not proved.

@@ -1,11 +1,13 @@
 // What the AND of two diagrams and the search for a record decide, by value: no list of records is read here.
+#![tactic(auto)]
+
 ghost use Rattle.std.specs.Prelude.{◌≡◌, cond, ◌&&◌, ◌+◌, ◌<◌, min, eqb, ltb};
 ghost use Rattle.diagrams.specs.Making.{Known, home};
 ghost use Rattle.nodes.specs.Nodes.{halves_of, Stops, Merges, next_id};
 
 // A record: a level, from 1, and two branches; level 0 is no record. The ids 0 and 1 are the constants, id i + 2 is record i.
 #[repr(C)]
-#[derive(Drop)]
+#[derive(Clone, Copy)]
 pub struct Node {
     pub level: u32,
     pub low: u32,
@@ -16,7 +18,7 @@ pub struct Node {
 pub const NONE: u32 = 4294967295;
 
 // The operands of an AND: two ids, each perhaps inverted.
-#[derive(Drop)]
+#[derive(Clone, Copy)]
 pub struct Pair {
     pub f: u32,
     pub a: bool,
@@ -25,7 +27,7 @@ pub struct Pair {
 }
 
 // The operands of its two halves.
-#[derive(Drop)]
+#[derive(Clone, Copy)]
 pub struct Halves {
     pub low: Pair,
     pub high: Pair,
@@ -90,7 +92,7 @@ pub fn top_of(x: Node, y: Node) -> u32
 }
 
 // The low and the high branch of f, whose record is x, at a level.
-#[derive(Drop)]
+#[derive(Clone, Copy)]
 pub struct Split {
     pub low: u32,
     pub high: u32,

@@ -1,5 +1,7 @@
 // The histories that lead to each state of a table: how many they are, and the smallest of them. They are followed forward, entry by entry, in
 // a result that holds the numbers of those so far.
+#![tactic(auto)]
+
 ghost use Rattle.std.specs.Prelude.{◌≡◌, suc, ◌+◌, ◌*◌, ◌^◌, ◌≤◌, ◌<◌, length};
 ghost use Rattle.words.specs.Words.{number_at, stored};
 ghost use Rattle.sizes.specs.Limits.{most_frames};
@@ -24,7 +26,7 @@ impl Limits {
 
 // What the entries of a layer are followed with: its number, 2^n, the byte offset of its next states in the table, those of the counts of its
 // own states and of the next layer's in the result, and how far behind a state's count its smallest history stands.
-#[derive(Drop)]
+#[derive(Clone, Copy)]
 struct Layer {
     layer: usize,
     words: usize,

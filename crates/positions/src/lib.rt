@@ -1,4 +1,6 @@
 // Positions in a table, and their judgement with the word of a step.
+#![tactic(auto)]
+
 ghost use Rattle.std.specs.Prelude.{◌≡◌};
 ghost use Rattle.verdict.specs.Judgements.{figures};
 ghost use Rattle.table.specs.Sound.{TableHeaded, layout_of};
@@ -10,7 +12,7 @@ use verdict::{Refusal, Verdict};
 
 // A position: a layer, and a state of it; in C `tff_position`.
 #[repr(C)]
-#[derive(Drop)]
+#[derive(Clone, Copy)]
 pub struct Position {
     pub layer: usize,
     pub state: usize,

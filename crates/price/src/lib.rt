@@ -1,4 +1,6 @@
 // The price of a table in cents.
+#![tactic(auto)]
+
 ghost use Rattle.std.specs.Prelude.{◌≡◌, ◌*◌, ◌^◌, ◌≤◌, ◌<◌};
 ghost use Rattle.sizes.specs.Limits.{most_frames};
 ghost use Rattle.price.specs.Price.{states_cents, risen, priced, price_figures};
@@ -9,7 +11,7 @@ use table::head::states_below;
 use verdict::{Refusal, Verdict};
 
 // A band of the tariff: how many states it takes, and what each of these costs.
-#[derive(Drop)]
+#[derive(Clone, Copy)]
 pub struct Band {
     pub width: usize,
     pub cents: usize,
@@ -43,14 +45,14 @@ impl Tariff {
 }
 
 // What pricing answers.
-#[derive(Drop)]
+#[derive(Clone, Copy)]
 pub enum Priced {
     Cents(usize),
     Refused(Refusal),
 }
 
 // Document 01's number and place, and the cents.
-#[derive(Drop)]
+#[derive(Clone, Copy)]
 pub struct PriceFigures {
     pub number: usize,
     pub place: usize,

@@ -1,4 +1,6 @@
 // What the folding program prints for the bytes that it reads.
+#![tactic(auto)]
+
 ghost use Rattle.std.specs.Prelude.{◌≡◌, ◌++◌, ◌≤◌, length, drop};
 ghost use Rattle.verdict.specs.Judgements.{figures};
 ghost use Rattle.folded.specs.Folded.{fold_checked, fold_result};

@@ -1,4 +1,6 @@
 // Quiet hours on the board (document 02, "silent hours"): a table stepped with output 0 in a quiet minute, while the state advances.
+#![tactic(auto)]
+
 pub mod windows;
 
 ghost use Rattle.std.specs.Prelude.{◌≡◌};

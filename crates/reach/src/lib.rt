@@ -1,4 +1,6 @@
 // Reach counts of a table: how many histories lead from the start to each state, and the smallest of them.
+#![tactic(auto)]
+
 ghost use Rattle.std.specs.Prelude.{◌≡◌, ◌++◌, ◌+◌, ◌*◌, ◌≤◌, length, drop};
 ghost use Rattle.words.specs.Words.{stored};
 ghost use Rattle.verdict.specs.Judgements.{figures};

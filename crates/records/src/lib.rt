@@ -1,4 +1,6 @@
 // Decision diagrams in a lent list of records.
+#![tactic(auto)]
+
 ghost use Rattle.std.specs.Prelude.{◌≡◌, ◌≢◌, ◌+◌, ◌-◌, ◌≤◌, ◌<◌, length, replicate, set};
 ghost use Rattle.diagrams.specs.Making.{Joined, Laid, no_id};
 ghost use Rattle.nodes.specs.Nodes.{SoughtId};

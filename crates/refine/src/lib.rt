@@ -1,4 +1,6 @@
 // Candidates numbered anew by their numbers so far and their rows, and a path for each new number.
+#![tactic(auto)]
+
 ghost use Rattle.std.specs.Prelude.{◌≡◌, ◌+◌, ◌*◌, ◌/◌, ◌<◌, replicate};
 ghost use Rattle.diagrams.specs.Numbering.{first_same};
 ghost use Rattle.refine.specs.Limits.{bucket_count, link_count};
@@ -20,7 +22,7 @@ impl Limits {
 
 // Where `count` candidates lie: the number of candidate c in scratch at `numbers` + c, room for another at `copy` + c, and part i of its row,
 // which has `parts`, in work at `ids` + c * parts + i.
-#[derive(Drop)]
+#[derive(Clone, Copy)]
 pub struct Rows {
     pub count: usize,
     pub parts: usize,

@@ -1,5 +1,7 @@
 // The first candidate for a machine of all frames that a table does not refute. A candidate is the next states of all entries, as digits of a number, so
 // that the order of numbers is dictionary order.
+#![tactic(auto)]
+
 ghost use Rattle.std.specs.Prelude.{◌≡◌, suc, ◌+◌, ◌*◌, ◌/◌, ◌%◌, ◌^◌, ◌≤◌, ◌<◌, length, get_or, replicate};
 ghost use Rattle.merged.specs.Demands.{skipped};
 ghost use Rattle.trial.specs.Tried.{target_of, Held, Candidate};
@@ -103,7 +105,7 @@ impl Seen {
 }
 
 // What is found among the pairs seen: the bound of a refuted prefix, or one more than all entries; and by which pair.
-#[derive(Drop)]
+#[derive(Clone, Copy)]
 pub struct Recalled {
     pub used: usize,
     pub at: usize,
@@ -247,7 +249,7 @@ fn keep(
 }
 
 // The answer on a candidate, and the pair to try first on the next.
-#[derive(Drop)]
+#[derive(Clone, Copy)]
 pub struct Answer {
     pub used: usize,
     pub ones: [u16; Limits::ENTRIES],
@@ -298,7 +300,7 @@ fn unseen() -> [usize; Seen::NUMBERS]
 }
 
 // What a search answers: the number of a candidate and the outputs, or the number of all candidates.
-#[derive(Drop)]
+#[derive(Clone, Copy)]
 pub struct Found {
     pub number: usize,
     pub ones: [u16; Limits::ENTRIES],

@@ -1,4 +1,6 @@
 // The lines that the folding program prints, made in a buffer.
+#![tactic(auto)]
+
 ghost use Rattle.std.specs.Prelude.{◌+◌, ◌*◌, ◌≤◌, length};
 ghost use Rattle.sizes.specs.Sizes.{frames};
 ghost use Rattle.table.specs.Sound.{TableHeaded};

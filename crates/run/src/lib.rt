@@ -1,4 +1,6 @@
 // A table run on a sequence of input words ("playing" in document 01), step by step.
+#![tactic(auto)]
+
 ghost use Rattle.std.specs.Prelude.{◌≡◌, ◌++◌, ◌≤◌, length, drop};
 ghost use Rattle.verdict.specs.Judgements.{answer, figures};
 ghost use Rattle.sizes.specs.Sizes.{inputs, frames};

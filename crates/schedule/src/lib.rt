@@ -1,4 +1,6 @@
 // A plain network and the places that it is spread over (document 02, Point 11): judged before anything that is lent is used, and made the source of a fold.
+#![tactic(auto)]
+
 ghost use Rattle.std.specs.Prelude.{◌≡◌, cond, ℕ, ◌+◌, ◌≤◌, ◌<◌, leb, ltb, length, get_or};
 ghost use Rattle.verdict.specs.Judgements.{figures};
 ghost use Rattle.sizes.specs.Limits.{most_inputs, most_bits};

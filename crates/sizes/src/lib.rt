@@ -1,4 +1,6 @@
 // The sizes that circuits and tables begin with, and the words that are fed to either: their judgement.
+#![tactic(auto)]
+
 ghost use Rattle.std.specs.Prelude.{◌≡◌, ◌^◌, ◌≤◌, length};
 ghost use Rattle.verdict.specs.Judgements.{figures};
 ghost use Rattle.sizes.specs.Limits.{most_bits};
@@ -9,7 +11,7 @@ use verdict::{Refusal, Verdict};
 use words::read;
 
 // n, m and T of document 01.
-#[derive(Drop)]
+#[derive(Clone, Copy)]
 pub struct Sizes {
     pub inputs: usize,
     pub outputs: usize,

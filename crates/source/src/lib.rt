@@ -1,5 +1,7 @@
 // What folding needs of its source: where each input signal stands, and which gate each place of an output shows. A circuit as it stands is its own source;
 // of a plain network that is spread over frames both come from lists of places. No gates are copied.
+#![tactic(auto)]
+
 ghost use Rattle.std.specs.Prelude.{◌≡◌, false, not, ◌+◌, ◌-◌, ◌/◌, ◌≤◌, ◌<◌};
 ghost use Rattle.sizes.specs.Limits.{most_outputs};
 ghost use Rattle.circuit.specs.Limits.{most_signals};
@@ -12,7 +14,7 @@ use circuit::{Gate, Head, is_unconnected, read_gate};
 
 // The sizes of what is folded: those of the circuit, or those that are given for the network. `own` are the sizes of the circuit or network that is read,
 // and `whole` tells that it is folded as it stands; else `places` has the place of each of its inputs, and `shown` that of each of its outputs.
-#[derive(Drop)]
+#[derive(Clone, Copy)]
 pub struct Source {
     pub inputs: usize,
     pub outputs: usize,

@@ -1,4 +1,6 @@
 // A plain network spread over frames and folded (document 02, Point 11): by the one road to a table.
+#![tactic(auto)]
+
 ghost use Rattle.std.specs.Prelude.{◌≡◌, length};
 ghost use Rattle.verdict.specs.Judgements.{figures};
 ghost use Rattle.spreading.specs.Spread.{spread_checked, spread_result, spread_scratch, spread_nodes};

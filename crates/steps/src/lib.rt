@@ -1,4 +1,6 @@
 // Tables stepped, one entry at a time.
+#![tactic(auto)]
+
 ghost use Rattle.std.specs.Prelude.{◌≡◌, ◌^◌, ◌<◌};
 ghost use Rattle.verdict.specs.Judgements.{figures, answer};
 ghost use Rattle.sizes.specs.Sizes.{inputs, frames};
@@ -15,14 +17,14 @@ use verdict::{Refusal, Verdict};
 use words::read;
 
 // What a step answers: the output and the position moved to, or the refusal and the position given.
-#[derive(Drop)]
+#[derive(Clone, Copy)]
 pub enum Stepped {
     Moved(u16, Position),
     Refused(Refusal, Position),
 }
 
 // Document 01's number and place, and the further values that a step returns.
-#[derive(Drop)]
+#[derive(Clone, Copy)]
 pub struct StepFigures {
     pub number: usize,
     pub place: usize,

@@ -1,4 +1,6 @@
 // Surveys the circuit that a source is: builds the diagrams of its signals, and explores its states.
+#![tactic(auto)]
+
 ghost use Rattle.std.specs.Prelude.{◌≡◌, ◌*◌, ◌≤◌, min, length, replicate};
 ghost use Rattle.circuit.specs.Limits.{most_wired};
 ghost use Rattle.source.specs.Source.{head_of, sourced, SourceOf};
@@ -25,7 +27,7 @@ impl Bounds {
 
 // What a survey finds: the number of the first gate for whose nodes the records are too few, or one more than there are gates; and then the counts of
 // all layers.
-#[derive(Drop)]
+#[derive(Clone, Copy)]
 pub struct Survey {
     pub place: usize,
     pub counts: [u16; Limits::LAYERS],

@@ -18,7 +18,7 @@ pub fn is_stray(connected: usize, output: usize) -> bool
 }
 
 // What the entries of a layer are judged by: next states by the count of the next layer, outputs by the connected ones.
-#[derive(Drop)]
+#[derive(Clone, Copy)]
 struct Bound {
     nexts: bool,
     by: usize,

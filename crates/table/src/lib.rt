@@ -1,4 +1,6 @@
 // Tables of layered states ("sheets" in document 01): the check of a table.
+#![tactic(auto)]
+
 pub mod entries;
 pub mod head;
 
@@ -24,7 +26,7 @@ impl Limits {
 }
 
 // What the head says of the arrays: 2^n, T, and the byte offsets of the outputs and of the next states.
-#[derive(Drop)]
+#[derive(Clone, Copy)]
 pub struct Layout {
     pub words: usize,
     pub frames: usize,

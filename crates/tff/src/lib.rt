@@ -1,5 +1,7 @@
 // The C interface. Slices pass as pointer and length. `answer` receives document 01's number and place in its first two numbers, then the
 // further values named; the rest of it stays as before. Where `answer` is too short for that, nothing at all is changed.
+#![tactic(auto)]
+
 ghost use Rattle.std.specs.Prelude.{◌≡◌, length};
 ghost use Rattle.circuit.specs.Circuit.{checked};
 ghost use Rattle.simulate.specs.Simulate.{simulated, simulation_result};

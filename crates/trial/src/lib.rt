@@ -1,5 +1,7 @@
 // A candidate for a machine of all frames, tried on a table: its next states are followed along every history, and what the table's outputs
 // demand of its entries is collected.
+#![tactic(auto)]
+
 ghost use Rattle.std.specs.Prelude.{◌≡◌, suc, ◌/◌, ◌%◌, ◌^◌, ◌≤◌, ◌<◌, length, get_or, replicate};
 ghost use Rattle.trial.specs.Tried.{target_of, Held, Candidate, Leads, Comes};
 ghost use Rattle.trial.specs.Collected.{Halves, Collected, Walked, Judged};
@@ -9,7 +11,7 @@ use words::read;
 
 // Sizes of a table and of the machine that is sought: `words` is 2^inputs, `entries` is states * words, `gap` the bytes from an output to its next
 // state.
-#[derive(Drop)]
+#[derive(Clone, Copy)]
 pub struct Sought {
     pub inputs: usize,
     pub words: usize,
@@ -28,7 +30,7 @@ impl Limits {
 }
 
 // The table's state, the candidate's, and a bound above the entries that led there.
-#[derive(Drop)]
+#[derive(Clone, Copy)]
 pub struct Place {
     pub target: usize,
     pub state: usize,
@@ -36,7 +38,7 @@ pub struct Place {
 }
 
 // The entry and the output that a history comes to, and that bound.
-#[derive(Drop)]
+#[derive(Clone, Copy)]
 pub struct Visit {
     pub entry: usize,
     pub out: u16,
@@ -151,7 +153,7 @@ fn collect(
 }
 
 // A history of frame + 1 words.
-#[derive(Drop)]
+#[derive(Clone, Copy)]
 pub struct Spot {
     pub frame: usize,
     pub history: usize,
@@ -192,7 +194,7 @@ fn walk(
 
 // What trying a candidate answers: the bound of a refuted prefix, or one more than all entries, and then the bits demanded 1. `spot` is the history
 // that showed the contradiction.
-#[derive(Drop)]
+#[derive(Clone, Copy)]
 pub struct Judgement {
     pub used: usize,
     pub ones: [u16; Limits::ENTRIES],

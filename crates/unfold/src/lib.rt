@@ -1,4 +1,6 @@
 // Unfolds a table into a circuit that gives its outputs.
+#![tactic(auto)]
+
 ghost use Rattle.std.specs.Prelude.{◌≡◌, ◌*◌, ◌+◌, ◌≤◌, length};
 ghost use Rattle.words.specs.Words.{stored};
 ghost use Rattle.verdict.specs.Judgements.{figures};

@@ -1,4 +1,6 @@
 // The figures that document 01 wants proved: their table and its test are in specs/, the proof in proofs/.
+#![tactic(auto)]
+
 ghost use Rattle.std.specs.Prelude.{◌≡◌, true};
 ghost use Rattle.vectors.specs.Vectors.{rows, hold, Each};
 

@@ -1,15 +1,17 @@
 // What every call answers: accepted with a place, or refused for one of document 01's reasons, each with its place.
+#![tactic(auto)]
+
 ghost use Rattle.std.specs.Prelude.{◌≡◌, cond};
 ghost use Rattle.verdict.specs.Judgements.{answer, figures, refusal_figures, and_then};
 
-#[derive(Drop)]
+#[derive(Clone, Copy)]
 pub enum Verdict {
     Accepted(usize),
     Refused(Refusal),
 }
 
 // A case for each of document 01's numbers 1 to 12 and of document 02's from 13 on, in that order. Its value is the place.
-#[derive(Drop)]
+#[derive(Clone, Copy)]
 pub enum Refusal {
     Length(usize),
     Size(usize),
@@ -35,7 +37,7 @@ pub enum Refusal {
 }
 
 // Document 01's number and place.
-#[derive(Drop)]
+#[derive(Clone, Copy)]
 pub struct Figures {
     pub number: usize,
     pub place: usize,

@@ -9,14 +9,14 @@ use table::{Layout, check};
 use verdict::{Refusal, Verdict};
 
 // Where the output words of a layer stand in its table: at a byte offset, so many bytes.
-#[derive(Drop)]
+#[derive(Clone, Copy)]
 pub enum Located {
     Part(usize, usize),
     Refused(Refusal),
 }
 
 // Document 01's number and place, and the offset and length of the part.
-#[derive(Drop)]
+#[derive(Clone, Copy)]
 pub struct LayerFigures {
     pub number: usize,
     pub place: usize,

@@ -1,5 +1,7 @@
 // Views of a table (document 02, Point 9): the outputs of whole sequences through a mask, which is the buyer's reading, and the output words of
 // a layer in the table itself, the board maker's.
+#![tactic(auto)]
+
 pub mod layers;
 
 ghost use Rattle.std.specs.Prelude.{◌≡◌, length};

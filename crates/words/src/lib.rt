@@ -1,4 +1,6 @@
 // Words of 16 and of 32 bits in byte slices, low byte first.
+#![tactic(auto)]
+
 ghost use Rattle.std.specs.Prelude.{◌≡◌, ◌∷◌, [], ◌+◌, ◌*◌, ◌^◌, ◌≤◌, ◌<◌, length, take};
 ghost use Rattle.words.specs.Words.{number_at, word_at, stored};
 

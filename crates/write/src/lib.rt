@@ -1,4 +1,6 @@
 // Writes the table of a circuit whose states are explored: head, outputs and next states, word after word, so that the rest of the result stays as it was.
+#![tactic(auto)]
+
 ghost use Rattle.std.specs.Prelude.{◌≡◌, ◌+◌, ◌*◌, ◌-◌, ◌≤◌, ◌<◌, ◌++◌, length, drop, replicate};
 ghost use Rattle.words.specs.Words.{stored};
 ghost use Rattle.sizes.specs.Sizes.{inputs, outputs, frames};
@@ -21,7 +23,7 @@ use table::head::{connected_at, head_length};
 use words::{store, store_all};
 
 // The next row to be written: that of a state of a layer, of which there are so many, their paths from `at` on in the scratch; it goes to byte offset `to`.
-#[derive(Drop)]
+#[derive(Clone, Copy)]
 pub struct Writing {
     pub layer: usize,
     pub states: usize,
