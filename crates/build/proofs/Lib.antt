@@ -2,8 +2,3 @@
 pub mod Laws
 pub mod Turn
 mod Loop
-mod OriginCall
-mod MakeCall
-mod NumberCall
-mod SetCall
-pub mod BuildCall

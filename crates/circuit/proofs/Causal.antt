@@ -79,6 +79,8 @@ module _ (b : List ℕ) (A : Accepted b) where
       → outputs_of K (response b) t h s ≡ up_from (output_word b (p ++ s)) t k
   unfolding outputs_of up_from
   rest_follows p [] zero t h lp e q none = refl
+  rest_follows p [] (suc k) t h lp e q x8 = elim x8 [ ]
+  rest_follows p (w ∷ s) zero t h lp e q x6 = elim x6 [ ]
   rest_follows p (w ∷ s) (suc k) t h lp e q (more l W) =
       let g : List ℕ = p ++ (w ∷ []) in
       let whole : g ++ s ≡ p ++ (w ∷ s) = append_assoc p (w ∷ []) s in

@@ -1,5 +1,2 @@
 -- The proofs of `commit`: laws by subject, lowest first, and a module for each callee.
 mod Committed
-mod OfCall
-mod WantedCall
-pub mod CommitCall

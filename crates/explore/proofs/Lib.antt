@@ -6,7 +6,3 @@ pub mod Ends
 pub mod Begin
 pub mod Jobs
 pub mod Drive
-mod StartCall
-mod JobOfCall
-mod MoveOnCall
-pub mod ExploreCall

@@ -1,5 +1,2 @@
 -- The proofs of `lent`: laws of the scratch that is needed, and a module for each function that a walk calls.
 pub mod Needed
-pub mod JudgeCall
-pub mod AcceptsCall
-pub mod ClearNeededCall

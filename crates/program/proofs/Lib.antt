@@ -1,5 +1,2 @@
 -- The proofs of `program`: laws by subject, lowest first, and a module for each callee of a walk.
 mod Runs
-mod NoScratchCall
-mod NoNodesCall
-mod FoldingCall

@@ -2,4 +2,3 @@
 pub mod Minutes
 pub mod Stages
 pub mod Timed
-pub mod Cited

@@ -13,6 +13,8 @@ use Rattle.report.specs.Report.{digits, decimal}
 -- digits beyond those that a number has change nothing
 enough : (j k n : ℕ) → n < j → n < k → digits j n ≡ digits k n
 unfolding digits
+enough zero k n p q = elim p [ ]
+enough (suc j) zero n p q = elim q [ ]
 enough (suc j) (suc k) n p q = at (dec_lt n 10) (λ l. enough j k (n / 10) (omega arith) (omega arith))
   where
     at : Dec (n < 10) → (10 ≤ n → digits j (n / 10) ≡ digits k (n / 10)) → digits (suc j) n ≡ digits (suc k) n

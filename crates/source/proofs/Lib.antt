@@ -2,6 +2,4 @@
 pub mod Standing
 pub mod Rearranged
 pub mod Sources
-pub mod Values
 pub mod Signals
-pub mod OfCall

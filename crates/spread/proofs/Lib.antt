@@ -1,6 +1,2 @@
 -- The proofs of `spread`: laws by subject, lowest first, and a module for each callee.
 pub mod Ended
-mod GivenCall
-mod JudgeCall
-mod SourceCall
-pub mod SpreadCall

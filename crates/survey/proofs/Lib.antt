@@ -1,9 +1,3 @@
 -- The proofs of `survey`: what is explored of a circuit whose signals are built, the stages of a survey, a module for each callee, and a call of it.
 pub mod Subject
 pub mod Surveying
-mod ShapeCall
-pub mod LayoutCall
-mod NoneCall
-mod FoundCall
-pub mod NoWorkCall
-pub mod SurveyCall

@@ -1,3 +1,1 @@
 -- The proofs of `tff`: a module for each callee of a walk.
-mod PutCall
-mod PutAskCall

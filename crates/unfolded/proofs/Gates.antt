@@ -60,7 +60,7 @@ unfolding together
 together-append meet f a [] ss = refl
 together-append meet f a (r ∷ rs) ss = together-append meet f (meet a (f r)) rs ss
 
-pub together_cong : {A : Type 0} (meet : A → A → A) (f g : ℕ → A) (a : A) {x : ℕ} {rs : List ℕ} → ((l : ℕ) → l < x → f l ≡ g l) → Under x rs
+pub together_cong : {A : Type 0} (meet : A → A → A) (f g : ℕ → A) {x : ℕ} (a : A) {rs : List ℕ} → ((l : ℕ) → l < x → f l ≡ g l) → Under x rs
     → together meet f a rs ≡ together meet g a rs
 unfolding together
 together_cong meet f g a E none = refl

@@ -83,6 +83,7 @@ all_bytes-append k (x ∷ xs) ys = ap (λ l. bytes_of k x ++ l) (all_bytes-appen
 -- number i of a list that fits is read back from the bytes, whatever follows them
 pub read_back : (k : ℕ) (xs r : List ℕ) (i : ℕ) → Fit k xs → i < length xs → number_at k (all_bytes k xs ++ r) (k * i) ≡ get_or xs i 0
 unfolding all_bytes
+read_back k [] r i _ h = elim h [ ]
 read_back k (x ∷ xs) r zero (more l F) h = rw (mul-zero k, append_assoc) (number_back k x (all_bytes k xs ++ r) l)
 read_back k (x ∷ xs) r (suc i) (more l F) h =
     let p : k * suc i ≡ length (bytes_of k x) + k * i = omega (arith, mul-suc k i, bytes_of-length k x) in

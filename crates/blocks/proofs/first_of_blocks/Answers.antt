@@ -1,0 +1,30 @@
+-- `blocks::first_of_blocks` meets its contract.
+-- Assumes nothing.
+use mathlib.Core.Path.{◌≡◌, refl, sym, ◌∙◌}
+use Prim.Native.Nat.{ℕ, ◌<◌}
+use native.Mathlib.Omega.{arith}
+use lib.Pow.{pow_pos}
+use borrow.Author.Rules.{rules}
+use Rattle.lanes.specs.Limits.{lane_bits, lane_count}
+use Rattle.circuit.specs.Lists.{block_start}
+use Rattle.blocks.proofs.Blocks.{start_zero}
+use Rattle.blocks.proofs.Holds.{holds-first, holds_on}
+use Rattle.blocks.proofs.first_of_blocks.Goals as goal
+
+pub nonzero_rem-at : goal.nonzero_rem-at
+nonzero_rem-at c =
+    omega (arith, pow_pos c.args.bits)
+
+pub returns-then-at-power-ne0 : goal.returns-then-at-power-ne0
+returns-then-at-power-ne0 c =
+    holds_on c.args.bits c.power.ensures c.args.at v c.args.kept c.requires.1 c.if-at-power-ne0.true before
+
+pub returns-then-bits-lt-BITS : goal.returns-then-bits-lt-BITS
+returns-then-bits-lt-BITS c =
+    holds-first c.args.bits c.power.ensures c.args.at v c.args.lanes c.spread.result c.args.bits c.if-at-power-ne0.false (λ j h. refl) c.spread.ensures now
+
+pub returns-else-bits-lt-BITS : goal.returns-else-bits-lt-BITS
+returns-else-bits-lt-BITS c =
+    let first : (j : ℕ) → j < lane_count → block_start lane_bits j ≡ block_start c.args.bits j =
+    λ j h. start_zero lane_bits j (omega arith) h ∙ sym (start_zero c.args.bits j (omega arith) h) in
+    holds-first c.args.bits c.power.ensures c.args.at v c.args.lanes c.spread-else-bits-lt-BITS.result lane_bits c.if-at-power-ne0.false first c.spread-else-bits-lt-BITS.ensures now

@@ -1,0 +1,70 @@
+-- `chains::put_match` meets its contract. The invariant: the chain's first i gates are stored.
+-- Assumes nothing.
+use mathlib.Core.Path.{◌≡◌, sym, ap, ◌∙◌}
+use mathlib.Core.List.{[]}
+use Prim.Native.Nat.{ℕ, ◌+◌, ◌-◌, ◌≤◌}
+use native.Mathlib.Omega.{arith}
+use lib.ListN.{length}
+use Rattle.circuit.specs.Lists.{grown, listed}
+use Rattle.unfolded.specs.Unfolded.{chain, input_literal, matching}
+use Rattle.circuit.proofs.Lists.{listed-length, listed_more}
+use Rattle.unfolded.proofs.Gates.{chain_length}
+use Rattle.chains.specs.Chains.{gates_stored}
+use Rattle.chains.proofs.Stored.{gates-none, gates-length, fits_still, chain_more}
+use Rattle.chains.proofs.put_match.Goals as goal
+
+pub loop-i-init : goal.loop-i-init
+unfolding chain grown
+loop-i-init c =
+    (omega arith, sym (gates-none _ _ _))
+
+pub overflow_add-k : goal.overflow_add-k
+overflow_add-k c =
+    omega (arith, c.requires.fits, c.requires.t_lt_most_frames)
+
+pub chain_end-left-requires : goal.chain_end-left-requires
+chain_end-left-requires c =
+    (c.requires.fits.base-to, omega arith, omega (arith, c.requires.fits, c.requires.t_lt_most_frames))
+
+pub input_literal-right-requires : goal.input_literal-right-requires
+input_literal-right-requires c =
+    (c.requires.fits.inputs-to, c.requires.t_lt_most_frames.0, c.loop-i-test.true)
+
+pub overflow_add-k-in-loop-i : goal.overflow_add-k-in-loop-i
+overflow_add-k-in-loop-i c =
+    omega (arith, c.requires.fits, c.requires.t_lt_most_frames)
+
+pub put_gate-requires : goal.put_gate-requires
+put_gate-requires c =
+    let many : length (chain (c.args.target.base + c.args.k) 1 (listed [] (input_literal c.args.target.inputs c.args.t c.args.w) c.loop-i.i)) ≡ c.loop-i.i =
+    chain_length _ 1 _ ∙ listed-length _ c.loop-i.i
+    in
+    let within : c.args.k + length (chain (c.args.target.base + c.args.k) 1 (listed [] (input_literal c.args.target.inputs c.args.t c.args.w) c.loop-i.i))
+    ≤ c.args.target.gates =
+    omega (arith, many, c.loop-i.invariant.0, c.requires.t_lt_most_frames)
+    in
+    record {
+      fits = fits_still _ c.args.res.now _ _ _ c.requires.fits c.loop-i.invariant.1 (within);
+      k_lt_gates = (omega (arith, c.requires.t_lt_most_frames), omega (arith, c.chain_end-left.ensures.1), c.input_literal-right.ensures.1);
+    }
+
+pub overflow_step-i : goal.overflow_step-i
+overflow_step-i c =
+    omega (arith, c.requires.fits, c.requires.t_lt_most_frames)
+
+pub loop-i-preserved : goal.loop-i-preserved
+loop-i-preserved c =
+    let f : ℕ → ℕ = input_literal c.args.target.inputs c.args.t c.args.w in (
+      omega arith,
+      c.put_gate.ensures
+          ∙ chain_more c.args.target.gates c.args.target.base c.args.k c.args.res.now c.loop-i.result (listed [] f c.loop-i.i) (listed [] f (c.loop-i.i + 1))
+          _ _ _ c.loop-i.invariant.1 (ap (λ (i : ℕ). c.args.k + i) (sym (listed-length f c.loop-i.i))) c.chain_end-left.ensures.0
+          (listed_more f c.loop-i.i _ c.input_literal-right.ensures.0) (omega (arith, c.requires.t_lt_most_frames)) c.requires.fits.room,
+    )
+
+pub returns : goal.returns
+unfolding matching
+returns c =
+    let e : c.loop-i.i ≡ c.args.target.inputs = omega arith in
+    c.loop-i.invariant.1
+    ∙ ap (λ (i : ℕ). gates_stored c.args.target.gates c.args.k c.args.res.now (chain (c.args.target.base + c.args.k) 1 (listed [] (input_literal c.args.target.inputs c.args.t c.args.w) i))) e

@@ -1,0 +1,31 @@
+-- `lanes::gather` meets its contract. The invariant: the bits before `place` are stored.
+-- Assumes nothing.
+use mathlib.Core.Path.{◌≡◌, refl}
+use Prim.Native.Nat.{◌-◌, ◌≤◌}
+use native.Mathlib.Omega.{arith}
+use lib.ListN.{length, get_or, length-set}
+use Rattle.sizes.specs.Limits.{most_bits}
+use Rattle.lanes.specs.Lanes.{NumberLanes}
+use Rattle.lanes.proofs.Laws.{PlacesTo, places-more, gathered}
+use Rattle.lanes.proofs.gather.Goals as goal
+
+pub loop-place-init : goal.loop-place-init
+loop-place-init c =
+    (omega arith, refl, λ j p lj lp. absurd (omega arith))
+
+pub gathered_lanes-requires : goal.gathered_lanes-requires
+gathered_lanes-requires c =
+    (c.requires, omega arith)
+
+pub loop-place-preserved : goal.loop-place-preserved
+loop-place-preserved c = (
+  omega arith,
+  simp length-set c.loop-place.invariant.1,
+  places-more c.loop-place.numbers c.loop-place.place c.gathered_lanes.result (λ j. get_or c.args.histories.now j 0) (omega arith) c.loop-place.invariant.2
+      (λ j lj. gathered c.args.histories.now c.gathered_lanes.result c.loop-place.place j c.gathered_lanes.ensures),
+)
+
+pub returns : goal.returns
+unfolding NumberLanes
+returns c =
+    c.loop-place.invariant.2 j p lj (omega arith)

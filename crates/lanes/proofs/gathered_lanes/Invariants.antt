@@ -1,0 +1,20 @@
+-- `lanes::gathered_lanes` meets its contract. The invariant: the number so far has the bits of the histories from j on.
+-- Assumes nothing.
+use mathlib.Core.Path.{◌≡◌, ap, ◌∙◌}
+use Prim.Native.Nat.{◌-◌, ◌^◌, ◌≤◌, ◌<◌}
+use native.Mathlib.Omega.{arith}
+use lib.ListN.{length, take, drop, length-take}
+use lib.Seq.{take_all}
+use Rattle.circuit.specs.Lists.{packed}
+use Rattle.circuit.proofs.Laws.{packed_below, packed_more}
+use Rattle.lanes.specs.Lanes.{lane}
+use Rattle.lanes.proofs.Laws.{lane-length, digit_is}
+use Rattle.lanes.proofs.gathered_lanes.Given as goal
+
+abbrev pub invariant-loop-j : goal.invariant-loop-j
+invariant-loop-j l =
+    (l.j ≤ length l.histories) × (l.lanes ≡ packed (take (length l.histories - l.j) (drop l.j (lane l.place l.histories))))
+
+abbrev pub decreases-loop-j : goal.decreases-loop-j
+decreases-loop-j l =
+    l.j

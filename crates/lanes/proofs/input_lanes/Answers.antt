@@ -1,0 +1,50 @@
+-- `lanes::input_lanes` meets its contract: an input of the history is a bit of its number, a later one is zero.
+-- Assumes nothing.
+use mathlib.Core.Path.{sym, ◌∙◌}
+use Prim.Native.Nat.{◌+◌, ◌*◌, ◌-◌, ◌<◌}
+use native.Mathlib.Omega.{arith}
+use lib.Arith.{digits_lt}
+use Rattle.circuit.proofs.Bits.{bit-none}
+use Rattle.lanes.specs.Lanes.{NumberLanes}
+use Rattle.lanes.proofs.Laws.{input_bit_lem, input_none}
+use Rattle.lanes.proofs.input_lanes.Goals as goal
+
+pub returns-then-t-frame : goal.returns-then-t-frame
+returns-then-t-frame c =
+    bit-none j ∙ sym (input_none c.args.inputs T c.args.t (h j) c.args.frame c.args.k c.requires.0 c.requires.1 ht (omega (arith, c.if-t-frame)))
+
+pub overflow_mul-result : goal.overflow_mul-result
+overflow_mul-result c =
+    let place : (c.args.t - c.args.frame) * c.args.inputs + c.args.k < c.args.t * c.args.inputs =
+    digits_lt {q = c.args.t - c.args.frame} {m = c.args.t} (omega (arith, c.requires, c.if-t-frame.false)) c.requires.1
+    in
+    omega (arith, place, c.requires)
+
+pub overflow_add-result : goal.overflow_add-result
+overflow_add-result c =
+    let place : (c.args.t - c.args.frame) * c.args.inputs + c.args.k < c.args.t * c.args.inputs =
+    digits_lt {q = c.args.t - c.args.frame} {m = c.args.t} (omega (arith, c.requires, c.if-t-frame.false)) c.requires.1
+    in
+    omega (arith, place, c.requires)
+
+pub offset_bounds-numbers-t : goal.offset_bounds-numbers-t
+offset_bounds-numbers-t c =
+    let place : (c.args.t - c.args.frame) * c.args.inputs + c.args.k < c.args.t * c.args.inputs =
+    digits_lt {q = c.args.t - c.args.frame} {m = c.args.t} (omega (arith, c.requires, c.if-t-frame.false)) c.requires.1
+    in
+    omega (arith, place, c.requires)
+
+pub bounds-numbers-t : goal.bounds-numbers-t
+bounds-numbers-t c =
+    let place : (c.args.t - c.args.frame) * c.args.inputs + c.args.k < c.args.t * c.args.inputs =
+    digits_lt {q = c.args.t - c.args.frame} {m = c.args.t} (omega (arith, c.requires, c.if-t-frame.false)) c.requires.1
+    in
+    omega (arith, place, c.requires)
+
+pub returns : goal.returns
+unfolding NumberLanes
+returns c =
+    let place : (c.args.t - c.args.frame) * c.args.inputs + c.args.k < c.args.t * c.args.inputs =
+    digits_lt {q = c.args.t - c.args.frame} {m = c.args.t} (omega (arith, c.requires, c.if-t-frame.false)) c.requires.1
+    in
+    N j _ lj (omega (arith, place, c.requires)) ∙ sym (input_bit_lem c.args.inputs T c.args.t (h j) c.args.frame c.args.k c.requires.0 c.requires.1 ht c.if-t-frame.false)

@@ -1,0 +1,18 @@
+-- `lent::clear` meets its contract. The invariant: the numbers so far are zero.
+-- Assumes nothing.
+use mathlib.Core.Path.{◌≡◌, ap, ◌∙◌}
+use mathlib.Core.List.{List, ◌++◌, append-nil}
+use Prim.Native.Nat.{ℕ, ◌-◌, ◌≤◌}
+use native.Mathlib.Omega.{arith}
+use lib.ListN.{length, drop, set, replicate, length-set, length-append, length-drop, length-replicate}
+use lib.Seq.{drop-length}
+use borrow.Author.Fill.{fill_none, fill_more}
+use Rattle.lent.proofs.clear.Given as goal
+
+abbrev pub invariant-loop-i : goal.invariant-loop-i
+invariant-loop-i l =
+    (l.i ≤ length l.initial.scratch) × (l.scratch ≡ replicate l.i 0 ++ drop l.i l.initial.scratch)
+
+abbrev pub decreases-loop-i : goal.decreases-loop-i
+decreases-loop-i l =
+    length l.scratch - l.i

@@ -1,0 +1,19 @@
+-- `refine::row_hash` meets its contract. The invariant: `hash` is that of the parts so far.
+-- Assumes nothing.
+use mathlib.Core.Path.{◌≡◌, refl}
+use Prim.Native.Nat.{◌+◌, ◌*◌, ◌-◌, ◌≤◌, ◌<◌}
+use native.Mathlib.Omega.{arith}
+use lib.ListN.{length, get_or}
+use Rattle.refine.specs.Limits.{bucket_count}
+use Rattle.refine.specs.Buckets.{hash_to}
+use Rattle.refine.proofs.Same.{hash_small, hash_more}
+use Rattle.refine.proofs.Refining.{row_fits, hashed}
+use Rattle.refine.proofs.row_hash.Given as goal
+
+abbrev pub invariant-loop-i : goal.invariant-loop-i
+invariant-loop-i l =
+    (l.i ≤ l.parts) × (l.hash ≡ hash_to (get_or l.scratch (l.copy + l.c) 0) (λ l.i. get_or l.work (l.row + l.i) 0) l.i)
+
+abbrev pub decreases-loop-i : goal.decreases-loop-i
+decreases-loop-i l =
+    l.parts - l.i

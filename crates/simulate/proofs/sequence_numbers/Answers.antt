@@ -1,0 +1,74 @@
+-- `simulate::sequence_numbers` meets its contract. The invariant: the numbers of the first k sequences are stored.
+-- Assumes nothing.
+use mathlib.Core.Path.{◌≡◌, refl, sym, ap, ◌∙◌}
+use Prim.Native.Nat.{ℕ, ◌+◌, ◌*◌, ◌-◌, ◌^◌, ◌≤◌, ◌<◌}
+use native.Mathlib.Nat.{zero-mul, suc-mul}
+use native.Mathlib.Omega.{arith}
+use lib.ListN.{length, get_or, length-set}
+use Rattle.layered.specs.Histories.{history_number}
+use Rattle.simulate.specs.Limits.{most_sequences}
+use Rattle.simulate.specs.Simulate.{sequence_at}
+use Rattle.simulate.proofs.Sequences.{ends_before, part_is, part_fed, front_more}
+use Rattle.simulate.proofs.sequence_numbers.Goals as goal
+
+pub loop-k-init : goal.loop-k-init
+loop-k-init c =
+    (omega arith, refl, sym (zero-mul c.args.frames), λ i h. absurd (omega arith))
+
+pub overflow_add-end : goal.overflow_add-end
+overflow_add-end c =
+    let ends : c.loop-k.at + c.args.frames ≤ length c.args.words.now =
+    omega (arith, ends_before c.args.frames c.loop-k.k c.args.count c.loop-k-test.true, c.requires.fed.as_many, c.loop-k.invariant.2)
+    in
+    omega (arith, ends)
+
+pub offset_bounds-words-at : goal.offset_bounds-words-at
+offset_bounds-words-at c =
+    let ends : c.loop-k.at + c.args.frames ≤ length c.args.words.now =
+    omega (arith, ends_before c.args.frames c.loop-k.k c.args.count c.loop-k-test.true, c.requires.fed.as_many, c.loop-k.invariant.2)
+    in
+    omega (arith, ends)
+
+-- TODO no new goal for slice-bounds-sequence-number-end
+-- part-sequence-number-end c =
+--     let ends : c.loop-k.at + c.args.frames ≤ length c.args.words.now =
+--         omega (arith, ends_before c.args.frames c.loop-k.k c.args.count c.loop-k-test.true, c.requires.fed.as_many, c.loop-k.invariant.2)
+--     in
+-- ends
+
+pub sequence_number-requires : goal.sequence_number-requires
+sequence_number-requires c =
+    let f = part_fed c.args.inputs c.args.frames c.args.count c.args.words.now _ c.requires.inputs_le_most_bits.1 c.requires.fed c.loop-k.k c.loop-k-test.true (part_is c.args.frames c.loop-k.k c.loop-k.at c.args.words.now c.loop-k.invariant.2) in
+    record {
+      inputs_le_most_bits = (c.requires.inputs_le_most_bits.0, f.0);
+      fed = f.1;
+    }
+
+pub offset_bounds-numbers-k : goal.offset_bounds-numbers-k
+offset_bounds-numbers-k c =
+    omega (arith, c, c.requires)
+
+pub bounds-numbers-k : goal.bounds-numbers-k
+bounds-numbers-k c =
+    omega (arith, c, c.requires)
+
+pub overflow_step-k : goal.overflow_step-k
+overflow_step-k c =
+    omega (arith, c, c.requires)
+
+pub loop-k-smaller : goal.loop-k-smaller
+loop-k-smaller c =
+    omega (arith, c)
+
+pub loop-k-preserved : goal.loop-k-preserved
+loop-k-preserved c = (
+  omega (arith, c),
+  simp length-set c.loop-k.invariant.1,
+  omega (arith, c.loop-k.invariant.2, suc-mul c.loop-k.k c.args.frames),
+  front_more c.loop-k.numbers c.loop-k.k c.sequence_number.result (λ k. history_number (2 ^ c.args.inputs) 0 (sequence_at c.args.frames c.args.words.now k))
+      (omega (arith, c, c.requires)) c.loop-k.invariant.3 (c.sequence_number.ensures ∙ ap (history_number (2 ^ c.args.inputs) 0) (part_is c.args.frames c.loop-k.k c.loop-k.at c.args.words.now c.loop-k.invariant.2)),
+)
+
+pub returns : goal.returns
+returns c =
+    c.loop-k.invariant.3 k (omega arith)

@@ -1,0 +1,9 @@
+-- `sizes::power` meets its contract: the shift does not wrap.
+-- Assumes nothing.
+use Rattle.sizes.proofs.Laws.{power_is}
+use borrow.Author.Rules.{rules}
+use Rattle.sizes.proofs.power.Goals as goal
+
+pub returns : goal.returns
+returns c =
+    power_is c.args.bits c.requires

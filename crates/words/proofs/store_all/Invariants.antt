@@ -1,0 +1,17 @@
+-- `words::store_all` meets its contract. The invariant: the numbers so far are stored.
+-- Assumes nothing.
+use mathlib.Core.Path.{◌≡◌, refl, sym, ap, ◌∙◌}
+use Prim.Native.Nat.{ℕ, ◌-◌, ◌≤◌}
+use native.Mathlib.Omega.{arith}
+use lib.ListN.{length, take, length-take}
+use Rattle.words.specs.Words.{stored}
+use Rattle.words.proofs.Laws.{stored-none, stored-length, taken_more}
+use Rattle.words.proofs.store_all.Given as goal
+
+abbrev pub invariant-loop-i : goal.invariant-loop-i
+invariant-loop-i l =
+    (l.i ≤ l.count) × (l.bytes ≡ stored 2 l.initial.bytes l.at (take l.i l.numbers))
+
+abbrev pub decreases-loop-i : goal.decreases-loop-i
+decreases-loop-i l =
+    l.count - l.i

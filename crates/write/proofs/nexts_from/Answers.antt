@@ -1,0 +1,108 @@
+-- `write::nexts_from` meets its contract. The invariant: the sum of the counts of the layers so far.
+-- Assumes nothing.
+use mathlib.Core.Path.{◌≡◌, refl, ap, ap₂, ◌∙◌}
+use mathlib.Core.List.{List}
+use Prim.Native.Nat.{ℕ, ◌+◌, ◌*◌, ◌-◌, ◌≤◌}
+use native.Mathlib.Nat.{mul-le-mul}
+use native.Mathlib.Omega.{arith}
+use lib.ListN.{get_or}
+use Rattle.layered.specs.Search.{total}
+use Rattle.layered.proofs.Lists.{total-next}
+use Rattle.table.specs.Table.{head_length}
+use Rattle.table.proofs.Offsets.{head_length_lem}
+use Rattle.explore.specs.declared.Layout.{Layout}
+use Rattle.explore.specs.Explore.{Laid}
+use Rattle.explore.proofs.Layers.{frames-to, words_few}
+use Rattle.write.specs.Write.{nexts_from}
+use Rattle.write.proofs.nexts_from.Goals as goal
+
+-- the entries are few
+entries_few : (layout : Layout) → Laid layout → (states t : ℕ) → t ≤ layout.frames → states ≤ 65535 * t → states * layout.fan ≤ 1048560 * 65536
+entries_few layout L states t h k = let l : states ≤ 1048560 = omega (arith, h, k, frames-to layout L) in mul-le-mul l (words_few layout L)
+
+module _ (c : tie.After-head-length invariant-loop decreases-loop) where
+  abbrev at-loop : tie.At-loop invariant-loop decreases-loop
+  at-loop = c.before.before
+
+  few : at-loop.loop.states * (start at-loop).args.layout.fan ≤ 1048560 * 65536
+  few = entries_few _ (start at-loop).pre.0 _ _ at-loop.loop.inv.0 at-loop.loop.inv.2
+
+-- all layers are summed
+summed : (layout : Layout) (counts : List ℕ) (head states t : ℕ) → head ≡ head_length layout.frames → t ≡ layout.frames → states ≡ total t (λ u. get_or counts u 0) → head + 2 * (states * layout.fan) ≡ nexts_from layout counts
+unfolding nexts_from
+summed layout counts head states t e f g = ap₂ (λ (h s : ℕ). h + 2 * (s * layout.fan)) e (g ∙ ap (λ (t : ℕ). total t (λ u. get_or counts u 0)) f)
+
+pub loop-t-init : goal.loop-t-init
+unfolding total
+loop-t-init c =
+    (omega arith, refl, omega arith)
+
+pub offset_bounds-counts-t : goal.offset_bounds-counts-t
+offset_bounds-counts-t c =
+    let frames-few : c.args.layout.frames ≤ 16 =
+    frames-to _ c.requires.0
+    in
+    omega (arith, c.loop-t-test.true, frames-few)
+
+pub bounds-counts-t : goal.bounds-counts-t
+bounds-counts-t c =
+    let frames-few : c.args.layout.frames ≤ 16 =
+    frames-to _ c.requires.0
+    in
+    omega (arith, c.loop-t-test.true, frames-few, c.requires.1)
+
+pub overflow_cast-states : goal.overflow_cast-states
+overflow_cast-states c =
+    omega (arith, c.type_inv.counts c.loop-t.t)
+
+pub overflow_add-states : goal.overflow_add-states
+overflow_add-states c =
+    let frames-few : c.args.layout.frames ≤ 16 =
+    frames-to _ c.requires.0
+    in
+    omega (arith, c.type_inv.counts c.loop-t.t, c.loop-t.invariant.2, c.loop-t-test.true, frames-few)
+
+pub overflow_step-t : goal.overflow_step-t
+overflow_step-t c =
+    let frames-few : c.args.layout.frames ≤ 16 =
+    frames-to _ c.requires.0
+    in
+    omega (arith, c.loop-t-test.true, frames-few)
+
+pub loop-t-smaller : goal.loop-t-smaller
+loop-t-smaller c =
+    omega (arith, c.loop-t-test.true)
+
+pub loop-t-preserved : goal.loop-t-preserved
+loop-t-preserved c = (
+  omega (arith, c.loop-t-test.true),
+  omega (arith, c.loop-t.invariant.1, total-next (λ u. get_or c.args.counts.now u 0) c.loop-t.t),
+  omega (arith, c.type_inv.counts c.loop-t.t, c.loop-t.invariant.2),
+)
+
+pub head_length-requires : goal.head_length-requires
+head_length-requires c =
+    let frames-few : c.args.layout.frames ≤ 16 =
+    frames-to _ c.requires.0
+    in
+    frames-few
+
+pub overflow_mul-result : goal.overflow_mul-result
+overflow_mul-result c =
+    omega (arith, few c)
+
+pub overflow_mul-result-2 : goal.overflow_mul-result-2
+overflow_mul-result-2 c =
+    omega (arith, few c)
+
+pub overflow_add-result : goal.overflow_add-result
+overflow_add-result c =
+    let frames-few : c.args.layout.frames ≤ 16 =
+    frames-to _ c.requires.0
+    in
+    omega (arith, few c, c.head_length_lem.ensures, head_length_lem (start (at-loop c)).args.layout.frames, frames-few (at-loop c))
+
+pub returns : goal.returns
+returns c =
+    let l = at-loop c in
+    summed _ _ _ _ l.loop.t c.head_length_lem.ensures (omega (arith, l.loop.inv.0)) l.loop.inv.1
