@@ -243,8 +243,8 @@ overflow_add-result c =
     λ t h. let b = (sourced c.args.source c.args.circuit.now) in
     omega (arith, entries_most ((2 ^ inputs ((sourced c.args.source c.args.circuit.now)))) (framesOf b) (response b) (two) t, power_fits (inputs b) t (bits_below b (known).headed t h))
     in
-    let head_is : c.head_length_lem.result ≡ 8 + 4 * framesOf (b₁ (start c)) =
-    c.head_length_lem.ensures ∙ ap head_length (known (start c)).head_is.frames_is ∙ head_length_lem _
+    let head_is : c.head_length.result ≡ 8 + 4 * framesOf (b₁ (start c)) =
+    c.head_length.ensures ∙ ap head_length (known (start c)).head_is.frames_is ∙ head_length_lem _
     in
     let product : c.loop-t.states * c.power.result ≡ total (framesOf (b₁ (start c))) (state_count (b₁ (start c))) * K (start c) =
     let e : c.loop-t.t ≡ framesOf ((sourced c.args.source c.args.circuit.now)) = omega (arith, (known).head_is) in
@@ -266,8 +266,8 @@ returns c =
     let K : ℕ =
     2 ^ inputs ((sourced c.args.source c.args.circuit.now))
     in
-    let head_is : c.head_length_lem.result ≡ 8 + 4 * framesOf (b₁ (start c)) =
-    c.head_length_lem.ensures ∙ ap head_length (known (start c)).head_is.frames_is ∙ head_length_lem _
+    let head_is : c.head_length.result ≡ 8 + 4 * framesOf (b₁ (start c)) =
+    c.head_length.ensures ∙ ap head_length (known (start c)).head_is.frames_is ∙ head_length_lem _
     in
     let product : c.loop-t.states * c.power.result ≡ total (framesOf (b₁ (start c))) (state_count (b₁ (start c))) * K (start c) =
     let e : c.loop-t.t ≡ framesOf ((sourced c.args.source c.args.circuit.now)) = omega (arith, (known).head_is) in

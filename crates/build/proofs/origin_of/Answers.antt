@@ -55,32 +55,32 @@ offset_bounds-work-left c =
     let known : WellFormed (sourced c.args.source c.args.circuit.now) (head_of c.args.source) =
     well _ _ c.requires.source_of
     in
-    omega (arith, known, c.requires, c.gate_of_lem.ensures)
+    omega (arith, known, c.requires, c.gate_of-gate.ensures)
 
 pub bounds-work-left : goal.bounds-work-left
 bounds-work-left c =
     let known : WellFormed (sourced c.args.source c.args.circuit.now) (head_of c.args.source) =
     well _ _ c.requires.source_of
     in
-    omega (arith, known, c.requires, c.gate_of_lem.ensures)
+    omega (arith, known, c.requires, c.gate_of-gate.ensures)
 
 pub offset_bounds-work-right : goal.offset_bounds-work-right
 offset_bounds-work-right c =
     let known : WellFormed (sourced c.args.source c.args.circuit.now) (head_of c.args.source) =
     well _ _ c.requires.source_of
     in
-    omega (arith, known, c.requires, c.gate_of_lem.ensures)
+    omega (arith, known, c.requires, c.gate_of-gate.ensures)
 
 pub bounds-work-right : goal.bounds-work-right
 bounds-work-right c =
     let known : WellFormed (sourced c.args.source c.args.circuit.now) (head_of c.args.source) =
     well _ _ c.requires.source_of
     in
-    omega (arith, known, c.requires, c.gate_of_lem.ensures)
+    omega (arith, known, c.requires, c.gate_of-gate.ensures)
 
 pub returns : goal.returns
 returns c =
     let known : WellFormed (sourced c.args.source c.args.circuit.now) (head_of c.args.source) =
     well _ _ c.requires.source_of
     in
-    origin_gate _ c.args.work.now c.args.s _ _ (known).head_is.base_is c.if-s-base.false c.gate_of_lem.ensures
+    origin_gate _ c.args.work.now c.args.s _ _ (known).head_is.base_is c.if-s-base.false c.gate_of-gate.ensures

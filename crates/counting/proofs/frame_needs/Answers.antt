@@ -64,16 +64,16 @@ overflow_add-from c =
     ap₂ ◌*◌ c.states_of.ensures.0 (lay).words_is
     in
     let s₂ : tie.Start =
-    c
+    s₁ c
     in
-    let from_is : ((c)).args.layout.outputs + 2 * c.entries_below.result ≡ outputs_at (b₀ ((c))) + 2 * entries_below (b₀ ((c))) ((c)).args.t =
-    λ i. (lay ((c))).outputs_is i + 2 * c.entries_below.ensures.0 i
+    let from_is : ((s₁ c)).args.layout.outputs + 2 * c.entries_below.result ≡ outputs_at (b₀ ((s₁ c))) + 2 * entries_below (b₀ ((s₁ c))) ((s₁ c)).args.t =
+    λ i. (lay ((s₁ c))).outputs_is i + 2 * c.entries_below.ensures.0 i
     in
-    let within : ((c)).args.layout.outputs + 2 * c.entries_below.result + 2 * (c.states_of.result * ((c)).args.layout.words) ≤ length (b₀ ((c))) =
-    let s = (c) in
+    let within : ((s₁ c)).args.layout.outputs + 2 * c.entries_below.result + 2 * (c.states_of.result * ((s₁ c)).args.layout.words) ≤ length (b₀ ((s₁ c))) =
+    let s = (s₁ c) in
     omega (arith, from_is, edges_are, lay s, part_in (b₀ s) (outputs_at (b₀ s)) s.args.t (omega (arith, lay s)) s.pre.1.2)
     in
-    omega (arith, within, (c).well_formed)
+    omega (arith, within, (s₁ c).well_formed)
 
 pub overflow_mul-to : goal.overflow_mul-to
 overflow_mul-to c =
@@ -100,16 +100,16 @@ overflow_add-to c =
     ap₂ ◌*◌ c.states_of.ensures.0 (lay).words_is
     in
     let s₂ : tie.Start =
-    c
+    s₁ c
     in
-    let from_is : ((c)).args.layout.outputs + 2 * c.entries_below.result ≡ outputs_at (b₀ ((c))) + 2 * entries_below (b₀ ((c))) ((c)).args.t =
-    λ i. (lay ((c))).outputs_is i + 2 * c.entries_below.ensures.0 i
+    let from_is : ((s₁ c)).args.layout.outputs + 2 * c.entries_below.result ≡ outputs_at (b₀ ((s₁ c))) + 2 * entries_below (b₀ ((s₁ c))) ((s₁ c)).args.t =
+    λ i. (lay ((s₁ c))).outputs_is i + 2 * c.entries_below.ensures.0 i
     in
-    let within : ((c)).args.layout.outputs + 2 * c.entries_below.result + 2 * (c.states_of.result * ((c)).args.layout.words) ≤ length (b₀ ((c))) =
-    let s = (c) in
+    let within : ((s₁ c)).args.layout.outputs + 2 * c.entries_below.result + 2 * (c.states_of.result * ((s₁ c)).args.layout.words) ≤ length (b₀ ((s₁ c))) =
+    let s = (s₁ c) in
     omega (arith, from_is, edges_are, lay s, part_in (b₀ s) (outputs_at (b₀ s)) s.args.t (omega (arith, lay s)) s.pre.1.2)
     in
-    omega (arith, within, (c).well_formed)
+    omega (arith, within, (s₁ c).well_formed)
 
 -- TODO no new goal for slice-bounds-ones-in-end
 -- part-ones-in-end c =
@@ -123,13 +123,13 @@ overflow_add-to c =
 --         ap₂ ◌*◌ c.states_of.ensures.0 (lay).words_is
 --     in
 --     let s₂ : tie.Start =
---         c
+--         s₁ c
 --     in
---     let from_is : ((c)).args.layout.outputs + 2 * c.entries_below.result ≡ outputs_at (b₀ ((c))) + 2 * entries_below (b₀ ((c))) ((c)).args.t =
---         λ i. (lay ((c))).outputs_is i + 2 * c.entries_below.ensures.0 i
+--     let from_is : ((s₁ c)).args.layout.outputs + 2 * c.entries_below.result ≡ outputs_at (b₀ ((s₁ c))) + 2 * entries_below (b₀ ((s₁ c))) ((s₁ c)).args.t =
+--         λ i. (lay ((s₁ c))).outputs_is i + 2 * c.entries_below.ensures.0 i
 --     in
---     let within : ((c)).args.layout.outputs + 2 * c.entries_below.result + 2 * (c.states_of.result * ((c)).args.layout.words) ≤ length (b₀ ((c))) =
---         let s = (c) in
+--     let within : ((s₁ c)).args.layout.outputs + 2 * c.entries_below.result + 2 * (c.states_of.result * ((s₁ c)).args.layout.words) ≤ length (b₀ ((s₁ c))) =
+--         let s = (s₁ c) in
 --     omega (arith, from_is, edges_are, lay s, part_in (b₀ s) (outputs_at (b₀ s)) s.args.t (omega (arith, lay s)) s.pre.1.2)
 --     in
 -- within
@@ -149,23 +149,23 @@ ones_in-ones-requires c =
     row_small _ _ c.states_of.ensures.1 (lay).words-to
     in
     let s₂ : tie.Start =
-    c
+    s₁ c
     in
-    let from_is : ((c)).args.layout.outputs + 2 * c.entries_below.result ≡ outputs_at (b₀ ((c))) + 2 * entries_below (b₀ ((c))) ((c)).args.t =
-    λ i. (lay ((c))).outputs_is i + 2 * c.entries_below.ensures.0 i
+    let from_is : ((s₁ c)).args.layout.outputs + 2 * c.entries_below.result ≡ outputs_at (b₀ ((s₁ c))) + 2 * entries_below (b₀ ((s₁ c))) ((s₁ c)).args.t =
+    λ i. (lay ((s₁ c))).outputs_is i + 2 * c.entries_below.ensures.0 i
     in
     let part : List ℕ =
-    let from : ℕ = ((c)).args.layout.outputs + 2 * c.entries_below.result in
-    take (from + 2 * (c.states_of.result * ((c)).args.layout.words) - from) (drop from (b₀ ((c))))
+    let from : ℕ = ((s₁ c)).args.layout.outputs + 2 * c.entries_below.result in
+    take (from + 2 * (c.states_of.result * ((s₁ c)).args.layout.words) - from) (drop from (b₀ ((s₁ c))))
     in
-    let part-whole : (let from : ℕ = ((c)).args.layout.outputs + 2 * c.entries_below.result in
-    take (from + 2 * (c.states_of.result * ((c)).args.layout.words) - from) (drop from (b₀ ((c))))) ≡ layer_part (b₀ ((c))) (outputs_at (b₀ ((c)))) ((c)).args.t =
-    part_is (b₀ ((c))) _ _ _ _ (from_is) (ap (λ (k : ℕ). ((c)).args.layout.outputs + 2 * c.entries_below.result + 2 * k) (edges_are))
+    let part-whole : (let from : ℕ = ((s₁ c)).args.layout.outputs + 2 * c.entries_below.result in
+    take (from + 2 * (c.states_of.result * ((s₁ c)).args.layout.words) - from) (drop from (b₀ ((s₁ c))))) ≡ layer_part (b₀ ((s₁ c))) (outputs_at (b₀ ((s₁ c)))) ((s₁ c)).args.t =
+    part_is (b₀ ((s₁ c))) _ _ _ _ (from_is) (ap (λ (k : ℕ). ((s₁ c)).args.layout.outputs + 2 * c.entries_below.result + 2 * k) (edges_are))
     in
     let outputs_are : c.args.sizes.outputs ≡ outputs ((c.args.table.now)) =
     ap (λ (z : Sizes). z.outputs) c.requires.layout_value.1
     in
-    let s = (c) in (
+    let s = (s₁ c) in (
       omega (arith, outputs_are s, s.pre.0.sized),
       omega (arith, edges_few, edges_are, ap length (part-whole), part_length (b₀ s) (outputs_at (b₀ s)) s.args.t (omega (arith, lay s)) s.pre.1.2),
     )
@@ -194,7 +194,7 @@ overflow_mul-result c =
     let matches-few : c.args.layout.words * c.args.sizes.inputs ≤ 2048 =
     let h : c.args.sizes.inputs ≤ 8 = omega (arith, inputs_are, c.requires.table_headed.sized) in mul-le-mul (lay).words-to h
     in
-    omega (arith, matches-few)
+    omega (arith, matches-few (s₁ c))
 
 pub overflow_add-result : goal.overflow_add-result
 overflow_add-result c =
@@ -208,15 +208,15 @@ overflow_add-result c =
     row_small _ _ c.states_of.ensures.1 (lay).words-to
     in
     let s₂ : tie.Start =
-    c
+    s₁ c
     in
     let s₃ : tie.Start =
-    (c)
+    (s₁ c)
     in
     let gathered-few : c.gathered-entering.result ≤ 16777216 =
-    rw c.gathered-entering.ensures (cond_most (ltb (suc (((c))).args.t) (((c))).args.layout.frames) (edges_few (n₂ c)))
+    rw c.gathered-entering.ensures (cond_most (ltb (suc (((s₁ c))).args.t) (((s₁ c))).args.layout.frames) (edges_few))
     in
-    omega (arith, gathered-few, c.ones_in_lem.ensures.1)
+    omega (arith, gathered-few, c.ones_in-ones.ensures.1)
 
 pub overflow_add-result-2 : goal.overflow_add-result-2
 overflow_add-result-2 c =
@@ -230,15 +230,15 @@ overflow_add-result-2 c =
     row_small _ _ c.states_of.ensures.1 (lay).words-to
     in
     let s₂ : tie.Start =
-    c
+    s₁ c
     in
     let s₃ : tie.Start =
-    (c)
+    (s₁ c)
     in
     let gathered-few : c.gathered-entering.result ≤ 16777216 =
-    rw c.gathered-entering.ensures (cond_most (ltb (suc (((c))).args.t) (((c))).args.layout.frames) (edges_few (n₂ c)))
+    rw c.gathered-entering.ensures (cond_most (ltb (suc (((s₁ c))).args.t) (((s₁ c))).args.layout.frames) (edges_few))
     in
-    omega (arith, edges_few (n₂ c), gathered-few, c.ones_in_lem.ensures.1)
+    omega (arith, edges_few, gathered-few, c.ones_in-ones.ensures.1)
 
 pub overflow_add-result-3 : goal.overflow_add-result-3
 overflow_add-result-3 c =
@@ -252,21 +252,21 @@ overflow_add-result-3 c =
     row_small _ _ c.states_of.ensures.1 (lay).words-to
     in
     let s₂ : tie.Start =
-    c
+    s₁ c
     in
     let inputs_are : c.args.sizes.inputs ≡ inputs ((c.args.table.now)) =
     ap (λ (z : Sizes). z.inputs) c.requires.layout_value.1
     in
     let s₃ : tie.Start =
-    (c)
+    (s₁ c)
     in
     let gathered-few : c.gathered-entering.result ≤ 16777216 =
-    rw c.gathered-entering.ensures (cond_most (ltb (suc (((c))).args.t) (((c))).args.layout.frames) (edges_few (n₂ c)))
+    rw c.gathered-entering.ensures (cond_most (ltb (suc (((s₁ c))).args.t) (((s₁ c))).args.layout.frames) (edges_few))
     in
     let matches-few : c.args.layout.words * c.args.sizes.inputs ≤ 2048 =
     let h : c.args.sizes.inputs ≤ 8 = omega (arith, inputs_are, c.requires.table_headed.sized) in mul-le-mul (lay).words-to h
     in
-    omega (arith, matches-few, edges_few (n₂ c), gathered-few, c.ones_in_lem.ensures.1)
+    omega (arith, matches-few (s₁ c), edges_few, gathered-few, c.ones_in-ones.ensures.1)
 
 pub returns : goal.returns
 unfolding frame_needs
@@ -284,18 +284,18 @@ returns c =
     row_small _ _ c.states_of.ensures.1 (lay).words-to
     in
     let s₂ : tie.Start =
-    c
+    s₁ c
     in
-    let from_is : ((c)).args.layout.outputs + 2 * c.entries_below.result ≡ outputs_at (b₀ ((c))) + 2 * entries_below (b₀ ((c))) ((c)).args.t =
-    λ i. (lay ((c))).outputs_is i + 2 * c.entries_below.ensures.0 i
+    let from_is : ((s₁ c)).args.layout.outputs + 2 * c.entries_below.result ≡ outputs_at (b₀ ((s₁ c))) + 2 * entries_below (b₀ ((s₁ c))) ((s₁ c)).args.t =
+    λ i. (lay ((s₁ c))).outputs_is i + 2 * c.entries_below.ensures.0 i
     in
     let part : List ℕ =
-    let from : ℕ = ((c)).args.layout.outputs + 2 * c.entries_below.result in
-    take (from + 2 * (c.states_of.result * ((c)).args.layout.words) - from) (drop from (b₀ ((c))))
+    let from : ℕ = ((s₁ c)).args.layout.outputs + 2 * c.entries_below.result in
+    take (from + 2 * (c.states_of.result * ((s₁ c)).args.layout.words) - from) (drop from (b₀ ((s₁ c))))
     in
-    let part-whole : (let from : ℕ = ((c)).args.layout.outputs + 2 * c.entries_below.result in
-    take (from + 2 * (c.states_of.result * ((c)).args.layout.words) - from) (drop from (b₀ ((c))))) ≡ layer_part (b₀ ((c))) (outputs_at (b₀ ((c)))) ((c)).args.t =
-    part_is (b₀ ((c))) _ _ _ _ (from_is) (ap (λ (k : ℕ). ((c)).args.layout.outputs + 2 * c.entries_below.result + 2 * k) (edges_are))
+    let part-whole : (let from : ℕ = ((s₁ c)).args.layout.outputs + 2 * c.entries_below.result in
+    take (from + 2 * (c.states_of.result * ((s₁ c)).args.layout.words) - from) (drop from (b₀ ((s₁ c))))) ≡ layer_part (b₀ ((s₁ c))) (outputs_at (b₀ ((s₁ c)))) ((s₁ c)).args.t =
+    part_is (b₀ ((s₁ c))) _ _ _ _ (from_is) (ap (λ (k : ℕ). ((s₁ c)).args.layout.outputs + 2 * c.entries_below.result + 2 * k) (edges_are))
     in
     let outputs_are : c.args.sizes.outputs ≡ outputs ((c.args.table.now)) =
     ap (λ (z : Sizes). z.outputs) c.requires.layout_value.1
@@ -304,25 +304,25 @@ returns c =
     ap (λ (z : Sizes). z.inputs) c.requires.layout_value.1
     in
     let s₃ : tie.Start =
-    (c)
+    (s₁ c)
     in
-    let ones_is : c.ones_in_lem.result ≡ ones (b₀ (((c)))) (((c))).args.t =
-    let s = ((c)) in
-    c.ones_in_lem.ensures.0
+    let ones_is : c.ones_in-ones.result ≡ ones (b₀ (((s₁ c)))) (((s₁ c))).args.t =
+    let s = ((s₁ c)) in
+    c.ones_in-ones.ensures.0
     ∙ (λ i. total (length (part-whole i) / 2) (λ e. tally (outputs_are s i) (bit (word_at (part-whole i) (2 * e)))))
     ∙ ones_are (b₀ s) s.args.t (omega (arith, lay s)) s.pre.1.2
     in
     let gathered-few : c.gathered-entering.result ≤ 16777216 =
-    rw c.gathered-entering.ensures (cond_most (ltb (suc (((c))).args.t) (((c))).args.layout.frames) (edges_few (n₂ c)))
+    rw c.gathered-entering.ensures (cond_most (ltb (suc (((s₁ c))).args.t) (((s₁ c))).args.layout.frames) (edges_few))
     in
-    let entering-is : c.gathered-entering.result ≡ cond (ltb (suc (((c))).args.t) (frames (b₀ (((c)))))) (states (b₀ (((c)))) (((c))).args.t * 2 ^ inputs (b₀ (((c))))) 0 =
-    let s = ((c)) in c.gathered-entering.ensures ∙ (λ i. cond (ltb (suc s.args.t) ((lay s).frames_is i)) (edges_are (n₂ c) i) 0)
+    let entering-is : c.gathered-entering.result ≡ cond (ltb (suc (((s₁ c))).args.t) (frames (b₀ (((s₁ c)))))) (states (b₀ (((s₁ c)))) (((s₁ c))).args.t * 2 ^ inputs (b₀ (((s₁ c))))) 0 =
+    let s = ((s₁ c)) in c.gathered-entering.ensures ∙ (λ i. cond (ltb (suc s.args.t) ((lay s).frames_is i)) (edges_are i) 0)
     in
     let matches-few : c.args.layout.words * c.args.sizes.inputs ≤ 2048 =
     let h : c.args.sizes.inputs ≤ 8 = omega (arith, inputs_are, c.requires.table_headed.sized) in mul-le-mul (lay).words-to h
     in
-    let s = (c) in
+    let s = (s₁ c) in
     let l = lay s in (
-      (λ i. l.words_is i * inputs_are s i + (edges_are (n₂ c) i + (entering-is i + ones_is i))),
-      omega (arith, matches-few s, edges_few (n₂ c), gathered-few, c.ones_in_lem.ensures.1),
+      (λ i. l.words_is i * inputs_are s i + (edges_are i + (entering-is i + ones_is i))),
+      omega (arith, matches-few s, edges_few, gathered-few, c.ones_in-ones.ensures.1),
     )

@@ -75,7 +75,7 @@ overflow_add-gates c =
     let few : c.loop-t.t < 16 =
     omega (arith, c.loop-t-test.true, frames_are, c.requires.sound.headed.sized)
     in
-    omega (arith, few, c.loop-t.invariant.2, c.frame_needs_lem.ensures.1)
+    omega (arith, few, c.loop-t.invariant.2, c.frame_needs-gates.ensures.1)
 
 pub overflow_step-t : goal.overflow_step-t
 overflow_step-t c =
@@ -93,8 +93,8 @@ overflow_step-t c =
 pub loop-t-preserved : goal.loop-t-preserved
 loop-t-preserved c = (
   omega (arith, c.loop-t-test.true),
-  omega (arith, c.loop-t.invariant.1, c.frame_needs_lem.ensures.0, total-next (frame_needs (c.args.table.now)) c.loop-t.t),
-  omega (arith, c.loop-t.invariant.2, c.frame_needs_lem.ensures.1),
+  omega (arith, c.loop-t.invariant.1, c.frame_needs-gates.ensures.0, total-next (frame_needs (c.args.table.now)) c.loop-t.t),
+  omega (arith, c.loop-t.invariant.2, c.frame_needs-gates.ensures.1),
 )
 
 pub returns : goal.returns

@@ -203,7 +203,7 @@ returns c =
     c.shortest_list-list.result.length _
     (omega (arith, left_is, c.if-res-left.false))
     (sym (history-length K c.shortest_list-list.result.length c.shortest_list-list.result.number) ∙ ap length c.shortest_list-list.ensures.words)
-    (c.store_words_lem.ensures
+    (c.store_words.ensures
     ∙ ap (λ n. history_words n c.shortest_list-list.result.length c.shortest_list-list.result.number ++ drop c.shortest_list-list.result.length a.result.now) (stands).words_is
     ∙ ap (λ l. l ++ drop c.shortest_list-list.result.length a.result.now) c.shortest_list-list.ensures.words)
     -- TODO fields ['verdict', 'res', 'distinguishes', 'folded']

@@ -168,7 +168,7 @@ entries_from-nexts-requires c =
     let entries-stand : (c.args.source.nexts + 2 * c.args.source.edges ≤ length ((c.args.table.now))) × (c.args.source.outputs + 2 * c.args.source.edges ≤ length ((c.args.table.now))) =
     ((nexts_part ((c.args.table.now)) (head) ((c.args.source.frame)) (early) _ _ (planned)).0, (outputs_part ((c.args.table.now)) (head) ((c.args.source.frame)) (early) _ _ (planned)).0)
     in
-    omega (arith, entries-stand (s₁ c))
+    omega (arith, entries-stand)
 
 pub overflow_add-edges : goal.overflow_add-edges
 overflow_add-edges c =
@@ -226,30 +226,30 @@ overflow_add-edges c =
     fits_still c.args.target c.args.res.now ((c.put_matches-edges.new.1.1.1.0)) c.args.source.first (match_gates ((frame_at ((c.args.table.now)) ((c.args.source.frame))))) (fits₀) (stored₁) (omega (arith, room, frame_count ((frame_at ((c.args.table.now)) ((c.args.source.frame))))))
     in
     let s₂ : tie.Start =
-    s₁ c
+    c
     in
     let j₂ : ℕ =
     c.put_matches-edges.result
     in
     let g₂ : ℕ =
-    (c.put_matches-edges.result) + ((s₁ c)).args.source.edges
+    (c.put_matches-edges.result) + ((c)).args.source.edges
     in
     let r₂ : List ℕ =
     c.put_edges.new.1.1.1.1.1.0
     in
-    let stored₂ : (c.put_edges.new.1.1.1.1.1.0) ≡ gates_stored ((s₁ c)).args.target.gates ((c.put_matches-edges.result)) ((c.put_matches-edges.new.1.1.1.0)) (edge_gates (F₀ ((s₁ c)))) =
-    let s = (s₁ c) in
+    let stored₂ : (c.put_edges.new.1.1.1.1.1.0) ≡ gates_stored ((c)).args.target.gates ((c.put_matches-edges.result)) ((c.put_matches-edges.new.1.1.1.0)) (edge_gates (F₀ ((c)))) =
+    let s = (c) in
     c.put_edges.ensures
     ∙ ap (gates_stored s.args.target.gates ((c.put_matches-edges.result)) ((c.put_matches-edges.new.1.1.1.0)))
     (edges_are (b₀ s) (head s) (t₀ s) (early s) s.args.target (aim s) (d₀ s) s.args.source.first (first_is s) ((c.put_matches-edges.result)) c.put_matches-edges.ensures.end
     (head s).sized.inputs_from s.args.states.now (states-count (b₀ s) (head s).one_first (t₀ s) (early s)) s.pre.1.1.1.0.kept _ (edges-is s))
     in
-    let fits₂ : Fits ((s₁ c)).args.target ((c.put_edges.new.1.1.1.1.1.0)) =
-    let s = (s₁ c) in
+    let fits₂ : Fits ((c)).args.target ((c.put_edges.new.1.1.1.1.1.0)) =
+    let s = (c) in
     fits_still s.args.target ((c.put_matches-edges.new.1.1.1.0)) ((c.put_edges.new.1.1.1.1.1.0)) ((c.put_matches-edges.result)) (edge_gates (F₀ s)) (fits₁) (stored₂) (omega (arith, c.put_matches-edges.ensures.end, matches s, frame_count (F₀ s), room s))
     in
-    let edges-in : ((c.put_matches-edges.result) + ((s₁ c)).args.source.edges) ≤ ((s₁ c)).args.target.gates =
-    let s = (s₁ c) in omega (arith, c.put_matches-edges.ensures.end, matches s, edge-length s, frame_count (F₀ s), room s)
+    let edges-in : ((c.put_matches-edges.result) + ((c)).args.source.edges) ≤ ((c)).args.target.gates =
+    let s = (c) in omega (arith, c.put_matches-edges.ensures.end, matches s, edge-length s, frame_count (F₀ s), room s)
     in
     omega (arith, edges-in, (fits₂).gates-to)
 
@@ -282,7 +282,7 @@ slice_bounds-put_gathers-end c =
     let drawn-few : c.args.source.drawn ≤ length c.args.states.now =
     omega (arith, c.requires.states_kept.long, ap (λ (p : Source). p.drawn) (planned), few_drawn ((c.args.table.now)) (suc ((c.args.source.frame))) (few (suc ((c.args.source.frame)))))
     in
-    drawn-few (s₁ c)
+    drawn-few
 
 pub slice_bounds-put_gathers-end-2 : goal.slice_bounds-put_gathers-end-2
 slice_bounds-put_gathers-end-2 c =
@@ -313,7 +313,7 @@ slice_bounds-put_gathers-end-2 c =
     let drawn-few : c.args.source.drawn ≤ length c.args.states.now =
     omega (arith, c.requires.states_kept.long, ap (λ (p : Source). p.drawn) (planned), few_drawn ((c.args.table.now)) (suc ((c.args.source.frame))) (few (suc ((c.args.source.frame)))))
     in
-    let s = (s₁ c) in sym (length-take-le s.args.source.drawn s.args.states.now (drawn-few s))
+    let s = (c) in sym (length-take-le s.args.source.drawn s.args.states.now (drawn-few s))
 
 pub put_gathers-gathers-requires : goal.put_gathers-gathers-requires
 unfolding table_frame
@@ -378,45 +378,45 @@ put_gathers-gathers-requires c =
     fits_still c.args.target c.args.res.now ((c.put_matches-edges.new.1.1.1.0)) c.args.source.first (match_gates ((frame_at ((c.args.table.now)) ((c.args.source.frame))))) (fits₀) (stored₁) (omega (arith, room, frame_count ((frame_at ((c.args.table.now)) ((c.args.source.frame))))))
     in
     let s₂ : tie.Start =
-    s₁ c
+    c
     in
     let j₂ : ℕ =
     c.put_matches-edges.result
     in
     let g₂ : ℕ =
-    (c.put_matches-edges.result) + ((s₁ c)).args.source.edges
+    (c.put_matches-edges.result) + ((c)).args.source.edges
     in
-    let g₂-is : ((c.put_matches-edges.result) + ((s₁ c)).args.source.edges) ≡ (c.put_matches-edges.result) + states (b₀ ((s₁ c))) (t₀ ((s₁ c))) * 2 ^ inputs (b₀ ((s₁ c))) =
-    ap (λ (c : ℕ). (c.put_matches-edges.result) + c) (edges-is ((s₁ c)))
+    let g₂-is : ((c.put_matches-edges.result) + ((c)).args.source.edges) ≡ (c.put_matches-edges.result) + states (b₀ ((c))) (t₀ ((c))) * 2 ^ inputs (b₀ ((c))) =
+    ap (λ (c : ℕ). (c.put_matches-edges.result) + c) (edges-is ((c)))
     in
     let r₂ : List ℕ =
     c.put_edges.new.1.1.1.1.1.0
     in
-    let stored₂ : (c.put_edges.new.1.1.1.1.1.0) ≡ gates_stored ((s₁ c)).args.target.gates ((c.put_matches-edges.result)) ((c.put_matches-edges.new.1.1.1.0)) (edge_gates (F₀ ((s₁ c)))) =
-    let s = (s₁ c) in
+    let stored₂ : (c.put_edges.new.1.1.1.1.1.0) ≡ gates_stored ((c)).args.target.gates ((c.put_matches-edges.result)) ((c.put_matches-edges.new.1.1.1.0)) (edge_gates (F₀ ((c)))) =
+    let s = (c) in
     c.put_edges.ensures
     ∙ ap (gates_stored s.args.target.gates ((c.put_matches-edges.result)) ((c.put_matches-edges.new.1.1.1.0)))
     (edges_are (b₀ s) (head s) (t₀ s) (early s) s.args.target (aim s) (d₀ s) s.args.source.first (first_is s) ((c.put_matches-edges.result)) c.put_matches-edges.ensures.end
     (head s).sized.inputs_from s.args.states.now (states-count (b₀ s) (head s).one_first (t₀ s) (early s)) s.pre.1.1.1.0.kept _ (edges-is s))
     in
-    let fits₂ : Fits ((s₁ c)).args.target ((c.put_edges.new.1.1.1.1.1.0)) =
-    let s = (s₁ c) in
+    let fits₂ : Fits ((c)).args.target ((c.put_edges.new.1.1.1.1.1.0)) =
+    let s = (c) in
     fits_still s.args.target ((c.put_matches-edges.new.1.1.1.0)) ((c.put_edges.new.1.1.1.1.1.0)) ((c.put_matches-edges.result)) (edge_gates (F₀ s)) (fits₁) (stored₂) (omega (arith, c.put_matches-edges.ensures.end, matches s, frame_count (F₀ s), room s))
     in
-    let edges-in : ((c.put_matches-edges.result) + ((s₁ c)).args.source.edges) ≤ ((s₁ c)).args.target.gates =
-    let s = (s₁ c) in omega (arith, c.put_matches-edges.ensures.end, matches s, edge-length s, frame_count (F₀ s), room s)
+    let edges-in : ((c.put_matches-edges.result) + ((c)).args.source.edges) ≤ ((c)).args.target.gates =
+    let s = (c) in omega (arith, c.put_matches-edges.ensures.end, matches s, edge-length s, frame_count (F₀ s), room s)
     in
-    let nexts_in_lem : ((c.put_matches-edges.result) + ((s₁ c)).args.source.edges) + length (next_gates (F₀ ((s₁ c)))) ≤ ((s₁ c)).args.target.gates =
-    let s = (s₁ c) in omega (arith, c.put_matches-edges.ensures.end, matches s, edge-length s, frame_count (F₀ s), room s)
+    let nexts_in_lem : ((c.put_matches-edges.result) + ((c)).args.source.edges) + length (next_gates (F₀ ((c)))) ≤ ((c)).args.target.gates =
+    let s = (c) in omega (arith, c.put_matches-edges.ensures.end, matches s, edge-length s, frame_count (F₀ s), room s)
     in
     let s₃ : tie.Start =
-    (s₁ c)
+    (c)
     in
     let p₃ : List ℕ =
     c.entries_from-nexts.result.now
     in
-    let p₃-is : (c.entries_from-nexts.result.now) ≡ layer_part (b₀ (((s₁ c)))) (nexts_at (b₀ (((s₁ c))))) (t₀ (((s₁ c)))) =
-    let s = ((s₁ c)) in c.entries_from-nexts.ensures ∙ (nexts_part (b₀ s) (head s) (t₀ s) (early s) _ _ (planned s)).1
+    let p₃-is : (c.entries_from-nexts.result.now) ≡ layer_part (b₀ (((c)))) (nexts_at (b₀ (((c))))) (t₀ (((c)))) =
+    let s = ((c)) in c.entries_from-nexts.ensures ∙ (nexts_part (b₀ s) (head s) (t₀ s) (early s) _ _ (planned s)).1
     in
     let drawn-few : c.args.source.drawn ≤ length c.args.states.now =
     omega (arith, c.requires.states_kept.long, ap (λ (p : Source). p.drawn) (planned), few_drawn ((c.args.table.now)) (suc ((c.args.source.frame))) (few (suc ((c.args.source.frame)))))
@@ -430,16 +430,16 @@ put_gathers-gathers-requires c =
     let nexts₃ : Gathering =
     record { key = NextState; edges = (c.put_matches-edges.result) }
     in
-    let chains₃-are : gather_gates (((s₁ c))).args.target ((record { key = NextState; edges = (c.put_matches-edges.result) })) ((c.entries_from-nexts.result.now)) (((c.put_matches-edges.result) + ((s₁ c)).args.source.edges)) (count₃ (((s₁ c)))) ≡ next_gates (F₀ (((s₁ c)))) =
-    let s = ((s₁ c)) in
-    nexts_are (b₀ s) (head s) (t₀ s) (early s) s.args.target (aim s) (d₀ s) s.args.source.first (first_is s) ((c.put_matches-edges.result)) c.put_matches-edges.ensures.end (((c.put_matches-edges.result) + ((s₁ c)).args.source.edges)) (g₂-is) ((c.entries_from-nexts.result.now)) (p₃-is)
+    let chains₃-are : gather_gates (((c))).args.target ((record { key = NextState; edges = (c.put_matches-edges.result) })) ((c.entries_from-nexts.result.now)) (((c.put_matches-edges.result) + ((c)).args.source.edges)) (count₃ (((c)))) ≡ next_gates (F₀ (((c)))) =
+    let s = ((c)) in
+    nexts_are (b₀ s) (head s) (t₀ s) (early s) s.args.target (aim s) (d₀ s) s.args.source.first (first_is s) ((c.put_matches-edges.result)) c.put_matches-edges.ensures.end (((c.put_matches-edges.result) + ((c)).args.source.edges)) (g₂-is) ((c.entries_from-nexts.result.now)) (p₃-is)
     (count₃ s) (count₃-is s)
     in
-    let entries-in : (p : List ℕ) (start : ℕ) → p ≡ layer_part (b₀ ((s₁ c))) start (t₀ ((s₁ c))) → start + 2 * entry_count (b₀ ((s₁ c))) ≤ length (b₀ ((s₁ c)))
-    → (c.put_matches-edges.result) + length p / 2 ≤ ((s₁ c)).args.target.gates =
-    λ p start e h. let s = (s₁ c) in omega (arith, ap length e, part_length (b₀ s) start (t₀ s) h (early s), edges-is s, edges-in)
+    let entries-in : (p : List ℕ) (start : ℕ) → p ≡ layer_part (b₀ ((c))) start (t₀ ((c))) → start + 2 * entry_count (b₀ ((c))) ≤ length (b₀ ((c)))
+    → (c.put_matches-edges.result) + length p / 2 ≤ ((c)).args.target.gates =
+    λ p start e h. let s = (c) in omega (arith, ap length e, part_length (b₀ s) start (t₀ s) h (early s), edges-is s, edges-in)
     in
-    let s = (s₁ c) in
+    let s = (c) in
     let b : List ℕ = b₀ s in
     record {
       fits = fits₂;
@@ -471,7 +471,7 @@ entries_from-words-requires c =
     let entries-stand : (c.args.source.nexts + 2 * c.args.source.edges ≤ length ((c.args.table.now))) × (c.args.source.outputs + 2 * c.args.source.edges ≤ length ((c.args.table.now))) =
     ((nexts_part ((c.args.table.now)) (head) ((c.args.source.frame)) (early) _ _ (planned)).0, (outputs_part ((c.args.table.now)) (head) ((c.args.source.frame)) (early) _ _ (planned)).0)
     in
-    omega (arith, entries-stand (s₁ c))
+    omega (arith, entries-stand)
 
 pub put_gathers-requires : goal.put_gathers-requires
 unfolding table_frame
@@ -536,45 +536,45 @@ put_gathers-requires c =
     fits_still c.args.target c.args.res.now ((c.put_matches-edges.new.1.1.1.0)) c.args.source.first (match_gates ((frame_at ((c.args.table.now)) ((c.args.source.frame))))) (fits₀) (stored₁) (omega (arith, room, frame_count ((frame_at ((c.args.table.now)) ((c.args.source.frame))))))
     in
     let s₂ : tie.Start =
-    s₁ c
+    c
     in
     let j₂ : ℕ =
     c.put_matches-edges.result
     in
     let g₂ : ℕ =
-    (c.put_matches-edges.result) + ((s₁ c)).args.source.edges
+    (c.put_matches-edges.result) + ((c)).args.source.edges
     in
-    let g₂-is : ((c.put_matches-edges.result) + ((s₁ c)).args.source.edges) ≡ (c.put_matches-edges.result) + states (b₀ ((s₁ c))) (t₀ ((s₁ c))) * 2 ^ inputs (b₀ ((s₁ c))) =
-    ap (λ (c : ℕ). (c.put_matches-edges.result) + c) (edges-is ((s₁ c)))
+    let g₂-is : ((c.put_matches-edges.result) + ((c)).args.source.edges) ≡ (c.put_matches-edges.result) + states (b₀ ((c))) (t₀ ((c))) * 2 ^ inputs (b₀ ((c))) =
+    ap (λ (c : ℕ). (c.put_matches-edges.result) + c) (edges-is ((c)))
     in
     let r₂ : List ℕ =
     c.put_edges.new.1.1.1.1.1.0
     in
-    let stored₂ : (c.put_edges.new.1.1.1.1.1.0) ≡ gates_stored ((s₁ c)).args.target.gates ((c.put_matches-edges.result)) ((c.put_matches-edges.new.1.1.1.0)) (edge_gates (F₀ ((s₁ c)))) =
-    let s = (s₁ c) in
+    let stored₂ : (c.put_edges.new.1.1.1.1.1.0) ≡ gates_stored ((c)).args.target.gates ((c.put_matches-edges.result)) ((c.put_matches-edges.new.1.1.1.0)) (edge_gates (F₀ ((c)))) =
+    let s = (c) in
     c.put_edges.ensures
     ∙ ap (gates_stored s.args.target.gates ((c.put_matches-edges.result)) ((c.put_matches-edges.new.1.1.1.0)))
     (edges_are (b₀ s) (head s) (t₀ s) (early s) s.args.target (aim s) (d₀ s) s.args.source.first (first_is s) ((c.put_matches-edges.result)) c.put_matches-edges.ensures.end
     (head s).sized.inputs_from s.args.states.now (states-count (b₀ s) (head s).one_first (t₀ s) (early s)) s.pre.1.1.1.0.kept _ (edges-is s))
     in
-    let fits₂ : Fits ((s₁ c)).args.target ((c.put_edges.new.1.1.1.1.1.0)) =
-    let s = (s₁ c) in
+    let fits₂ : Fits ((c)).args.target ((c.put_edges.new.1.1.1.1.1.0)) =
+    let s = (c) in
     fits_still s.args.target ((c.put_matches-edges.new.1.1.1.0)) ((c.put_edges.new.1.1.1.1.1.0)) ((c.put_matches-edges.result)) (edge_gates (F₀ s)) (fits₁) (stored₂) (omega (arith, c.put_matches-edges.ensures.end, matches s, frame_count (F₀ s), room s))
     in
-    let edges-in : ((c.put_matches-edges.result) + ((s₁ c)).args.source.edges) ≤ ((s₁ c)).args.target.gates =
-    let s = (s₁ c) in omega (arith, c.put_matches-edges.ensures.end, matches s, edge-length s, frame_count (F₀ s), room s)
+    let edges-in : ((c.put_matches-edges.result) + ((c)).args.source.edges) ≤ ((c)).args.target.gates =
+    let s = (c) in omega (arith, c.put_matches-edges.ensures.end, matches s, edge-length s, frame_count (F₀ s), room s)
     in
-    let nexts_in_lem : ((c.put_matches-edges.result) + ((s₁ c)).args.source.edges) + length (next_gates (F₀ ((s₁ c)))) ≤ ((s₁ c)).args.target.gates =
-    let s = (s₁ c) in omega (arith, c.put_matches-edges.ensures.end, matches s, edge-length s, frame_count (F₀ s), room s)
+    let nexts_in_lem : ((c.put_matches-edges.result) + ((c)).args.source.edges) + length (next_gates (F₀ ((c)))) ≤ ((c)).args.target.gates =
+    let s = (c) in omega (arith, c.put_matches-edges.ensures.end, matches s, edge-length s, frame_count (F₀ s), room s)
     in
     let s₃ : tie.Start =
-    (s₁ c)
+    (c)
     in
     let p₃ : List ℕ =
     c.entries_from-nexts.result.now
     in
-    let p₃-is : (c.entries_from-nexts.result.now) ≡ layer_part (b₀ (((s₁ c)))) (nexts_at (b₀ (((s₁ c))))) (t₀ (((s₁ c)))) =
-    let s = ((s₁ c)) in c.entries_from-nexts.ensures ∙ (nexts_part (b₀ s) (head s) (t₀ s) (early s) _ _ (planned s)).1
+    let p₃-is : (c.entries_from-nexts.result.now) ≡ layer_part (b₀ (((c)))) (nexts_at (b₀ (((c))))) (t₀ (((c)))) =
+    let s = ((c)) in c.entries_from-nexts.ensures ∙ (nexts_part (b₀ s) (head s) (t₀ s) (early s) _ _ (planned s)).1
     in
     let drawn-few : c.args.source.drawn ≤ length c.args.states.now =
     omega (arith, c.requires.states_kept.long, ap (λ (p : Source). p.drawn) (planned), few_drawn ((c.args.table.now)) (suc ((c.args.source.frame))) (few (suc ((c.args.source.frame)))))
@@ -588,32 +588,32 @@ put_gathers-requires c =
     let nexts₃ : Gathering =
     record { key = NextState; edges = (c.put_matches-edges.result) }
     in
-    let chains₃-are : gather_gates (((s₁ c))).args.target ((record { key = NextState; edges = (c.put_matches-edges.result) })) ((c.entries_from-nexts.result.now)) (((c.put_matches-edges.result) + ((s₁ c)).args.source.edges)) (count₃ (((s₁ c)))) ≡ next_gates (F₀ (((s₁ c)))) =
-    let s = ((s₁ c)) in
-    nexts_are (b₀ s) (head s) (t₀ s) (early s) s.args.target (aim s) (d₀ s) s.args.source.first (first_is s) ((c.put_matches-edges.result)) c.put_matches-edges.ensures.end (((c.put_matches-edges.result) + ((s₁ c)).args.source.edges)) (g₂-is) ((c.entries_from-nexts.result.now)) (p₃-is)
+    let chains₃-are : gather_gates (((c))).args.target ((record { key = NextState; edges = (c.put_matches-edges.result) })) ((c.entries_from-nexts.result.now)) (((c.put_matches-edges.result) + ((c)).args.source.edges)) (count₃ (((c)))) ≡ next_gates (F₀ (((c)))) =
+    let s = ((c)) in
+    nexts_are (b₀ s) (head s) (t₀ s) (early s) s.args.target (aim s) (d₀ s) s.args.source.first (first_is s) ((c.put_matches-edges.result)) c.put_matches-edges.ensures.end (((c.put_matches-edges.result) + ((c)).args.source.edges)) (g₂-is) ((c.entries_from-nexts.result.now)) (p₃-is)
     (count₃ s) (count₃-is s)
     in
-    let entries-in : (p : List ℕ) (start : ℕ) → p ≡ layer_part (b₀ ((s₁ c))) start (t₀ ((s₁ c))) → start + 2 * entry_count (b₀ ((s₁ c))) ≤ length (b₀ ((s₁ c)))
-    → (c.put_matches-edges.result) + length p / 2 ≤ ((s₁ c)).args.target.gates =
-    λ p start e h. let s = (s₁ c) in omega (arith, ap length e, part_length (b₀ s) start (t₀ s) h (early s), edges-is s, edges-in)
+    let entries-in : (p : List ℕ) (start : ℕ) → p ≡ layer_part (b₀ ((c))) start (t₀ ((c))) → start + 2 * entry_count (b₀ ((c))) ≤ length (b₀ ((c)))
+    → (c.put_matches-edges.result) + length p / 2 ≤ ((c)).args.target.gates =
+    λ p start e h. let s = (c) in omega (arith, ap length e, part_length (b₀ s) start (t₀ s) h (early s), edges-is s, edges-in)
     in
     let s₄ : tie.Start =
-    ((s₁ c))
+    ((c))
     in
     let r₃ : List ℕ =
     c.put_gathers-gathers.last.1.1.1.1.1.0
     in
-    let stored₃ : (c.put_gathers-gathers.last.1.1.1.1.1.0) ≡ gates_stored ((((s₁ c)))).args.target.gates (((c.put_matches-edges.result) + ((s₁ c)).args.source.edges)) ((c.put_edges.new.1.1.1.1.1.0)) (next_gates (F₀ ((((s₁ c)))))) =
-    c.put_gathers-gathers.ensures.gates ∙ ap (gates_stored ((((s₁ c)))).args.target.gates (((c.put_matches-edges.result) + ((s₁ c)).args.source.edges)) ((c.put_edges.new.1.1.1.1.1.0))) (chains₃-are)
+    let stored₃ : (c.put_gathers-gathers.last.1.1.1.1.1.0) ≡ gates_stored ((((c)))).args.target.gates (((c.put_matches-edges.result) + ((c)).args.source.edges)) ((c.put_edges.new.1.1.1.1.1.0)) (next_gates (F₀ ((((c)))))) =
+    c.put_gathers-gathers.ensures.gates ∙ ap (gates_stored ((((c)))).args.target.gates (((c.put_matches-edges.result) + ((c)).args.source.edges)) ((c.put_edges.new.1.1.1.1.1.0))) (chains₃-are)
     in
-    let fits₃ : Fits ((((s₁ c)))).args.target ((c.put_gathers-gathers.last.1.1.1.1.1.0)) =
-    let x = c in fits_still ((((s₁ c)))).args.target (r₂ x) ((c.put_gathers-gathers.last.1.1.1.1.1.0)) (g₂ x) (next_gates (F₀ ((((s₁ c)))))) (fits₂ x) (stored₃) (nexts_in_lem x)
+    let fits₃ : Fits ((((c)))).args.target ((c.put_gathers-gathers.last.1.1.1.1.1.0)) =
+    let x = c in fits_still ((((c)))).args.target (r₂ x) ((c.put_gathers-gathers.last.1.1.1.1.1.0)) (g₂ x) (next_gates (F₀ ((((c)))))) (fits₂ x) (stored₃) (nexts_in_lem x)
     in
-    let o₄-is : c.put_gathers-gathers.result ≡ ((c.put_matches-edges.result) + ((s₁ c)).args.source.edges) + length (next_gates (F₀ ((((s₁ c)))))) =
-    c.put_gathers-gathers.ensures.end ∙ ap (λ (gs : List (ℕ × ℕ)). ((c.put_matches-edges.result) + ((s₁ c)).args.source.edges) + length gs) (chains₃-are)
+    let o₄-is : c.put_gathers-gathers.result ≡ ((c.put_matches-edges.result) + ((c)).args.source.edges) + length (next_gates (F₀ ((((c)))))) =
+    c.put_gathers-gathers.ensures.end ∙ ap (λ (gs : List (ℕ × ℕ)). ((c.put_matches-edges.result) + ((c)).args.source.edges) + length gs) (chains₃-are)
     in
     let s₅ : tie.Start =
-    (((s₁ c)))
+    (((c)))
     in
     let x₅ : tie.After-put-edges =
     c
@@ -621,8 +621,8 @@ put_gathers-requires c =
     let p₅ : List ℕ =
     c.entries_from-words.result.now
     in
-    let p₅-is : (c.entries_from-words.result.now) ≡ layer_part (b₀ (((((s₁ c)))))) (outputs_at (b₀ (((((s₁ c))))))) (t₀ (((((s₁ c)))))) =
-    let s = ((((s₁ c)))) in c.entries_from-words.ensures ∙ (outputs_part (b₀ s) (head s) (t₀ s) (early s) _ _ (planned s)).1
+    let p₅-is : (c.entries_from-words.result.now) ≡ layer_part (b₀ (((((c)))))) (outputs_at (b₀ (((((c))))))) (t₀ (((((c)))))) =
+    let s = ((((c)))) in c.entries_from-words.ensures ∙ (outputs_part (b₀ s) (head s) (t₀ s) (early s) _ _ (planned s)).1
     in
     let count₅-is : length c.args.outputs.now ≡ ((frame_at ((c.args.table.now)) ((c.args.source.frame)))).outputs =
     c.requires.outputs_len ∙ outs_count ((c.args.table.now)) (head) ((c.args.source.frame)) (early) c.args.target (aim) ((drawing ((c.args.table.now)) ((c.args.source.frame))))
@@ -630,18 +630,18 @@ put_gathers-requires c =
     let outs₅ : Gathering =
     record { key = OutputBit; edges = j₂ ((c)) }
     in
-    let chains₅-are : gather_gates (((((s₁ c))))).args.target ((record { key = OutputBit; edges = j₂ ((c)) })) ((c.entries_from-words.result.now)) c.put_gathers-gathers.result (length (((((s₁ c))))).args.outputs.now) ≡ out_gates (F₀ (((((s₁ c)))))) =
-    let s = ((((s₁ c)))) in
+    let chains₅-are : gather_gates (((((c))))).args.target ((record { key = OutputBit; edges = j₂ ((c)) })) ((c.entries_from-words.result.now)) c.put_gathers-gathers.result (length (((((c))))).args.outputs.now) ≡ out_gates (F₀ (((((c)))))) =
+    let s = ((((c)))) in
     let x = (c) in
     outs_are (b₀ s) (head s) (t₀ s) (early s) s.args.target (aim s) (d₀ s) s.args.source.first (first_is s) (j₂ x) (m₂ x).put-matches.ensures.1 (g₂ x) (g₂-is x)
     c.put_gathers-gathers.result (o₄-is) ((c.entries_from-words.result.now)) (p₅-is) _ (count₅-is s)
     in
-    let outs-end : c.put_gathers-gathers.result + length (out_gates (F₀ ((((s₁ c)))))) ≡ ((((s₁ c)))).args.source.first + length (frame_gates (F₀ ((((s₁ c)))))) =
-    let s = (((s₁ c))) in
+    let outs-end : c.put_gathers-gathers.result + length (out_gates (F₀ ((((c)))))) ≡ ((((c)))).args.source.first + length (frame_gates (F₀ ((((c)))))) =
+    let s = (((c))) in
     let x = c in
     omega (arith, o₄-is, (m₂ x).put-matches.ensures.1, matches s, edge-length s, frame_count (F₀ s))
     in
-    let s = (s₁ c) in
+    let s = (c) in
     let b : List ℕ = b₀ s in record {
       fits = fits₃;
       literals_len_bound = (λ _. omega (arith, s.pre.1.1.1.1, (fits₀ s).outputs-to));
@@ -709,35 +709,35 @@ returns c =
     (matches_are ((c.args.table.now)) (head) ((c.args.source.frame)) (early) c.args.target (aim) ((drawing ((c.args.table.now)) ((c.args.source.frame)))) c.args.source.first (first_is))
     in
     let s₂ : tie.Start =
-    s₁ c
+    c
     in
     let j₂ : ℕ =
     c.put_matches-edges.result
     in
     let g₂ : ℕ =
-    (c.put_matches-edges.result) + ((s₁ c)).args.source.edges
+    (c.put_matches-edges.result) + ((c)).args.source.edges
     in
-    let g₂-is : ((c.put_matches-edges.result) + ((s₁ c)).args.source.edges) ≡ (c.put_matches-edges.result) + states (b₀ ((s₁ c))) (t₀ ((s₁ c))) * 2 ^ inputs (b₀ ((s₁ c))) =
-    ap (λ (c : ℕ). (c.put_matches-edges.result) + c) (edges-is ((s₁ c)))
+    let g₂-is : ((c.put_matches-edges.result) + ((c)).args.source.edges) ≡ (c.put_matches-edges.result) + states (b₀ ((c))) (t₀ ((c))) * 2 ^ inputs (b₀ ((c))) =
+    ap (λ (c : ℕ). (c.put_matches-edges.result) + c) (edges-is ((c)))
     in
     let r₂ : List ℕ =
     c.put_edges.new.1.1.1.1.1.0
     in
-    let stored₂ : (c.put_edges.new.1.1.1.1.1.0) ≡ gates_stored ((s₁ c)).args.target.gates ((c.put_matches-edges.result)) ((c.put_matches-edges.new.1.1.1.0)) (edge_gates (F₀ ((s₁ c)))) =
-    let s = (s₁ c) in
+    let stored₂ : (c.put_edges.new.1.1.1.1.1.0) ≡ gates_stored ((c)).args.target.gates ((c.put_matches-edges.result)) ((c.put_matches-edges.new.1.1.1.0)) (edge_gates (F₀ ((c)))) =
+    let s = (c) in
     c.put_edges.ensures
     ∙ ap (gates_stored s.args.target.gates ((c.put_matches-edges.result)) ((c.put_matches-edges.new.1.1.1.0)))
     (edges_are (b₀ s) (head s) (t₀ s) (early s) s.args.target (aim s) (d₀ s) s.args.source.first (first_is s) ((c.put_matches-edges.result)) c.put_matches-edges.ensures.end
     (head s).sized.inputs_from s.args.states.now (states-count (b₀ s) (head s).one_first (t₀ s) (early s)) s.pre.1.1.1.0.kept _ (edges-is s))
     in
     let s₃ : tie.Start =
-    (s₁ c)
+    (c)
     in
     let p₃ : List ℕ =
     c.entries_from-nexts.result.now
     in
-    let p₃-is : (c.entries_from-nexts.result.now) ≡ layer_part (b₀ (((s₁ c)))) (nexts_at (b₀ (((s₁ c))))) (t₀ (((s₁ c)))) =
-    let s = ((s₁ c)) in c.entries_from-nexts.ensures ∙ (nexts_part (b₀ s) (head s) (t₀ s) (early s) _ _ (planned s)).1
+    let p₃-is : (c.entries_from-nexts.result.now) ≡ layer_part (b₀ (((c)))) (nexts_at (b₀ (((c))))) (t₀ (((c)))) =
+    let s = ((c)) in c.entries_from-nexts.ensures ∙ (nexts_part (b₀ s) (head s) (t₀ s) (early s) _ _ (planned s)).1
     in
     let drawn-few : c.args.source.drawn ≤ length c.args.states.now =
     omega (arith, c.requires.states_kept.long, ap (λ (p : Source). p.drawn) (planned), few_drawn ((c.args.table.now)) (suc ((c.args.source.frame))) (few (suc ((c.args.source.frame)))))
@@ -751,37 +751,37 @@ returns c =
     let nexts₃ : Gathering =
     record { key = NextState; edges = (c.put_matches-edges.result) }
     in
-    let chains₃-are : gather_gates (((s₁ c))).args.target ((record { key = NextState; edges = (c.put_matches-edges.result) })) ((c.entries_from-nexts.result.now)) (((c.put_matches-edges.result) + ((s₁ c)).args.source.edges)) (count₃ (((s₁ c)))) ≡ next_gates (F₀ (((s₁ c)))) =
-    let s = ((s₁ c)) in
-    nexts_are (b₀ s) (head s) (t₀ s) (early s) s.args.target (aim s) (d₀ s) s.args.source.first (first_is s) ((c.put_matches-edges.result)) c.put_matches-edges.ensures.end (((c.put_matches-edges.result) + ((s₁ c)).args.source.edges)) (g₂-is) ((c.entries_from-nexts.result.now)) (p₃-is)
+    let chains₃-are : gather_gates (((c))).args.target ((record { key = NextState; edges = (c.put_matches-edges.result) })) ((c.entries_from-nexts.result.now)) (((c.put_matches-edges.result) + ((c)).args.source.edges)) (count₃ (((c)))) ≡ next_gates (F₀ (((c)))) =
+    let s = ((c)) in
+    nexts_are (b₀ s) (head s) (t₀ s) (early s) s.args.target (aim s) (d₀ s) s.args.source.first (first_is s) ((c.put_matches-edges.result)) c.put_matches-edges.ensures.end (((c.put_matches-edges.result) + ((c)).args.source.edges)) (g₂-is) ((c.entries_from-nexts.result.now)) (p₃-is)
     (count₃ s) (count₃-is s)
     in
-    let kept₃-are : gather_literals (((s₁ c))).args.target ((record { key = NextState; edges = (c.put_matches-edges.result) })) ((c.entries_from-nexts.result.now)) (((c.put_matches-edges.result) + ((s₁ c)).args.source.edges)) (count₃ (((s₁ c)))) ≡ (drawing (b₀ (((s₁ c)))) (suc (t₀ (((s₁ c)))))).states =
-    let s = ((s₁ c)) in
-    next_literals (b₀ s) (head s) (t₀ s) (early s) s.args.target (aim s) (d₀ s) s.args.source.first (first_is s) ((c.put_matches-edges.result)) c.put_matches-edges.ensures.end (((c.put_matches-edges.result) + ((s₁ c)).args.source.edges)) (g₂-is) ((c.entries_from-nexts.result.now)) (p₃-is)
+    let kept₃-are : gather_literals (((c))).args.target ((record { key = NextState; edges = (c.put_matches-edges.result) })) ((c.entries_from-nexts.result.now)) (((c.put_matches-edges.result) + ((c)).args.source.edges)) (count₃ (((c)))) ≡ (drawing (b₀ (((c)))) (suc (t₀ (((c)))))).states =
+    let s = ((c)) in
+    next_literals (b₀ s) (head s) (t₀ s) (early s) s.args.target (aim s) (d₀ s) s.args.source.first (first_is s) ((c.put_matches-edges.result)) c.put_matches-edges.ensures.end (((c.put_matches-edges.result) + ((c)).args.source.edges)) (g₂-is) ((c.entries_from-nexts.result.now)) (p₃-is)
     (count₃ s) (count₃-is s)
     ∙ sym (states-next (b₀ s) (t₀ s))
     in
     let s₄ : tie.Start =
-    ((s₁ c))
+    ((c))
     in
     let r₃ : List ℕ =
     c.put_gathers-gathers.last.1.1.1.1.1.0
     in
-    let stored₃ : (c.put_gathers-gathers.last.1.1.1.1.1.0) ≡ gates_stored ((((s₁ c)))).args.target.gates (((c.put_matches-edges.result) + ((s₁ c)).args.source.edges)) ((c.put_edges.new.1.1.1.1.1.0)) (next_gates (F₀ ((((s₁ c)))))) =
-    c.put_gathers-gathers.ensures.gates ∙ ap (gates_stored ((((s₁ c)))).args.target.gates (((c.put_matches-edges.result) + ((s₁ c)).args.source.edges)) ((c.put_edges.new.1.1.1.1.1.0))) (chains₃-are)
+    let stored₃ : (c.put_gathers-gathers.last.1.1.1.1.1.0) ≡ gates_stored ((((c)))).args.target.gates (((c.put_matches-edges.result) + ((c)).args.source.edges)) ((c.put_edges.new.1.1.1.1.1.0)) (next_gates (F₀ ((((c)))))) =
+    c.put_gathers-gathers.ensures.gates ∙ ap (gates_stored ((((c)))).args.target.gates (((c.put_matches-edges.result) + ((c)).args.source.edges)) ((c.put_edges.new.1.1.1.1.1.0))) (chains₃-are)
     in
-    let states₃ : StatesKept (b₀ ((((s₁ c))))) (suc (t₀ ((((s₁ c)))))) (c.put_gathers-gathers.new.1.1.1.1.0 ++ drop ((((s₁ c)))).args.source.drawn ((((s₁ c)))).args.states.now) =
-    let s = (((s₁ c))) in
+    let states₃ : StatesKept (b₀ ((((c))))) (suc (t₀ ((((c)))))) (c.put_gathers-gathers.new.1.1.1.1.0 ++ drop ((((c)))).args.source.drawn ((((c)))).args.states.now) =
+    let s = (((c))) in
     let e = c.put_gathers-gathers.ensures.ends ∙ kept₃-are in
     states-left (b₀ s) s.args.states.now _ (t₀ s) s.args.source.drawn e
     (drawn-is s ∙ sym (ap length (e ∙ states-next (b₀ s) (t₀ s)) ∙ listed-length _ (F₀ s).nexts)) (drawn-few s) s.pre.1.1.1.0.long
     in
-    let o₄-is : c.put_gathers-gathers.result ≡ ((c.put_matches-edges.result) + ((s₁ c)).args.source.edges) + length (next_gates (F₀ ((((s₁ c)))))) =
-    c.put_gathers-gathers.ensures.end ∙ ap (λ (gs : List (ℕ × ℕ)). ((c.put_matches-edges.result) + ((s₁ c)).args.source.edges) + length gs) (chains₃-are)
+    let o₄-is : c.put_gathers-gathers.result ≡ ((c.put_matches-edges.result) + ((c)).args.source.edges) + length (next_gates (F₀ ((((c)))))) =
+    c.put_gathers-gathers.ensures.end ∙ ap (λ (gs : List (ℕ × ℕ)). ((c.put_matches-edges.result) + ((c)).args.source.edges) + length gs) (chains₃-are)
     in
     let s₅ : tie.Start =
-    (((s₁ c)))
+    (((c)))
     in
     let x₅ : tie.After-put-edges =
     c
@@ -789,8 +789,8 @@ returns c =
     let p₅ : List ℕ =
     c.entries_from-words.result.now
     in
-    let p₅-is : (c.entries_from-words.result.now) ≡ layer_part (b₀ (((((s₁ c)))))) (outputs_at (b₀ (((((s₁ c))))))) (t₀ (((((s₁ c)))))) =
-    let s = ((((s₁ c)))) in c.entries_from-words.ensures ∙ (outputs_part (b₀ s) (head s) (t₀ s) (early s) _ _ (planned s)).1
+    let p₅-is : (c.entries_from-words.result.now) ≡ layer_part (b₀ (((((c)))))) (outputs_at (b₀ (((((c))))))) (t₀ (((((c)))))) =
+    let s = ((((c)))) in c.entries_from-words.ensures ∙ (outputs_part (b₀ s) (head s) (t₀ s) (early s) _ _ (planned s)).1
     in
     let count₅-is : length c.args.outputs.now ≡ ((frame_at ((c.args.table.now)) ((c.args.source.frame)))).outputs =
     c.requires.outputs_len ∙ outs_count ((c.args.table.now)) (head) ((c.args.source.frame)) (early) c.args.target (aim) ((drawing ((c.args.table.now)) ((c.args.source.frame))))
@@ -798,37 +798,37 @@ returns c =
     let outs₅ : Gathering =
     record { key = OutputBit; edges = j₂ ((c)) }
     in
-    let chains₅-are : gather_gates (((((s₁ c))))).args.target ((record { key = OutputBit; edges = j₂ ((c)) })) ((c.entries_from-words.result.now)) c.put_gathers-gathers.result (length (((((s₁ c))))).args.outputs.now) ≡ out_gates (F₀ (((((s₁ c)))))) =
-    let s = ((((s₁ c)))) in
+    let chains₅-are : gather_gates (((((c))))).args.target ((record { key = OutputBit; edges = j₂ ((c)) })) ((c.entries_from-words.result.now)) c.put_gathers-gathers.result (length (((((c))))).args.outputs.now) ≡ out_gates (F₀ (((((c)))))) =
+    let s = ((((c)))) in
     let x = (c) in
     outs_are (b₀ s) (head s) (t₀ s) (early s) s.args.target (aim s) (d₀ s) s.args.source.first (first_is s) (j₂ x) (m₂ x).put-matches.ensures.1 (g₂ x) (g₂-is x)
     c.put_gathers-gathers.result (o₄-is) ((c.entries_from-words.result.now)) (p₅-is) _ (count₅-is s)
     in
-    let kept₅-are : gather_literals (((((s₁ c))))).args.target ((record { key = OutputBit; edges = j₂ ((c)) })) ((c.entries_from-words.result.now)) c.put_gathers-gathers.result (length (((((s₁ c))))).args.outputs.now) ≡ listed [] (out_literal (F₀ (((((s₁ c))))))) (((((s₁ c))))).args.target.outputs =
-    let s = ((((s₁ c)))) in
+    let kept₅-are : gather_literals (((((c))))).args.target ((record { key = OutputBit; edges = j₂ ((c)) })) ((c.entries_from-words.result.now)) c.put_gathers-gathers.result (length (((((c))))).args.outputs.now) ≡ listed [] (out_literal (F₀ (((((c))))))) (((((c))))).args.target.outputs =
+    let s = ((((c)))) in
     let x = (c) in
     out_literals (b₀ s) (head s) (t₀ s) (early s) s.args.target (aim s) (d₀ s) s.args.source.first (first_is s) (j₂ x) (m₂ x).put-matches.ensures.1 (g₂ x) (g₂-is x)
     c.put_gathers-gathers.result (o₄-is) ((c.entries_from-words.result.now)) (p₅-is) _ (count₅-is s)
     ∙ ap (listed [] (out_literal (F₀ s))) (sym (count₅-is s) ∙ s.pre.1.1.1.1)
     in
-    let outs-end : c.put_gathers-gathers.result + length (out_gates (F₀ ((((s₁ c)))))) ≡ ((((s₁ c)))).args.source.first + length (frame_gates (F₀ ((((s₁ c)))))) =
-    let s = (((s₁ c))) in
+    let outs-end : c.put_gathers-gathers.result + length (out_gates (F₀ ((((c)))))) ≡ ((((c)))).args.source.first + length (frame_gates (F₀ ((((c)))))) =
+    let s = (((c))) in
     let x = c in
     omega (arith, o₄-is, (m₂ x).put-matches.ensures.1, matches s, edge-length s, frame_count (F₀ s))
     in
     let s₆ : tie.Start =
-    ((((s₁ c))))
+    ((((c))))
     in
-    let stored₆ : c.put_gathers.new.1.1.1.1.1.0 ≡ gates_stored ((((((s₁ c)))))).args.target.gates ((((((s₁ c)))))).args.source.first ((((((s₁ c)))))).args.res.now (frame_gates (F₀ ((((((s₁ c)))))))) =
-    let g = c in
+    let stored₆ : c.put_gathers.new.1.1.1.1.1.0 ≡ gates_stored ((((((c)))))).args.target.gates ((((((c)))))).args.source.first ((((((c)))))).args.res.now (frame_gates (F₀ ((((((c)))))))) =
+    let g = l₅ c in
     let x = (c) in
     let m = m₂ x in
-    let s = (((((s₁ c))))) in
+    let s = (((((c))))) in
     parts_stored s.args.target.gates s.args.source.first s.args.res.now (r₁ m) (r₂ x) (r₃ g) _ (F₀ s) (j₂ x) (g₂ x) g.put-gathers.result
     (stored₁ m) (stored₂ x) (stored₃ g) (c.put_gathers.ensures.gates ∙ ap (gates_stored s.args.target.gates g.put-gathers.result (r₃ g)) (chains₅-are))
     (omega (arith, m.put-matches.ensures.1, matches s)) (omega (arith, edge-length s)) (o₄-is g) (room s) (fits₀ s).room
     in
-    let s = (s₁ c) in record {
+    let s = (c) in record {
       gates = stored₆;
       states = states₃;
       outputs = c.put_gathers.ensures.ends ∙ kept₅-are;

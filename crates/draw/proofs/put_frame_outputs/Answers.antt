@@ -56,11 +56,11 @@ put_gate-requires c =
     let literal-below : get_or c.args.literals.now (c.args.from + c.loop-j.j) 0 < 65536 =
     omega (arith, c.type_inv.literals (c.args.from + c.loop-j.j))
     in
-    let gate_is : c.output_gate_lem.result
+    let gate_is : c.output_gate-gate.result
     ≡ gate_by (bit c.args.connected c.loop-j.j) (get_or c.args.literals.now (c.args.from + c.loop-j.j) 0) =
-    c.output_gate_lem.ensures ∙ ap (λ (t : Bool). gate_by t (get_or c.args.literals.now (c.args.from + c.loop-j.j) 0)) c.is_set.ensures
+    c.output_gate-gate.ensures ∙ ap (λ (t : Bool). gate_by t (get_or c.args.literals.now (c.args.from + c.loop-j.j) 0)) c.is_set.ensures
     in
-    let f = gate_fits (bit c.args.connected c.loop-j.j) _ c.output_gate_lem.result (gate_is) (literal-below) in
+    let f = gate_fits (bit c.args.connected c.loop-j.j) _ c.output_gate-gate.result (gate_is) (literal-below) in
     record {
       fits = fits_still _ c.args.res.now _ _ _ c.requires.fits c.loop-j.invariant.1 (within);
       k_lt_gates = (omega (arith, c.loop-j-test.true, c.requires.outputs_bound), f.0, f.1);
@@ -72,14 +72,14 @@ overflow_step-j c =
 
 pub loop-j-preserved : goal.loop-j-preserved
 loop-j-preserved c =
-    let gate_is : c.output_gate_lem.result
+    let gate_is : c.output_gate-gate.result
     ≡ gate_by (bit c.args.connected c.loop-j.j) (get_or c.args.literals.now (c.args.from + c.loop-j.j) 0) =
-    c.output_gate_lem.ensures ∙ ap (λ (t : Bool). gate_by t (get_or c.args.literals.now (c.args.from + c.loop-j.j) 0)) c.is_set.ensures
+    c.output_gate-gate.ensures ∙ ap (λ (t : Bool). gate_by t (get_or c.args.literals.now (c.args.from + c.loop-j.j) 0)) c.is_set.ensures
     in (
       omega (arith, c.loop-j-test.true),
       c.put_gate.ensures
           ∙ each_more c.args.target.gates c.args.k c.args.res.now c.loop-j.result (gate_in c.args.connected c.args.from c.args.literals.now) c.loop-j.j (c.args.k + c.loop-j.j) _ c.loop-j.invariant.1 refl
-          (gate_pair (bit c.args.connected c.loop-j.j) _ c.output_gate_lem.result (gate_is)) (omega (arith, c.loop-j-test.true, c.requires.outputs_bound)) c.requires.fits.room,
+          (gate_pair (bit c.args.connected c.loop-j.j) _ c.output_gate-gate.result (gate_is)) (omega (arith, c.loop-j-test.true, c.requires.outputs_bound)) c.requires.fits.room,
     )
 
 pub returns : goal.returns

@@ -75,7 +75,7 @@ returns-then-frame-latest c =
     let latest : List ℕ =
     c.store_signals.new.1.1.0
     in
-    let test : reaches_later ((sourced c.args.source c.args.circuit.now)) c.loop-q.q ≡ ltb c.output_frame-frame.result (get_or ((c.store_signals.new.1.1.0)) c.shown_signal.result 0) =
+    let test : reaches_later (b₁ (start c)) c.loop-q.q ≡ ltb c.output_frame-frame.result (get_or ((c.store_signals.new.1.1.0)) c.shown_signal.result 0) =
     reaches_is c.args.circuit.now c.args.source c.requires ((c.store_signals.new.1.1.0)) c.output_frame-frame.result c.shown_signal.result c.loop-q.q
     c.store_signals.ensures c.loop-q-test.taken c.output_frame-frame.ensures.frame c.shown_signal.ensures.0
     in
@@ -93,7 +93,7 @@ loop-q-preserved c =
     let latest : List ℕ =
     c.store_signals.new.1.1.0
     in
-    let test : reaches_later ((sourced c.args.source c.args.circuit.now)) c.loop-q.q ≡ ltb c.output_frame-frame.result (get_or ((c.store_signals.new.1.1.0)) c.shown_signal.result 0) =
+    let test : reaches_later (b₁ (start c)) c.loop-q.q ≡ ltb c.output_frame-frame.result (get_or ((c.store_signals.new.1.1.0)) c.shown_signal.result 0) =
     reaches_is c.args.circuit.now c.args.source c.requires ((c.store_signals.new.1.1.0)) c.output_frame-frame.result c.shown_signal.result c.loop-q.q
     c.store_signals.ensures c.loop-q-test.taken c.output_frame-frame.ensures.frame c.shown_signal.ensures.0
     in (

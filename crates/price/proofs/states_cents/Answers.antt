@@ -27,7 +27,7 @@ overflow_mul-cents c =
     let band : Band =
         get_or tariff c.loop-i.i (record { width = 0; cents = 0 })
     in
-    let taken_is : c.if-left-band.taken ≡ min c.loop-i.left ((get_or tariff c.loop-i.i (record { width = 0; cents = 0 }))).width =
+    let taken_is : c.if-left-band.true ≡ min c.loop-i.left ((get_or tariff c.loop-i.i (record { width = 0; cents = 0 }))).width =
         ⊎_elim (λ w. less _ _ _ w.0.taken w.1) (λ w. more _ _ _ w.0.left w.1) c.if-left-band.branch
   where
     less : (a b t : ℕ) → a < b → t ≡ a → t ≡ min a b
@@ -44,7 +44,7 @@ overflow_add-cents c =
     let band : Band =
         get_or tariff c.loop-i.i (record { width = 0; cents = 0 })
     in
-    let taken_is : c.if-left-band.taken ≡ min c.loop-i.left ((get_or tariff c.loop-i.i (record { width = 0; cents = 0 }))).width =
+    let taken_is : c.if-left-band.true ≡ min c.loop-i.left ((get_or tariff c.loop-i.i (record { width = 0; cents = 0 }))).width =
         ⊎_elim (λ w. less _ _ _ w.0.taken w.1) (λ w. more _ _ _ w.0.left w.1) c.if-left-band.branch
   where
     less : (a b t : ℕ) → a < b → t ≡ a → t ≡ min a b
@@ -61,7 +61,7 @@ overflow_sub-left c =
     let band : Band =
         get_or tariff c.loop-i.i (record { width = 0; cents = 0 })
     in
-    let taken_is : c.if-left-band.taken ≡ min c.loop-i.left ((get_or tariff c.loop-i.i (record { width = 0; cents = 0 }))).width =
+    let taken_is : c.if-left-band.true ≡ min c.loop-i.left ((get_or tariff c.loop-i.i (record { width = 0; cents = 0 }))).width =
         ⊎_elim (λ w. less _ _ _ w.0.taken w.1) (λ w. more _ _ _ w.0.left w.1) c.if-left-band.branch
   where
     less : (a b t : ℕ) → a < b → t ≡ a → t ≡ min a b
@@ -74,7 +74,7 @@ loop-i-preserved c =
     let band : Band =
         get_or tariff c.loop-i.i (record { width = 0; cents = 0 })
     in
-    let taken_is : c.if-left-band.taken ≡ min c.loop-i.left ((get_or tariff c.loop-i.i (record { width = 0; cents = 0 }))).width =
+    let taken_is : c.if-left-band.true ≡ min c.loop-i.left ((get_or tariff c.loop-i.i (record { width = 0; cents = 0 }))).width =
         ⊎_elim (λ w. less _ _ _ w.0.taken w.1) (λ w. more _ _ _ w.0.left w.1) c.if-left-band.branch
   where
     less : (a b t : ℕ) → a < b → t ≡ a → t ≡ min a b

@@ -52,7 +52,7 @@ returns-then-is_quiet c =
     let figures₂ : StepFigures =
     quiet_stepped ((c.args.table.now)) ((c.args.windows.now)) c.args.minute c.args.position.layer c.args.position.state c.args.word
     in
-    let heard₂ : (x : Stepped) (quiet : Bool) → c.move_on-answer.result ≡ x → quiet ≡ is_quiet ((c.args.windows.now)) c.args.minute → heard quiet (step_figures x) ≡ (quiet_stepped ((c.args.table.now)) ((c.args.windows.now)) c.args.minute c.args.position.layer c.args.position.state c.args.word) =
+    let heard₂ : (x : Stepped) (quiet : Bool) → c.move_on-answer.result ≡ x → quiet ≡ is_quiet ((c.args.windows.now)) (s₁ c).args.minute → heard quiet (step_figures x) ≡ (quiet_stepped ((c.args.table.now)) ((c.args.windows.now)) c.args.minute c.args.position.layer c.args.position.state c.args.word) =
     λ x quiet e q. heard_as ((c.args.table.now)) ((c.args.windows.now)) c.args.minute c.args.position.layer c.args.position.state c.args.word c.check_head-head.result c.check_head-head.ensures c.in_default.field-0 c.in_default.is
     c.check_time-timed.result c.check_time-timed.ensures c.in_default-timed.field-0 c.in_default-timed.is c.move_on-answer.result c.move_on-answer.ensures x quiet e q
     in
@@ -70,7 +70,7 @@ returns c =
     let figures₂ : StepFigures =
     quiet_stepped ((c.args.table.now)) ((c.args.windows.now)) c.args.minute c.args.position.layer c.args.position.state c.args.word
     in
-    let heard₂ : (x : Stepped) (quiet : Bool) → c.move_on-answer.result ≡ x → quiet ≡ is_quiet ((c.args.windows.now)) c.args.minute → heard quiet (step_figures x) ≡ (quiet_stepped ((c.args.table.now)) ((c.args.windows.now)) c.args.minute c.args.position.layer c.args.position.state c.args.word) =
+    let heard₂ : (x : Stepped) (quiet : Bool) → c.move_on-answer.result ≡ x → quiet ≡ is_quiet ((c.args.windows.now)) (s₁ c).args.minute → heard quiet (step_figures x) ≡ (quiet_stepped ((c.args.table.now)) ((c.args.windows.now)) c.args.minute c.args.position.layer c.args.position.state c.args.word) =
     λ x quiet e q. heard_as ((c.args.table.now)) ((c.args.windows.now)) c.args.minute c.args.position.layer c.args.position.state c.args.word c.check_head-head.result c.check_head-head.ensures c.in_default.field-0 c.in_default.is
     c.check_time-timed.result c.check_time-timed.ensures c.in_default-timed.field-0 c.in_default-timed.is c.move_on-answer.result c.move_on-answer.ensures x quiet e q
     in

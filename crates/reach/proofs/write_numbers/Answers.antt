@@ -98,7 +98,7 @@ store32-requires c =
     let room₁ : reach_head ((c.args.table.now)) + 8 * all_states ((c.args.table.now)) ≤ length ((c.store_head.new.1.1.0)) =
     omega (arith, room, head_kept ((c.args.table.now)) ((c.requires.sound)) c.args.res.now ((c.store_head.new.1.1.0)) (room) c.store_head.ensures)
     in
-    let cleared : let b = b₀ (s₁ c) in c.clear.new.0 ≡ stored 4 ((c.store_head.new.1.1.0)) (reach_head b) (tabulate (2 * all_states b) (λ _. 0)) =
+    let cleared : let b = (c.args.table.now) in c.clear.new.0 ≡ stored 4 ((c.store_head.new.1.1.0)) (reach_head b) (tabulate (2 * all_states b) (λ _. 0)) =
     c.clear.ensures ∙ ap₂ (λ (i n : ℕ). stored 4 ((c.store_head.new.1.1.0)) i (tabulate (2 * n) (λ _. 0))) (at_is) c.requires.layout_value.1
     in
     let b = (c.args.table.now) in
@@ -127,7 +127,7 @@ follow_layers-requires c =
     let room₁ : reach_head ((c.args.table.now)) + 8 * all_states ((c.args.table.now)) ≤ length ((c.store_head.new.1.1.0)) =
     omega (arith, room, head_kept ((c.args.table.now)) ((c.requires.sound)) c.args.res.now ((c.store_head.new.1.1.0)) (room) c.store_head.ensures)
     in
-    let cleared : let b = b₀ (s₁ c) in c.clear.new.0 ≡ stored 4 ((c.store_head.new.1.1.0)) (reach_head b) (tabulate (2 * all_states b) (λ _. 0)) =
+    let cleared : let b = (c.args.table.now) in c.clear.new.0 ≡ stored 4 ((c.store_head.new.1.1.0)) (reach_head b) (tabulate (2 * all_states b) (λ _. 0)) =
     c.clear.ensures ∙ ap₂ (λ (i n : ℕ). stored 4 ((c.store_head.new.1.1.0)) i (tabulate (2 * n) (λ _. 0))) (at_is) c.requires.layout_value.1
     in
     let started : let h = c in c.store32.new.0 ≡ stored 4 (v₁ h) (reach_head (b₀ (s₁ h))) (so_far (b₀ (s₁ h)) 0 0) =
@@ -163,7 +163,7 @@ returns c =
     let room₁ : reach_head ((c.args.table.now)) + 8 * all_states ((c.args.table.now)) ≤ length ((c.store_head.new.1.1.0)) =
     omega (arith, room, head_kept ((c.args.table.now)) ((c.requires.sound)) c.args.res.now ((c.store_head.new.1.1.0)) (room) c.store_head.ensures)
     in
-    let cleared : let b = b₀ (s₁ c) in c.clear.new.0 ≡ stored 4 ((c.store_head.new.1.1.0)) (reach_head b) (tabulate (2 * all_states b) (λ _. 0)) =
+    let cleared : let b = (c.args.table.now) in c.clear.new.0 ≡ stored 4 ((c.store_head.new.1.1.0)) (reach_head b) (tabulate (2 * all_states b) (λ _. 0)) =
     c.clear.ensures ∙ ap₂ (λ (i n : ℕ). stored 4 ((c.store_head.new.1.1.0)) i (tabulate (2 * n) (λ _. 0))) (at_is) c.requires.layout_value.1
     in
     let started : let h = c in c.store32.new.0 ≡ stored 4 (v₁ h) (reach_head (b₀ (s₁ h))) (so_far (b₀ (s₁ h)) 0 0) =

@@ -12,7 +12,7 @@ use Rattle.refine.proofs.row_hash.Given as goal
 
 abbrev pub invariant-loop-i : goal.invariant-loop-i
 invariant-loop-i l =
-    (l.i ≤ l.parts) × (l.hash ≡ hash_to (get_or l.scratch (l.copy + l.c) 0) (λ l.i. get_or l.work (l.row + l.i) 0) l.i)
+    (l.i ≤ l.parts) × (l.hash ≡ hash_to (get_or l.scratch (l.copy + l.c) 0) (λ i'. get_or l.work (l.row + i') 0) l.i)
 
 abbrev pub decreases-loop-i : goal.decreases-loop-i
 decreases-loop-i l =

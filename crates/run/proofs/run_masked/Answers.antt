@@ -83,7 +83,7 @@ returns-in_default c =
     let turn : (c.loop-t.t < length ((c.args.words.now))) × (c.loop-t.t < length c.loop-t.result) × (c.loop-t.t < framesOf ((c.args.table.now))) =
     (c.loop-t-test.true, omega (arith, c.loop-t-test.true, ((c.requires.fed)).as_many, c.requires.table_in_bounds, c.loop-t.invariant.1), omega (arith, c.loop-t-test.true, ((c.requires.fed)).as_many))
     in
-    let moves₂ : step_figures c.step-answer.result ≡ moved ((c.args.table.now)) c.loop-t.t c.loop-t.position.state (get_or ((c.args.words.now)) c.loop-t.t 0) =
+    let moves₂ : step_figures c.step-answer.result ≡ moved (b₀ (s₁ c)) c.loop-t.t c.loop-t.position.state (get_or (w₀ (s₁ c)) c.loop-t.t 0) =
     let w = get_or ((c.args.words.now)) c.loop-t.t 0 in
     c.step-answer.ensures.answer ∙ ap (λ (t : ℕ). stepped ((c.args.table.now)) t c.loop-t.position.state w) c.loop-t.invariant.2
     ∙ moves ((c.args.table.now)) 0 c.requires.table_value c.loop-t.t c.loop-t.position.state w (turn).2 c.loop-t.invariant.3 (((c.requires.fed)).below c.loop-t.t (turn).2)
@@ -160,7 +160,7 @@ loop-t-preserved c =
     let turn : (c.loop-t.t < length ((c.args.words.now))) × (c.loop-t.t < length c.loop-t.result) × (c.loop-t.t < framesOf ((c.args.table.now))) =
     (c.loop-t-test.true, omega (arith, c.loop-t-test.true, ((c.requires.fed)).as_many, c.requires.table_in_bounds, c.loop-t.invariant.1), omega (arith, c.loop-t-test.true, ((c.requires.fed)).as_many))
     in
-    let moves₂ : step_figures c.step-answer.result ≡ moved ((c.args.table.now)) c.loop-t.t c.loop-t.position.state (get_or ((c.args.words.now)) c.loop-t.t 0) =
+    let moves₂ : step_figures c.step-answer.result ≡ moved (b₀ (s₁ c)) c.loop-t.t c.loop-t.position.state (get_or (w₀ (s₁ c)) c.loop-t.t 0) =
     let w = get_or ((c.args.words.now)) c.loop-t.t 0 in
     c.step-answer.ensures.answer ∙ ap (λ (t : ℕ). stepped ((c.args.table.now)) t c.loop-t.position.state w) c.loop-t.invariant.2
     ∙ moves ((c.args.table.now)) 0 c.requires.table_value c.loop-t.t c.loop-t.position.state w (turn).2 c.loop-t.invariant.3 (((c.requires.fed)).below c.loop-t.t (turn).2)

@@ -153,7 +153,7 @@ connected_of-requires c =
     let laid₀ : Laid ((c.args.table.now)) c.args.layout =
     laid ((c.args.table.now)) c.args.layout c.requires.table_headed c.requires.layout_value
     in
-    let s = s₁ c in
+    let s = c in
     let l = laid₀ s in record {
       last_value = (l.frames_is, l.frames-to, omega (arith, s.pre.1.1));
       last_in_bounds = omega (arith, l.end_at, head_length_lem s.args.layout.frames);
@@ -180,13 +180,13 @@ returns-then-is_stray c =
     let output_at_lem : c.args.layout.outputs + 2 * (c.entries_below-below.result + (c.args.position.state * c.args.layout.words + c.args.word)) ≡ entry_at ((c.args.table.now)) (outputs_at ((c.args.table.now))) c.args.position.layer c.args.position.state c.args.word =
     omega (arith, index_is, (laid₀).outputs_is)
     in
-    let output_is : c.read-output.result ≡ out₀ (s₁ c) =
-    c.read-output.ensures.0 ∙ ap (word_at (b₀ (s₁ c))) (output_at_lem)
+    let output_is : c.read-output.result ≡ ((machine ((c.args.table.now))).out c.args.position.layer c.args.position.state c.args.word) =
+    c.read-output.ensures.0 ∙ ap (word_at ((c.args.table.now))) (output_at_lem)
     in
-    let stray-is : bad_output (b₀ (s₁ c)) (s₁ c).args.position.layer (out₀ (s₁ c)) ≡ c.is_stray.result =
+    let stray-is : bad_output ((c.args.table.now)) c.args.position.layer (((machine ((c.args.table.now))).out c.args.position.layer c.args.position.state c.args.word)) ≡ c.is_stray.result =
     sym (c.is_stray.ensures ∙ ap₂ strays c.connected_of.ensures.0 (output_is))
     in
-    let s = s₁ c in
+    let s = c in
     rw (stray-is ∙ c.if-is_stray.true)
     (ap (λ (p : ℕ). handed_back (answer 5 p) s.args.position.layer s.args.position.state) (output_at_lem))
 
@@ -207,7 +207,7 @@ overflow_add-next_at c =
     let room : (c.entries_below-below.result + (c.args.position.state * c.args.layout.words + c.args.word)) < entry_count ((c.args.table.now)) =
     omega (arith, index_is, layer_in ((c.args.table.now)) c.args.position.layer c.requires.layer_bound.0, digits_lt c.requires.layer_bound.1 c.requires.layer_bound.2)
     in
-    omega (arith, room, laid₀ (s₁ c))
+    omega (arith, room, laid₀)
 
 pub read-next-requires : goal.read-next-requires
 read-next-requires c =
@@ -226,7 +226,7 @@ read-next-requires c =
     let room : (c.entries_below-below.result + (c.args.position.state * c.args.layout.words + c.args.word)) < entry_count ((c.args.table.now)) =
     omega (arith, index_is, layer_in ((c.args.table.now)) c.args.position.layer c.requires.layer_bound.0, digits_lt c.requires.layer_bound.1 c.requires.layer_bound.2)
     in
-    omega (arith, room, laid₀ (s₁ c))
+    omega (arith, room, laid₀)
 
 pub states_of-requires : goal.states_of-requires
 states_of-requires c =
@@ -236,7 +236,7 @@ states_of-requires c =
     let laid₀ : Laid ((c.args.table.now)) c.args.layout =
     laid ((c.args.table.now)) c.args.layout c.requires.table_headed c.requires.layout_value
     in
-    let s = s₁ c in
+    let s = c in
     omega (arith, s.pre.1.1, laid₀ s)
 
 pub returns-then-states_of-next : goal.returns-then-states_of-next
@@ -266,30 +266,30 @@ returns-then-states_of-next c =
     let next-at : c.args.layout.nexts + 2 * (c.entries_below-below.result + (c.args.position.state * c.args.layout.words + c.args.word)) ≡ entry_at ((c.args.table.now)) (nexts_at ((c.args.table.now))) c.args.position.layer c.args.position.state c.args.word =
     omega (arith, index_is, (laid₀).nexts_is)
     in
-    let output_is : c.read-output.result ≡ out₀ (s₁ c) =
-    c.read-output.ensures.0 ∙ ap (word_at (b₀ (s₁ c))) (output_at_lem)
+    let output_is : c.read-output.result ≡ ((machine ((c.args.table.now))).out c.args.position.layer c.args.position.state c.args.word) =
+    c.read-output.ensures.0 ∙ ap (word_at ((c.args.table.now))) (output_at_lem)
     in
-    let stray-is : bad_output (b₀ (s₁ c)) (s₁ c).args.position.layer (out₀ (s₁ c)) ≡ c.is_stray.result =
+    let stray-is : bad_output ((c.args.table.now)) c.args.position.layer (((machine ((c.args.table.now))).out c.args.position.layer c.args.position.state c.args.word)) ≡ c.is_stray.result =
     sym (c.is_stray.ensures ∙ ap₂ strays c.connected_of.ensures.0 (output_is))
     in
     let e₃ : tie.After-entries-below =
-    c
+    e₂ c
     in
     let s₃ : tie.Start =
-    s₁ ((c))
+    s₁ ((e₂ c))
     in
-    let good : bad_output (b₀ ((s₁ ((c))))) ((s₁ ((c)))).args.position.layer (out₀ ((s₁ ((c))))) ≡ false =
+    let good : bad_output (b₀ ((s₁ ((e₂ c))))) ((s₁ ((e₂ c)))).args.position.layer (out₀ ((s₁ ((e₂ c))))) ≡ false =
     stray-is ∙ c.if-is_stray.false
     in
-    let next_is : c.read-next.result ≡ next₀ ((s₁ ((c)))) =
-    c.read-next.ensures.0 ∙ ap (word_at (b₀ ((s₁ ((c)))))) (next-at ((c)))
+    let next_is : c.read-next.result ≡ next₀ ((s₁ ((e₂ c)))) =
+    c.read-next.ensures.0 ∙ ap (word_at (b₀ ((s₁ ((e₂ c)))))) (next-at ((e₂ c)))
     in
-    let count_is : c.states_of.result ≡ states (b₀ ((s₁ ((c))))) (suc ((s₁ ((c)))).args.position.layer) =
-    c.states_of.ensures.0 ∙ ap (states (b₀ ((s₁ ((c)))))) (add-one ((s₁ ((c)))).args.position.layer)
+    let count_is : c.states_of.result ≡ states (b₀ ((s₁ ((e₂ c))))) (suc ((s₁ ((e₂ c)))).args.position.layer) =
+    c.states_of.ensures.0 ∙ ap (states (b₀ ((s₁ ((e₂ c)))))) (add-one ((s₁ ((e₂ c)))).args.position.layer)
     in
-    let s = (s₁ (c)) in
+    let s = (s₁ (e₂ c)) in
     rw (good, le-leb (states (b₀ s) (suc s.args.position.layer)) (next₀ s) (omega (arith, next_is, count_is, c.if-states_of-next.true)))
-    (ap (λ (p : ℕ). handed_back (answer 5 p) s.args.position.layer s.args.position.state) (next-at))
+    (ap (λ (p : ℕ). handed_back (answer 5 p) s.args.position.layer s.args.position.state) (next-at (e₂ c)))
 
 pub returns : goal.returns
 unfolding bad_next bad_output entry_at entry_checked
@@ -318,27 +318,27 @@ returns c =
     let next-at : c.args.layout.nexts + 2 * (c.entries_below-below.result + (c.args.position.state * c.args.layout.words + c.args.word)) ≡ entry_at ((c.args.table.now)) (nexts_at ((c.args.table.now))) c.args.position.layer c.args.position.state c.args.word =
     omega (arith, index_is, (laid₀).nexts_is)
     in
-    let output_is : c.read-output.result ≡ out₀ (s₁ c) =
-    c.read-output.ensures.0 ∙ ap (word_at (b₀ (s₁ c))) (output_at_lem)
+    let output_is : c.read-output.result ≡ ((machine ((c.args.table.now))).out c.args.position.layer c.args.position.state c.args.word) =
+    c.read-output.ensures.0 ∙ ap (word_at ((c.args.table.now))) (output_at_lem)
     in
-    let stray-is : bad_output (b₀ (s₁ c)) (s₁ c).args.position.layer (out₀ (s₁ c)) ≡ c.is_stray.result =
+    let stray-is : bad_output ((c.args.table.now)) c.args.position.layer (((machine ((c.args.table.now))).out c.args.position.layer c.args.position.state c.args.word)) ≡ c.is_stray.result =
     sym (c.is_stray.ensures ∙ ap₂ strays c.connected_of.ensures.0 (output_is))
     in
     let e₃ : tie.After-entries-below =
-    c
+    e₂ c
     in
     let s₃ : tie.Start =
-    s₁ ((c))
+    s₁ ((e₂ c))
     in
-    let good : bad_output (b₀ ((s₁ ((c))))) ((s₁ ((c)))).args.position.layer (out₀ ((s₁ ((c))))) ≡ false =
+    let good : bad_output (b₀ ((s₁ ((e₂ c))))) ((s₁ ((e₂ c)))).args.position.layer (out₀ ((s₁ ((e₂ c))))) ≡ false =
     stray-is ∙ c.if-is_stray.false
     in
-    let next_is : c.read-next.result ≡ next₀ ((s₁ ((c)))) =
-    c.read-next.ensures.0 ∙ ap (word_at (b₀ ((s₁ ((c)))))) (next-at ((c)))
+    let next_is : c.read-next.result ≡ next₀ ((s₁ ((e₂ c)))) =
+    c.read-next.ensures.0 ∙ ap (word_at (b₀ ((s₁ ((e₂ c)))))) (next-at ((e₂ c)))
     in
-    let count_is : c.states_of.result ≡ states (b₀ ((s₁ ((c))))) (suc ((s₁ ((c)))).args.position.layer) =
-    c.states_of.ensures.0 ∙ ap (states (b₀ ((s₁ ((c)))))) (add-one ((s₁ ((c)))).args.position.layer)
+    let count_is : c.states_of.result ≡ states (b₀ ((s₁ ((e₂ c))))) (suc ((s₁ ((e₂ c)))).args.position.layer) =
+    c.states_of.ensures.0 ∙ ap (states (b₀ ((s₁ ((e₂ c)))))) (add-one ((s₁ ((e₂ c)))).args.position.layer)
     in
-    let s = (s₁ (c)) in
+    let s = (s₁ (e₂ c)) in
     rw (good, lt-leb (states (b₀ s) (suc s.args.position.layer)) (next₀ s) (omega (arith, next_is, count_is, c.if-states_of-next.false)))
     (λ i. record { number = 0; place = 0; output = output_is i; layer = add-one s.args.position.layer i; state = next_is i })

@@ -72,7 +72,7 @@ returns-in_default-drawn c =
     c.args.table.now
     in
     let r₁ : List ℕ =
-    c.args.res.now
+    (entry c).args.res.now
     in
     let gates_are : c.gates_needed-gates.result ≡ gates_needed ((c.args.table.now)) =
     c.gates_needed-gates.ensures.0
@@ -80,11 +80,11 @@ returns-in_default-drawn c =
     let bytes_are : circuit_head + 4 * c.gates_needed-gates.result ≡ length (unfolded_bytes ((c.args.table.now))) =
     ap (λ (n : ℕ). circuit_head + 4 * n) (gates_are) ∙ sym (bytes-needed ((c.args.table.now)))
     in
-    let drawn-is : figures c.check_drawn-drawn.result ≡ unfold_checked (b₀ (e₁ c)) (length ((c.args.res.now))) =
-    drawn-answer ((c.args.table.now)) (length ((c.args.res.now))) c.in-Accepted.field-0 c.check-judged.result c.check_drawn-drawn.result c.check-judged.ensures.verdict c.in-Accepted.is
-    (c.check_drawn-drawn.ensures ∙ ap₂ (λ (n m : ℕ). drawn_checked n m (length ((c.args.res.now)))) (gates_are) (bytes_are))
+    let drawn-is : figures c.check_drawn-drawn.result ≡ unfold_checked ((c.args.table.now)) (length (((entry c).args.res.now))) =
+    drawn-answer ((c.args.table.now)) (length (((entry c).args.res.now))) c.in-Accepted.field-0 c.check-judged.result c.check_drawn-drawn.result c.check-judged.ensures.verdict c.in-Accepted.is
+    (c.check_drawn-drawn.ensures ∙ ap₂ (λ (n m : ℕ). drawn_checked n m (length (((entry c).args.res.now)))) (gates_are) (bytes_are))
     in
-    promises (c.args.table.now) (c.args.res.now) _ _ (refused (c.args.table.now) (c.args.res.now) c.check_drawn-drawn.result (drawn-is) c.in_default-drawn.field-0 c.in_default-drawn.is)
+    promises (c.args.table.now) ((entry c).args.res.now) _ _ (refused (c.args.table.now) ((entry c).args.res.now) c.check_drawn-drawn.result (drawn-is) c.in_default-drawn.field-0 c.in_default-drawn.is)
     -- TODO fields ['verdict', 'res', 'promised']
 
 pub write_circuit-requires : goal.write_circuit-requires
@@ -99,7 +99,7 @@ write_circuit-requires c =
     sound ((c.args.table.now)) c.in-Accepted.field-0 (passed)
     in
     let r₁ : List ℕ =
-    c.args.res.now
+    (entry c).args.res.now
     in
     let gates_are : c.gates_needed-gates.result ≡ gates_needed ((c.args.table.now)) =
     c.gates_needed-gates.ensures.0
@@ -107,9 +107,9 @@ write_circuit-requires c =
     let bytes_are : circuit_head + 4 * c.gates_needed-gates.result ≡ length (unfolded_bytes ((c.args.table.now))) =
     ap (λ (n : ℕ). circuit_head + 4 * n) (gates_are) ∙ sym (bytes-needed ((c.args.table.now)))
     in
-    let drawn-is : figures c.check_drawn-drawn.result ≡ unfold_checked (b₀ (e₁ c)) (length ((c.args.res.now))) =
-    drawn-answer ((c.args.table.now)) (length ((c.args.res.now))) c.in-Accepted.field-0 c.check-judged.result c.check_drawn-drawn.result c.check-judged.ensures.verdict c.in-Accepted.is
-    (c.check_drawn-drawn.ensures ∙ ap₂ (λ (n m : ℕ). drawn_checked n m (length ((c.args.res.now)))) (gates_are) (bytes_are))
+    let drawn-is : figures c.check_drawn-drawn.result ≡ unfold_checked ((c.args.table.now)) (length (((entry c).args.res.now))) =
+    drawn-answer ((c.args.table.now)) (length (((entry c).args.res.now))) c.in-Accepted.field-0 c.check-judged.result c.check_drawn-drawn.result c.check-judged.ensures.verdict c.in-Accepted.is
+    (c.check_drawn-drawn.ensures ∙ ap₂ (λ (n m : ℕ). drawn_checked n m (length (((entry c).args.res.now)))) (gates_are) (bytes_are))
     in
     let fits : Accepted (b₀ (e₁ (g₁ c))) (length (r₁ (g₁ c))) c.in-Accepted-drawn.field-0 =
     accepted _ _ c.in-Accepted-drawn.field-0 (accepts c.check_drawn-drawn.result _ c.in-Accepted-drawn.field-0 (drawn-is) c.in-Accepted-drawn.is)
@@ -128,7 +128,7 @@ returns c =
     c.args.table.now
     in
     let r₁ : List ℕ =
-    c.args.res.now
+    (entry c).args.res.now
     in
     let gates_are : c.gates_needed-gates.result ≡ gates_needed ((c.args.table.now)) =
     c.gates_needed-gates.ensures.0
@@ -136,15 +136,15 @@ returns c =
     let bytes_are : circuit_head + 4 * c.gates_needed-gates.result ≡ length (unfolded_bytes ((c.args.table.now))) =
     ap (λ (n : ℕ). circuit_head + 4 * n) (gates_are) ∙ sym (bytes-needed ((c.args.table.now)))
     in
-    let drawn-is : figures c.check_drawn-drawn.result ≡ unfold_checked (b₀ (e₁ c)) (length ((c.args.res.now))) =
-    drawn-answer ((c.args.table.now)) (length ((c.args.res.now))) c.in-Accepted.field-0 c.check-judged.result c.check_drawn-drawn.result c.check-judged.ensures.verdict c.in-Accepted.is
-    (c.check_drawn-drawn.ensures ∙ ap₂ (λ (n m : ℕ). drawn_checked n m (length ((c.args.res.now)))) (gates_are) (bytes_are))
+    let drawn-is : figures c.check_drawn-drawn.result ≡ unfold_checked ((c.args.table.now)) (length (((entry c).args.res.now))) =
+    drawn-answer ((c.args.table.now)) (length (((entry c).args.res.now))) c.in-Accepted.field-0 c.check-judged.result c.check_drawn-drawn.result c.check-judged.ensures.verdict c.in-Accepted.is
+    (c.check_drawn-drawn.ensures ∙ ap₂ (λ (n m : ℕ). drawn_checked n m (length (((entry c).args.res.now)))) (gates_are) (bytes_are))
     in
     let fits : Accepted (b₀ (e₁ (g₁ c))) (length (r₁ (g₁ c))) c.in-Accepted-drawn.field-0 =
     accepted _ _ c.in-Accepted-drawn.field-0 (accepts c.check_drawn-drawn.result _ c.in-Accepted-drawn.field-0 (drawn-is) c.in-Accepted-drawn.is)
     in
     let b = (c.args.table.now) in
-    promises b (c.args.res.now) _ _
-    (unfolded b (c.args.res.now) c.check_drawn-drawn.result (drawn-is) c.in-Accepted-drawn.field-0 _ c.in-Accepted-drawn.is
-    (c.write_circuit.ensures ∙ bytes-stored b (c.args.res.now) ∙ ap (λ (k : ℕ). unfolded_bytes b ++ drop k (c.args.res.now)) (sym (fits).place_is)))
+    promises b ((entry c).args.res.now) _ _
+    (unfolded b ((entry c).args.res.now) c.check_drawn-drawn.result (drawn-is) c.in-Accepted-drawn.field-0 _ c.in-Accepted-drawn.is
+    (c.write_circuit.ensures ∙ bytes-stored b ((entry c).args.res.now) ∙ ap (λ (k : ℕ). unfolded_bytes b ++ drop k ((entry c).args.res.now)) (sym (fits).place_is)))
     -- TODO fields ['verdict', 'res', 'promised']

@@ -96,10 +96,10 @@ returns-in_default-seen c =
     c.check_sequence-fed.ensures ∙ ap (λ (s : Sizes). sequence_checked s.inputs s.frames ((c.args.words.now)) ((length c.args.res.now))) c.read-sizes.ensures in
     c.and_then-seen.ensures ∙ ap₂ and_then narrow fed
     in
-    let viewed₂ : figures c.and_then-seen.result ≡ viewed ((c.args.table.now)) c.args.mask ((c.args.words.now)) ((length c.args.res.now)) =
+    let viewed₂ : figures c.and_then-seen.result ≡ viewed ((c.args.table.now)) (s₁ c).args.mask ((c.args.words.now)) ((length c.args.res.now)) =
     go_on c.check-judged.result _ _ _ c.in-Accepted.field-0 c.check-judged.ensures.verdict c.in-Accepted.is (rest_is)
     in
-    let a = c.args in
+    let a = (s₁ c).args in
     let e = viewed₂ in
     record {
       verdict = e;
@@ -135,13 +135,13 @@ run_masked-requires c =
     c.check_sequence-fed.ensures ∙ ap (λ (s : Sizes). sequence_checked s.inputs s.frames ((c.args.words.now)) ((length c.args.res.now))) c.read-sizes.ensures in
     c.and_then-seen.ensures ∙ ap₂ and_then narrow fed
     in
-    let fed₃ : Fed (inputs (b₁ (d₂ c))) (framesOf (b₁ (d₂ c))) (w₁ (d₂ c)) × (framesOf (b₁ (d₂ c)) ≤ room₁ (d₂ c)) × (c.in-Accepted-seen.field-0 ≡ framesOf (b₁ (d₂ c))) =
-    let d = d₂ c in
+    let fed₃ : Fed (inputs ((c.args.table.now))) (framesOf ((c.args.table.now))) ((c.args.words.now)) × (framesOf ((c.args.table.now)) ≤ (length c.args.res.now)) × (c.in-Accepted-seen.field-0 ≡ framesOf ((c.args.table.now))) =
+    let d = c in
     let e = accepts c.and_then-seen.result (rest₂ d) _ (rest_is) c.in-Accepted-seen.is in
     fed _ _ (w₁ d) (room₁ d) _ (both_accept (mask_checked (outputs (b₁ d)) (s₁ d).args.mask) _ _ e).2
     in
     let f = fed₃ in
-    let d = d₂ c in
+    let d = c in
     record {
       table_value = accepted_at (b₁ d) _ (checked₁ d);
       fed = f.0;
@@ -171,15 +171,15 @@ returns c =
     c.check_sequence-fed.ensures ∙ ap (λ (s : Sizes). sequence_checked s.inputs s.frames ((c.args.words.now)) ((length c.args.res.now))) c.read-sizes.ensures in
     c.and_then-seen.ensures ∙ ap₂ and_then narrow fed
     in
-    let viewed₂ : figures c.and_then-seen.result ≡ viewed ((c.args.table.now)) c.args.mask ((c.args.words.now)) ((length c.args.res.now)) =
+    let viewed₂ : figures c.and_then-seen.result ≡ viewed ((c.args.table.now)) (s₁ c).args.mask ((c.args.words.now)) ((length c.args.res.now)) =
     go_on c.check-judged.result _ _ _ c.in-Accepted.field-0 c.check-judged.ensures.verdict c.in-Accepted.is (rest_is)
     in
-    let fed₃ : Fed (inputs (b₁ (d₂ c))) (framesOf (b₁ (d₂ c))) (w₁ (d₂ c)) × (framesOf (b₁ (d₂ c)) ≤ room₁ (d₂ c)) × (c.in-Accepted-seen.field-0 ≡ framesOf (b₁ (d₂ c))) =
-    let d = d₂ c in
+    let fed₃ : Fed (inputs ((c.args.table.now))) (framesOf ((c.args.table.now))) ((c.args.words.now)) × (framesOf ((c.args.table.now)) ≤ (length c.args.res.now)) × (c.in-Accepted-seen.field-0 ≡ framesOf ((c.args.table.now))) =
+    let d = c in
     let e = accepts c.and_then-seen.result (rest₂ d) _ (rest_is) c.in-Accepted-seen.is in
     fed _ _ (w₁ d) (room₁ d) _ (both_accept (mask_checked (outputs (b₁ d)) (s₁ d).args.mask) _ _ e).2
     in
-    let a = c.args in
+    let a = (s₁ c).args in
     let v : answer 0 (framesOf a.table.now) ≡ viewed a.table.now a.mask a.words.now (length a.result.now) =
     ap (answer 0) (sym (fed₃).2) ∙ sym (ap figures c.in-Accepted-seen.is) ∙ viewed₂ in
     record {

@@ -100,9 +100,9 @@ overflow_add-result c =
     let frames-few : c.args.layout.frames ≤ 16 =
     frames-to _ c.requires.0
     in
-    omega (arith, few c, c.head_length_lem.ensures, head_length_lem (start (at-loop c)).args.layout.frames, frames-few (at-loop c))
+    omega (arith, few c, c.head_length.ensures, head_length_lem (start (at-loop c)).args.layout.frames, frames-few (at-loop c))
 
 pub returns : goal.returns
 returns c =
     let l = at-loop c in
-    summed _ _ _ _ l.loop.t c.head_length_lem.ensures (omega (arith, l.loop.inv.0)) l.loop.inv.1
+    summed _ _ _ _ l.loop.t c.head_length.ensures (omega (arith, l.loop.inv.0)) l.loop.inv.1

@@ -26,4 +26,4 @@ head_length-requires c =
 
 pub returns : goal.returns
 returns c =
-    (c.head_length_lem.ensures ∙ ap head_length (well _ _ c.requires.0).head_is.frames_is, c.put_head.ensures)
+    (c.head_length.ensures ∙ ap head_length (well _ _ c.requires.0).head_is.frames_is, c.put_head.ensures)

@@ -19,7 +19,7 @@ rest count = refuse (ltb most_windows count) 15 most_windows (answer 0 0)
 
 abbrev pub invariant-loop-i : goal.invariant-loop-i
 invariant-loop-i l =
-    (l.i ≤ l.count) × (windows_checked l.windows ≡ refuse_first (is_bad l.windows) 15 (λ l.i. l.i) (rest l.count) l.i (l.count - l.i))
+    (l.i ≤ l.count) × (windows_checked l.windows ≡ refuse_first (is_bad l.windows) 15 (λ i'. i') (rest l.count) l.i (l.count - l.i))
 
 abbrev pub decreases-loop-i : goal.decreases-loop-i
 decreases-loop-i l =

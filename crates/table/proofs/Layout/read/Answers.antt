@@ -46,7 +46,7 @@ overflow_add-result c =
     let frames_is : c.read-sizes.result.frames ≡ frames c.args.table.now =
     ap (λ (s : Sizes). s.frames) c.read-sizes.ensures
     in
-    omega (arith, c.head_length_lem.ensures, head_length_lem c.read-sizes.result.frames, frames_is, c.requires)
+    omega (arith, c.head_length-outputs.ensures, head_length_lem c.read-sizes.result.frames, frames_is, c.requires)
 
 pub returns : goal.returns
 unfolding entry_count nexts_at outputs_at
@@ -57,7 +57,7 @@ returns c =
     let frames_is : c.read-sizes.result.frames ≡ frames c.args.table.now =
     ap (λ (s : Sizes). s.frames) c.read-sizes.ensures
     in
-    let o = c.head_length_lem.ensures ∙ ap head_length (frames_is) in
+    let o = c.head_length-outputs.ensures ∙ ap head_length (frames_is) in
     let e = c.entries_below-entries.ensures.0 ∙ ap (entries_below c.args.table.now) (frames_is) in
     λ i. record {
       words = (c.power-words.ensures ∙ ap (λ (n : ℕ). 2 ^ n) (inputs_is)) i;

@@ -13,7 +13,7 @@ use Rattle.table.proofs.entries.check_part.Given as goal
 
 abbrev pub invariant-loop-i : goal.invariant-loop-i
 invariant-loop-i l =
-    (l.i ≤ l.count) × (part_checked (bad_by l.bound) l.at l.part ≡ refuse_first (λ l.i. bad_by l.bound (word_at l.part (2 * l.i))) 5 (λ l.i. l.at + 2 * l.i) (answer 0 0) l.i (l.count - l.i))
+    (l.i ≤ l.count) × (part_checked (bad_by l.bound) l.at l.part ≡ refuse_first (λ i'. bad_by l.bound (word_at l.part (2 * i'))) 5 (λ i'. l.at + 2 * i') (answer 0 0) l.i (l.count - l.i))
 
 abbrev pub decreases-loop-i : goal.decreases-loop-i
 decreases-loop-i l =

@@ -82,8 +82,8 @@ returns-then-length-head c =
     let after-sizes : (y : Figures) → y ≡ rest₁ (((c.args.table.now))) → y ≡ head_checked (((c.args.table.now))) =
     λ y e. rw (le-ltb (length (((c.args.table.now)))) 6 c.if-length-lt-SIZES.false) (go_on c.check-sized.result _ _ y c.in-Accepted.field-0 (sizes_are) c.in-Accepted.is e)
     in
-    let head_is : c.head_length_lem.result ≡ head_length (frames (((c.args.table.now)))) =
-    c.head_length_lem.ensures ∙ ap head_length (frames_is)
+    let head_is : c.head_length-head.result ≡ head_length (frames (((c.args.table.now)))) =
+    c.head_length-head.ensures ∙ ap head_length (frames_is)
     in
     let b = (c.args.table.now) in
     after-sizes _ (rw (lt-ltb (length b) (head_length (frames b)) (omega (arith, c.if-length-head.true, head_is))))
@@ -99,8 +99,8 @@ check_counts-counted-requires c =
     let b₂ : List ℕ =
     (c.args.table.now)
     in
-    let head_is : c.head_length_lem.result ≡ head_length (frames (((c.args.table.now)))) =
-    c.head_length_lem.ensures ∙ ap head_length (frames_is)
+    let head_is : c.head_length-head.result ≡ head_length (frames (((c.args.table.now)))) =
+    c.head_length-head.ensures ∙ ap head_length (frames_is)
     in
     record {
       last_value = frames_is;
@@ -125,8 +125,8 @@ returns-in_default-counted c =
     let after-sizes : (y : Figures) → y ≡ rest₁ (((c.args.table.now))) → y ≡ head_checked (((c.args.table.now))) =
     λ y e. rw (le-ltb (length (((c.args.table.now)))) 6 c.if-length-lt-SIZES.false) (go_on c.check-sized.result _ _ y c.in-Accepted.field-0 (sizes_are) c.in-Accepted.is e)
     in
-    let head_is : c.head_length_lem.result ≡ head_length (frames (((c.args.table.now)))) =
-    c.head_length_lem.ensures ∙ ap head_length (frames_is)
+    let head_is : c.head_length-head.result ≡ head_length (frames (((c.args.table.now)))) =
+    c.head_length-head.ensures ∙ ap head_length (frames_is)
     in
     let b = (c.args.table.now) in
     after-sizes _
@@ -156,7 +156,7 @@ check_connected-connected-requires c =
     let z = sized₁ in record {
       sizes_value = c.read-sizes.ensures;
       outputs_le_most_outputs = (omega (arith, outputs_is, z), omega (arith, frames_is, z));
-      frames_in_bounds = omega (arith, c.if-length-head.false, c.head_length_lem.ensures);
+      frames_in_bounds = omega (arith, c.if-length-head.false, c.head_length-head.ensures);
     }
 
 pub returns-in_default-connected : goal.returns-in_default-connected
@@ -177,8 +177,8 @@ returns-in_default-connected c =
     let after-sizes : (y : Figures) → y ≡ rest₁ (((c.args.table.now))) → y ≡ head_checked (((c.args.table.now))) =
     λ y e. rw (le-ltb (length (((c.args.table.now)))) 6 c.if-length-lt-SIZES.false) (go_on c.check-sized.result _ _ y c.in-Accepted.field-0 (sizes_are) c.in-Accepted.is e)
     in
-    let head_is : c.head_length_lem.result ≡ head_length (frames (((c.args.table.now)))) =
-    c.head_length_lem.ensures ∙ ap head_length (frames_is)
+    let head_is : c.head_length-head.result ≡ head_length (frames (((c.args.table.now)))) =
+    c.head_length-head.ensures ∙ ap head_length (frames_is)
     in
     let b₃ : List ℕ =
     ((c.args.table.now))
@@ -229,8 +229,8 @@ entries_below-entries-requires c =
     let sized₁ : Sized 8 (inputs (((c.args.table.now)))) (outputs (((c.args.table.now)))) (frames (((c.args.table.now)))) =
     sized 8 _ _ _ c.in-Accepted.field-0 (accepts c.check-sized.result _ c.in-Accepted.field-0 (sizes_are) c.in-Accepted.is)
     in
-    let head_is : c.head_length_lem.result ≡ head_length (frames (((c.args.table.now)))) =
-    c.head_length_lem.ensures ∙ ap head_length (frames_is)
+    let head_is : c.head_length-head.result ≡ head_length (frames (((c.args.table.now)))) =
+    c.head_length-head.ensures ∙ ap head_length (frames_is)
     in
     let w : c.power.result ≡ 2 ^ inputs (c.args.table.now) = c.power.ensures ∙ ap (λ (n : ℕ). 2 ^ n) (inputs_is) in record {
       words_value = (w, omega (arith, words_most (inputs (c.args.table.now)) (sized₁).inputs-to));
@@ -255,8 +255,8 @@ returns-then-length-head-2 c =
     let after-sizes : (y : Figures) → y ≡ rest₁ (((c.args.table.now))) → y ≡ head_checked (((c.args.table.now))) =
     λ y e. rw (le-ltb (length (((c.args.table.now)))) 6 c.if-length-lt-SIZES.false) (go_on c.check-sized.result _ _ y c.in-Accepted.field-0 (sizes_are) c.in-Accepted.is e)
     in
-    let head_is : c.head_length_lem.result ≡ head_length (frames (((c.args.table.now)))) =
-    c.head_length_lem.ensures ∙ ap head_length (frames_is)
+    let head_is : c.head_length-head.result ≡ head_length (frames (((c.args.table.now)))) =
+    c.head_length-head.ensures ∙ ap head_length (frames_is)
     in
     let b₃ : List ℕ =
     ((c.args.table.now))
@@ -272,7 +272,7 @@ returns-then-length-head-2 c =
     let after-connected : (y : Figures) → y ≡ rest₃ ((((c.args.table.now)))) → y ≡ head_checked ((((c.args.table.now)))) =
     λ y e. after_counts y (go_on c.check_connected-connected.result _ _ y c.in-Accepted-connected.field-0 c.check_connected-connected.ensures c.in-Accepted-connected.is e)
     in
-    let length_is : table_length ((((c.args.table.now)))) ≡ c.head_length_lem.result + 4 * c.entries_below-entries.result =
+    let length_is : table_length ((((c.args.table.now)))) ≡ c.head_length-head.result + 4 * c.entries_below-entries.result =
     let e = c.entries_below-entries.ensures.0 ∙ ap (entries_below (((c.args.table.now)))) (frames_is) in
     omega (arith, e, head_is)
     in
@@ -296,8 +296,8 @@ returns c =
     let after-sizes : (y : Figures) → y ≡ rest₁ (((c.args.table.now))) → y ≡ head_checked (((c.args.table.now))) =
     λ y e. rw (le-ltb (length (((c.args.table.now)))) 6 c.if-length-lt-SIZES.false) (go_on c.check-sized.result _ _ y c.in-Accepted.field-0 (sizes_are) c.in-Accepted.is e)
     in
-    let head_is : c.head_length_lem.result ≡ head_length (frames (((c.args.table.now)))) =
-    c.head_length_lem.ensures ∙ ap head_length (frames_is)
+    let head_is : c.head_length-head.result ≡ head_length (frames (((c.args.table.now)))) =
+    c.head_length-head.ensures ∙ ap head_length (frames_is)
     in
     let b₃ : List ℕ =
     ((c.args.table.now))
@@ -313,7 +313,7 @@ returns c =
     let after-connected : (y : Figures) → y ≡ rest₃ ((((c.args.table.now)))) → y ≡ head_checked ((((c.args.table.now)))) =
     λ y e. after_counts y (go_on c.check_connected-connected.result _ _ y c.in-Accepted-connected.field-0 c.check_connected-connected.ensures c.in-Accepted-connected.is e)
     in
-    let length_is : table_length ((((c.args.table.now)))) ≡ c.head_length_lem.result + 4 * c.entries_below-entries.result =
+    let length_is : table_length ((((c.args.table.now)))) ≡ c.head_length-head.result + 4 * c.entries_below-entries.result =
     let e = c.entries_below-entries.ensures.0 ∙ ap (entries_below (((c.args.table.now)))) (frames_is) in
     omega (arith, e, head_is)
     in
