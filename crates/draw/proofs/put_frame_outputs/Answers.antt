@@ -78,7 +78,7 @@ loop-j-preserved c =
     in (
       omega (arith, c.loop-j-test.true),
       c.put_gate.ensures
-          ∙ each_more c.args.target.gates c.args.k c.args.res.now c.loop-j.result (gate_in c.args.connected c.args.from c.args.literals.now) c.loop-j.j (c.args.k + c.loop-j.j) _ c.loop-j.invariant.1 refl
+          ∙ each_more c.args.target.gates c.args.k c.args.res.now c.loop-j.res (gate_in c.args.connected c.args.from c.args.literals.now) c.loop-j.j (c.args.k + c.loop-j.j) _ c.loop-j.invariant.1 refl
           (gate_pair (bit c.args.connected c.loop-j.j) _ c.output_gate-gate.result (gate_is)) (omega (arith, c.loop-j-test.true, c.requires.outputs_bound)) c.requires.fits.room,
     )
 

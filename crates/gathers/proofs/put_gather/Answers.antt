@@ -163,7 +163,7 @@ loop-e-preserved c =
       w.7 ∙ omega (arith, c.loop-e.invariant.1, taken_length (c.args.target.base + c.args.gathering.edges) (belongs c.args.gathering.key c.args.entries.now c.args.i) e t),
       w.6
           ∙ w.3.ensures
-          ∙ chain_more c.args.target.gates c.args.target.base c.args.k c.args.res.now c.loop-e.result ((inverted_edges (c.args.target.base + c.args.gathering.edges) (belongs c.args.gathering.key c.args.entries.now c.args.i)) e) ((inverted_edges (c.args.target.base + c.args.gathering.edges) (belongs c.args.gathering.key c.args.entries.now c.args.i)) (e + 1)) c.loop-e.end
+          ∙ chain_more c.args.target.gates c.args.target.base c.args.k c.args.res.now c.loop-e.res ((inverted_edges (c.args.target.base + c.args.gathering.edges) (belongs c.args.gathering.key c.args.entries.now c.args.i)) e) ((inverted_edges (c.args.target.base + c.args.gathering.edges) (belongs c.args.gathering.key c.args.entries.now c.args.i)) (e + 1)) c.loop-e.end
           _ (2 * ((c.args.target.base + c.args.gathering.edges) + e) + 1) c.loop-e.invariant.2 c.loop-e.invariant.1 w.1.ensures.0 (edge_taken (c.args.target.base + c.args.gathering.edges) (belongs c.args.gathering.key c.args.entries.now c.args.i) e t)
           (omega (arith, c.loop-e.invariant.1, all_fit, edge_room (c.args.target.base + c.args.gathering.edges) (belongs c.args.gathering.key c.args.entries.now c.args.i) e (length c.args.entries.now / 2) c.loop-e-test.true t)) c.requires.fits.room,
     ))

@@ -97,7 +97,7 @@ loop-i-preserved c =
       omega arith,
       omega (arith, e, c.loop-i.invariant.1, chains_longer (c.args.target.base + c.args.k) (gather_edges c.args.target c.args.gathering c.args.entries.now) n),
       c.put_gather-next.ensures.gates
-          ∙ chains_next c.args.target.gates c.args.target.base c.args.k c.args.res.now c.loop-i.result (gather_edges c.args.target c.args.gathering c.args.entries.now) n c.loop-i.end c.loop-i.invariant.2 c.loop-i.invariant.1
+          ∙ chains_next c.args.target.gates c.args.target.base c.args.k c.args.res.now c.loop-i.res (gather_edges c.args.target c.args.gathering c.args.entries.now) n c.loop-i.end c.loop-i.invariant.2 c.loop-i.invariant.1
           (next) c.requires.fits.room,
       length-set c.loop-i.literals n _ ∙ c.loop-i.invariant.3,
       fill_grown [] (λ _ c. inverted (ending (c.args.target.base + c.args.k) (gather_edges c.args.target c.args.gathering c.args.entries.now) c)) c.loop-i.literals n n c.invert.result (omega (arith, has-place, c.loop-i.invariant.3)) c.loop-i.invariant.4
