@@ -24,11 +24,11 @@ is_set-requires c =
 
 pub overflow_add-from : goal.overflow_add-from
 overflow_add-from c =
-    omega (arith, c.loop-j-test.true, c.requires.outputs_bound, c.good)
+    omega (arith, c.loop-j-test.true, c.requires.outputs_bound)
 
 pub offset_bounds-literals-from : goal.offset_bounds-literals-from
 offset_bounds-literals-from c =
-    omega (arith, c.loop-j-test.true, c.requires.outputs_bound, c.good)
+    omega (arith, c.loop-j-test.true, c.requires.outputs_bound)
 
 pub bounds-literals-from : goal.bounds-literals-from
 bounds-literals-from c =
