@@ -49,14 +49,14 @@ overflow_add-first-in-loop-w c =
     let inside : c.args.state * c.args.fan + c.loop-w.w < c.args.rows.count =
     word_in c.args.scratch.now c.args.rows c.args.from c.args.fan c.args.bits c.args.state c.loop-w.w c.requires.collectable c.requires.state_bound (omega arith)
     in
-    omega (arith, inside, c.requires.collectable.numbers_in, c.good)
+    omega (arith, inside, c.requires.collectable.numbers_in)
 
 pub offset_bounds-scratch-first : goal.offset_bounds-scratch-first
 offset_bounds-scratch-first c =
     let inside : c.args.state * c.args.fan + c.loop-w.w < c.args.rows.count =
     word_in c.args.scratch.now c.args.rows c.args.from c.args.fan c.args.bits c.args.state c.loop-w.w c.requires.collectable c.requires.state_bound (omega arith)
     in
-    omega (arith, inside, c.requires.collectable.numbers_in, c.good)
+    omega (arith, inside, c.requires.collectable.numbers_in)
 
 pub bounds-scratch-first : goal.bounds-scratch-first
 bounds-scratch-first c =
@@ -77,7 +77,7 @@ overflow_add-at c =
     let room : (c.loop-w.next < c.args.rows.count) × (c.args.rows.copy + c.args.rows.count ≤ length c.loop-w.scratch) =
     (omega (arith, c.loop-w.invariant.1.few, inside), omega (arith, c.loop-w.invariant.1.long, c.requires.collectable.copy_before, c.requires.collectable.numbers_in))
     in
-    omega (arith, room, c.requires.collectable, c.good)
+    omega (arith, room, c.requires.collectable)
 
 pub overflow_shl-scratch : goal.overflow_shl-scratch
 overflow_shl-scratch c =
@@ -105,7 +105,7 @@ offset_bounds-scratch-at c =
     let room : (c.loop-w.next < c.args.rows.count) × (c.args.rows.copy + c.args.rows.count ≤ length c.loop-w.scratch) =
     (omega (arith, c.loop-w.invariant.1.few, inside), omega (arith, c.loop-w.invariant.1.long, c.requires.collectable.copy_before, c.requires.collectable.numbers_in))
     in
-    omega (arith, room, c.requires.collectable, c.good)
+    omega (arith, room, c.requires.collectable)
 
 pub bounds-scratch-at : goal.bounds-scratch-at
 bounds-scratch-at c =
@@ -125,7 +125,7 @@ overflow_add-next c =
     let room : (c.loop-w.next < c.args.rows.count) × (c.args.rows.copy + c.args.rows.count ≤ length c.loop-w.scratch) =
     (omega (arith, c.loop-w.invariant.1.few, inside), omega (arith, c.loop-w.invariant.1.long, c.requires.collectable.copy_before, c.requires.collectable.numbers_in))
     in
-    omega (arith, room, c.requires.collectable, c.good)
+    omega (arith, room, c.requires.collectable)
 
 pub loop-w-preserved : goal.loop-w-preserved
 loop-w-preserved c =
