@@ -1,7 +1,6 @@
 -- `refine::collect_words` meets its contract. The invariant: the paths of the candidates so far are stored, and `next` is the next number.
 -- Assumes nothing.
 use mathlib.Core.Path.{◌≡◌, sym, ap, ◌∙◌}
-use mathlib.Core.Logic.{⊎_elim}
 use Prim.Native.Nat.{◌+◌, ◌*◌, ◌^◌, ◌-◌, ◌≤◌, ◌<◌}
 use native.Mathlib.Nat.{add-zero}
 use native.Mathlib.Omega.{arith}
@@ -9,6 +8,7 @@ use lib.ListN.{length, get_or}
 use Rattle.refine.specs.Collecting.{Collecting}
 use Rattle.refine.proofs.Collecting.{collect_new, collect_old, word_in, word_short, word_path}
 use Rattle.refine.proofs.collect_words.Goals as goal
+use Rattle.refine.proofs.collect_words.Goals.{then-scratch-first, else-scratch-first}
 
 pub overflow_add-path : goal.overflow_add-path
 overflow_add-path c =
@@ -136,13 +136,13 @@ loop-w-preserved c =
     let e : k + (c.loop-w.w + 1) ≡ k + c.loop-w.w + 1 = omega arith in
     let n : c.args.rows.numbers + (k + c.loop-w.w) ≡ c.args.rows.numbers + k + c.loop-w.w = omega arith in
     let q = ap (λ j. get_or c.loop-w.scratch j 0) n in
-    ⊎_elim
-    (λ t.
-    let p = word_path c.args.scratch.now c.args.rows c.args.from c.args.fan c.args.bits c.args.state c.loop-w.w c.requires.collectable c.requires.state_bound (omega arith) in
-    (omega arith, rw (t.2, t.3) (collect_new c.args.scratch.now c.loop-w.scratch c.args.rows c.args.from c.args.fan c.args.bits (k + c.loop-w.w) c.loop-w.next c.requires.collectable (inside) c.loop-w.invariant.1 (q ∙ t.0.taken) _ _ p e)))
-    (λ t.
-    (omega arith, rw (t.1, t.2) (collect_old c.args.scratch.now c.loop-w.scratch c.args.rows c.args.from c.args.fan c.args.bits (k + c.loop-w.w) c.loop-w.next c.requires.collectable (inside) c.loop-w.invariant.1 _ (λ d. t.0.left (sym q ∙ d)) e)))
-    c.if-scratch-first.branch
+    elim c.if-scratch-first.branch [
+      then-scratch-first t ↦
+          let p = word_path c.args.scratch.now c.args.rows c.args.from c.args.fan c.args.bits c.args.state c.loop-w.w c.requires.collectable c.requires.state_bound (omega arith) in
+          (omega arith, rw (t.scratch-is, t.next-is) (collect_new c.args.scratch.now c.loop-w.scratch c.args.rows c.args.from c.args.fan c.args.bits (k + c.loop-w.w) c.loop-w.next c.requires.collectable inside c.loop-w.invariant.1 (q ∙ t.if-scratch-first.true) _ _ p e))
+      | else-scratch-first t ↦
+          (omega arith, rw (t.scratch-is, t.next-is) (collect_old c.args.scratch.now c.loop-w.scratch c.args.rows c.args.from c.args.fan c.args.bits (k + c.loop-w.w) c.loop-w.next c.requires.collectable inside c.loop-w.invariant.1 _ (λ d. t.if-scratch-first.false (sym q ∙ d)) e))
+    ]
 
 pub returns : goal.returns
 returns c =
