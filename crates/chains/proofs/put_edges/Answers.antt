@@ -84,7 +84,7 @@ pub loop-e-preserved : goal.loop-e-preserved
 loop-e-preserved c = (
   omega arith,
   c.put_gate.ensures
-      ∙ each_more c.args.target.gates c.args.k c.args.res.now c.loop-e.result (edge_of c.args.target.inputs (c.args.target.base + c.args.matches) c.args.states.now) c.loop-e.e (c.args.k + c.loop-e.e) _ c.loop-e.invariant.1 (omega arith)
+      ∙ each_more c.args.target.gates c.args.k c.args.res.now c.loop-e.res (edge_of c.args.target.inputs (c.args.target.base + c.args.matches) c.args.states.now) c.loop-e.e (c.args.k + c.loop-e.e) _ c.loop-e.invariant.1 (omega arith)
       (edge_is _ _ _ c.loop-e.e _ c.args.states.now c.requires.fits.words_are c.match_literal-matched.ensures.0) (omega (arith, c.loop-e-test.true, c.requires.matches_le_k)) c.requires.fits.room,
 )
 

@@ -57,7 +57,7 @@ loop-i-preserved c =
     let f : ℕ → ℕ = input_literal c.args.target.inputs c.args.t c.args.w in (
       omega arith,
       c.put_gate.ensures
-          ∙ chain_more c.args.target.gates c.args.target.base c.args.k c.args.res.now c.loop-i.result (listed [] f c.loop-i.i) (listed [] f (c.loop-i.i + 1))
+          ∙ chain_more c.args.target.gates c.args.target.base c.args.k c.args.res.now c.loop-i.res (listed [] f c.loop-i.i) (listed [] f (c.loop-i.i + 1))
           _ _ _ c.loop-i.invariant.1 (ap (λ (i : ℕ). c.args.k + i) (sym (listed-length f c.loop-i.i))) c.chain_end-left.ensures.0
           (listed_more f c.loop-i.i _ c.input_literal-right.ensures.0) (omega (arith, c.requires.t_lt_most_frames)) c.requires.fits.room,
     )

@@ -63,7 +63,7 @@ loop-w-preserved c =
     let f : ℕ → List ℕ = matching c.args.target.inputs c.args.t in (
       omega arith,
       c.put_match.ensures
-          ∙ chains_next c.args.target.gates c.args.target.base c.args.k c.args.res.now c.loop-w.result f c.loop-w.w _ c.loop-w.invariant.1
+          ∙ chains_next c.args.target.gates c.args.target.base c.args.k c.args.res.now c.loop-w.res f c.loop-w.w _ c.loop-w.invariant.1
           (omega (arith, many)) (omega (arith, next, match_length c.args.target.inputs c.args.t c.loop-w.w)) c.requires.fits.room,
     )
 

@@ -156,8 +156,8 @@ put_frame-k-requires c =
     let within : length (drawing ((c.args.table.now)) c.loop-t.t).gates ≤ c.args.target.gates =
     omega (arith, all-gates, gates_mono ((c.args.table.now)) c.loop-t.t (framesOf ((c.args.table.now))) (omega (arith, c.loop-t.invariant.0, frames_are)))
     in
-    let still : Fits c.args.target c.loop-t.result =
-    fits_still c.args.target c.args.res.now c.loop-t.result 0 (drawing ((c.args.table.now)) c.loop-t.t).gates (fit) c.loop-t.invariant.2 (omega (arith, within))
+    let still : Fits c.args.target c.loop-t.res =
+    fits_still c.args.target c.args.res.now c.loop-t.res 0 (drawing ((c.args.table.now)) c.loop-t.t).gates (fit) c.loop-t.invariant.2 (omega (arith, within))
     in
     let early : c.loop-t.t < framesOf ((c.args.table.now)) =
     omega (arith, c.loop-t-test.true, frames_are)
@@ -238,8 +238,8 @@ loop-t-preserved c =
     let room : c.args.target.outputs * t + c.args.target.outputs ≤ length c.loop-t.outputs = omega (arith, places, c.loop-t.invariant.5) in (
       omega (arith, c.loop-t-test.true),
       c.put_frame-k.ensures.end ∙ ap (λ (t : ℕ). length (drawing b t).gates) next,
-      drawn-more b c.args.target.gates c.args.res.now c.loop-t.result _ t c.loop-t.k c.loop-t.invariant.2 c.loop-t.invariant.1
-          (c.put_frame-k.ensures.gates ∙ (λ c. gates_stored c.args.target.gates (first_of c) c.loop-t.result (frame_gates (frame_at b (frame-of c)))))
+      drawn-more b c.args.target.gates c.args.res.now c.loop-t.res _ t c.loop-t.k c.loop-t.invariant.2 c.loop-t.invariant.1
+          (c.put_frame-k.ensures.gates ∙ (λ c. gates_stored c.args.target.gates (first_of c) c.loop-t.res (frame_gates (frame_at b (frame-of c)))))
           (omega (arith, gates_are, frame_ends b t, frame_room b t (early))) (fit).room
           ∙ ap (λ (t : ℕ). gates_stored c.args.target.gates 0 c.args.res.now (drawing b t).gates) (sym (add-one t)),
       subst (λ (t : ℕ). StatesKept b t c.put_frame-k.new.1.1.1.0) next c.put_frame-k.ensures.states,
@@ -278,8 +278,8 @@ put_outputs-requires c =
     let within : length (drawing ((c.args.table.now)) c.loop-t.t).gates ≤ c.args.target.gates =
     omega (arith, all-gates, gates_mono ((c.args.table.now)) c.loop-t.t (framesOf ((c.args.table.now))) (omega (arith, c.loop-t.invariant.0, frames_are)))
     in
-    let still : Fits c.args.target c.loop-t.result =
-    fits_still c.args.target c.args.res.now c.loop-t.result 0 (drawing ((c.args.table.now)) c.loop-t.t).gates (fit) c.loop-t.invariant.2 (omega (arith, within))
+    let still : Fits c.args.target c.loop-t.res =
+    fits_still c.args.target c.args.res.now c.loop-t.res 0 (drawing ((c.args.table.now)) c.loop-t.t).gates (fit) c.loop-t.invariant.2 (omega (arith, within))
     in
     let ended : c.loop-t.t ≡ framesOf ((c.args.table.now)) =
     omega (arith, c.loop-t-test.false, c.loop-t.invariant.0, frames_are)
@@ -332,7 +332,7 @@ returns c =
     in
     let drawn-all : c.put_outputs.new.1.1.1.1.1.0
     ≡ gates_stored c.args.target.gates 0 c.args.res.now (drawn ((c.args.table.now))) =
-    outputs-drawn ((c.args.table.now)) c.args.target.gates c.args.res.now c.loop-t.result _ c.loop-t.k c.loop-t.outputs
+    outputs-drawn ((c.args.table.now)) c.args.target.gates c.args.res.now c.loop-t.res _ c.loop-t.k c.loop-t.outputs
     (c.loop-t.invariant.2 ∙ ap (λ (t : ℕ). gates_stored c.args.target.gates 0 c.args.res.now (drawing ((c.args.table.now)) t).gates) (ended))
     (c.loop-t.invariant.1 ∙ ap (λ (t : ℕ). length (drawing ((c.args.table.now)) t).gates) (ended))
     (ap₂ (λ (m t : ℕ). take (m * t) c.loop-t.outputs) (sym (outputs_are)) (sym (ended)) ∙ c.loop-t.invariant.4 ∙ ap (λ (t : ℕ). (drawing ((c.args.table.now)) t).outputs) (ended))

@@ -24,11 +24,11 @@ is_set-requires c =
 
 pub overflow_add-from : goal.overflow_add-from
 overflow_add-from c =
-    omega (arith, c.loop-j-test.true, c.requires.outputs_bound, c.good)
+    omega (arith, c.loop-j-test.true, c.requires.outputs_bound)
 
 pub offset_bounds-literals-from : goal.offset_bounds-literals-from
 offset_bounds-literals-from c =
-    omega (arith, c.loop-j-test.true, c.requires.outputs_bound, c.good)
+    omega (arith, c.loop-j-test.true, c.requires.outputs_bound)
 
 pub bounds-literals-from : goal.bounds-literals-from
 bounds-literals-from c =
@@ -78,7 +78,7 @@ loop-j-preserved c =
     in (
       omega (arith, c.loop-j-test.true),
       c.put_gate.ensures
-          ∙ each_more c.args.target.gates c.args.k c.args.res.now c.loop-j.result (gate_in c.args.connected c.args.from c.args.literals.now) c.loop-j.j (c.args.k + c.loop-j.j) _ c.loop-j.invariant.1 refl
+          ∙ each_more c.args.target.gates c.args.k c.args.res.now c.loop-j.res (gate_in c.args.connected c.args.from c.args.literals.now) c.loop-j.j (c.args.k + c.loop-j.j) _ c.loop-j.invariant.1 refl
           (gate_pair (bit c.args.connected c.loop-j.j) _ c.output_gate-gate.result (gate_is)) (omega (arith, c.loop-j-test.true, c.requires.outputs_bound)) c.requires.fits.room,
     )
 

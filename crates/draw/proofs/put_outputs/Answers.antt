@@ -137,7 +137,7 @@ loop-t-preserved c =
     omega (arith, mul-suc (outputs ((c.args.table.now))) c.loop-t.t, mul-le-mul_left (outputs ((c.args.table.now))) (early))
     in (
       omega (arith, c.loop-t-test.true),
-      frame_stored (c.args.table.now) c.args.literals.now c.loop-t.t c.args.target.gates c.args.k c.args.target.outputs c.connected_of-connected.result c.args.res.now c.loop-t.result _
+      frame_stored (c.args.table.now) c.args.literals.now c.loop-t.t c.args.target.gates c.args.k c.args.target.outputs c.connected_of-connected.result c.args.res.now c.loop-t.res _
           (outputs_are) c.connected_of-connected.ensures.0 c.loop-t.invariant.1 c.put_frame_outputs.ensures (omega (arith, among, c.requires.table_bound.0)) c.requires.target_value.1.room,
     )
 

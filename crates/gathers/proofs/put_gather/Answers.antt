@@ -2,7 +2,6 @@
 -- Assumes nothing.
 use mathlib.Core.Path.{◌≡◌, refl, sym, ap, ◌∙◌}
 use mathlib.Core.Bool.{Bool, true}
-use mathlib.Core.Logic.{⊎_elim}
 use mathlib.Core.List.{List}
 use Prim.Native.Nat.{ℕ, ◌+◌, ◌*◌, ◌-◌, ◌/◌, ◌≤◌}
 use native.Mathlib.Omega.{arith}
@@ -14,6 +13,7 @@ use Rattle.chains.proofs.Stored.{gates-none, gates-length, fits_still, chain_mor
 use Rattle.gathers.specs.Gathers.{chosen, gather_edges}
 use Rattle.gathers.proofs.Edges.{belongs, edge_taken, edge_passed, taken_length, edges_most, edge_room, all_edges}
 use Rattle.gathers.proofs.put_gather.Goals as goal
+use Rattle.gathers.proofs.put_gather.Goals.{then-is_chosen, else-is_chosen}
 
 pub overflow_add-edges : goal.overflow_add-edges
 overflow_add-edges c =
@@ -156,24 +156,24 @@ loop-e-preserved c =
     sym (c.is_chosen.ensures ∙ ap (chosen c.args.gathering.key c.args.i) c.read.ensures.0)
     in
     let e : ℕ = c.loop-e.e in
-    ⊎_elim
-    (λ w.
-    let t : (belongs c.args.gathering.key c.args.entries.now c.args.i) e ≡ true = found ∙ w.0.taken in (
-      omega arith,
-      w.7 ∙ omega (arith, c.loop-e.invariant.1, taken_length (c.args.target.base + c.args.gathering.edges) (belongs c.args.gathering.key c.args.entries.now c.args.i) e t),
-      w.6
-          ∙ w.3.ensures
-          ∙ chain_more c.args.target.gates c.args.target.base c.args.k c.args.res.now c.loop-e.result ((inverted_edges (c.args.target.base + c.args.gathering.edges) (belongs c.args.gathering.key c.args.entries.now c.args.i)) e) ((inverted_edges (c.args.target.base + c.args.gathering.edges) (belongs c.args.gathering.key c.args.entries.now c.args.i)) (e + 1)) c.loop-e.end
-          _ (2 * ((c.args.target.base + c.args.gathering.edges) + e) + 1) c.loop-e.invariant.2 c.loop-e.invariant.1 w.1.ensures.0 (edge_taken (c.args.target.base + c.args.gathering.edges) (belongs c.args.gathering.key c.args.entries.now c.args.i) e t)
-          (omega (arith, c.loop-e.invariant.1, all_fit, edge_room (c.args.target.base + c.args.gathering.edges) (belongs c.args.gathering.key c.args.entries.now c.args.i) e (length c.args.entries.now / 2) c.loop-e-test.true t)) c.requires.fits.room,
-    ))
-    (λ w.
-    let q = edge_passed (c.args.target.base + c.args.gathering.edges) (belongs c.args.gathering.key c.args.entries.now c.args.i) e (found ∙ w.0.left) in (
-      omega arith,
-      w.2 ∙ c.loop-e.invariant.1 ∙ ap (λ (rs : List ℕ). c.args.k + length rs) q,
-      w.1 ∙ c.loop-e.invariant.2 ∙ ap (λ (rs : List ℕ). gates_stored c.args.target.gates c.args.k c.args.res.now (chain (c.args.target.base + c.args.k) 1 rs)) q,
-    ))
-    c.if-is_chosen.branch
+    elim c.if-is_chosen.branch [
+      | then-is_chosen w ↦
+          let t : (belongs c.args.gathering.key c.args.entries.now c.args.i) e ≡ true = found ∙ w.if-is_chosen.true in (
+            omega arith,
+            w.end-is ∙ omega (arith, c.loop-e.invariant.1, taken_length (c.args.target.base + c.args.gathering.edges) (belongs c.args.gathering.key c.args.entries.now c.args.i) e t),
+            w.res-is
+                ∙ w.put_gate.ensures
+                ∙ chain_more c.args.target.gates c.args.target.base c.args.k c.args.res.now c.loop-e.res ((inverted_edges (c.args.target.base + c.args.gathering.edges) (belongs c.args.gathering.key c.args.entries.now c.args.i)) e) ((inverted_edges (c.args.target.base + c.args.gathering.edges) (belongs c.args.gathering.key c.args.entries.now c.args.i)) (e + 1)) c.loop-e.end
+                _ (2 * ((c.args.target.base + c.args.gathering.edges) + e) + 1) c.loop-e.invariant.2 c.loop-e.invariant.1 w.chain_end-left.ensures.0 (edge_taken (c.args.target.base + c.args.gathering.edges) (belongs c.args.gathering.key c.args.entries.now c.args.i) e t)
+                (omega (arith, c.loop-e.invariant.1, all_fit, edge_room (c.args.target.base + c.args.gathering.edges) (belongs c.args.gathering.key c.args.entries.now c.args.i) e (length c.args.entries.now / 2) c.loop-e-test.true t)) c.requires.fits.room,
+          )
+      | else-is_chosen w ↦
+          let q = edge_passed (c.args.target.base + c.args.gathering.edges) (belongs c.args.gathering.key c.args.entries.now c.args.i) e (found ∙ w.if-is_chosen.false) in (
+            omega arith,
+            w.end-is ∙ c.loop-e.invariant.1 ∙ ap (λ (rs : List ℕ). c.args.k + length rs) q,
+            w.res-is ∙ c.loop-e.invariant.2 ∙ ap (λ (rs : List ℕ). gates_stored c.args.target.gates c.args.k c.args.res.now (chain (c.args.target.base + c.args.k) 1 rs)) q,
+          )
+    ]
 
 pub returns : goal.returns
 returns c =

@@ -62,7 +62,7 @@ offset_bounds-literals-i c =
     let has-place : c.loop-i.i < length c.args.literals.now =
     c.loop-i-test.true
     in
-    omega (arith, has-place, c.good)
+    omega (arith, has-place)
 
 pub bounds-literals-i : goal.bounds-literals-i
 bounds-literals-i c =
@@ -76,7 +76,7 @@ overflow_step-i c =
     let has-place : c.loop-i.i < length c.args.literals.now =
     c.loop-i-test.true
     in
-    omega (arith, has-place, c.good)
+    omega (arith, has-place)
 
 pub loop-i-preserved : goal.loop-i-preserved
 loop-i-preserved c =
@@ -97,10 +97,10 @@ loop-i-preserved c =
       omega arith,
       omega (arith, e, c.loop-i.invariant.1, chains_longer (c.args.target.base + c.args.k) (gather_edges c.args.target c.args.gathering c.args.entries.now) n),
       c.put_gather-next.ensures.gates
-          ∙ chains_next c.args.target.gates c.args.target.base c.args.k c.args.res.now c.loop-i.result (gather_edges c.args.target c.args.gathering c.args.entries.now) n c.loop-i.end c.loop-i.invariant.2 c.loop-i.invariant.1
+          ∙ chains_next c.args.target.gates c.args.target.base c.args.k c.args.res.now c.loop-i.res (gather_edges c.args.target c.args.gathering c.args.entries.now) n c.loop-i.end c.loop-i.invariant.2 c.loop-i.invariant.1
           (next) c.requires.fits.room,
       length-set c.loop-i.literals n _ ∙ c.loop-i.invariant.3,
-      fill_grown [] (λ _ c. inverted (ending (c.args.target.base + c.args.k) (gather_edges c.args.target c.args.gathering c.args.entries.now) c)) c.loop-i.literals n n c.invert.result (omega (arith, has-place, c.loop-i.invariant.3)) c.loop-i.invariant.4
+      fill_grown [] (λ _ j. inverted (ending (c.args.target.base + c.args.k) (gather_edges c.args.target c.args.gathering c.args.entries.now) j)) c.loop-i.literals n n c.invert.result (omega (arith, has-place, c.loop-i.invariant.3)) c.loop-i.invariant.4
           (c.invert.ensures.0 ∙ ap inverted (c.chain_end.ensures.0 ∙ ending_is c.args.target.base c.args.k (gather_edges c.args.target c.args.gathering c.args.entries.now) n c.loop-i.end _ c.loop-i.invariant.1 e))
           (n + 1) (n + 1) refl refl,
     )

@@ -55,7 +55,7 @@ overflow_mul-start c =
     let few : c.loop-t.start + 2 * (c.states_of.result * c.args.layout.words) ≤ length c.args.table.now =
     layer_few _ _ c.requires.0 c.requires.1 c.loop-t.starts _ _ c.loop-t.invariant (inside) _ c.states_of.ensures.0
     in
-    omega (arith, few, c.good)
+    omega (arith, few)
 
 pub overflow_mul-start-in-loop-t : goal.overflow_mul-start-in-loop-t
 overflow_mul-start-in-loop-t c =
@@ -68,7 +68,7 @@ overflow_mul-start-in-loop-t c =
     let few : c.loop-t.start + 2 * (c.states_of.result * c.args.layout.words) ≤ length c.args.table.now =
     layer_few _ _ c.requires.0 c.requires.1 c.loop-t.starts _ _ c.loop-t.invariant (inside) _ c.states_of.ensures.0
     in
-    omega (arith, few, c.good)
+    omega (arith, few)
 
 pub overflow_add-start : goal.overflow_add-start
 overflow_add-start c =
@@ -81,7 +81,7 @@ overflow_add-start c =
     let few : c.loop-t.start + 2 * (c.states_of.result * c.args.layout.words) ≤ length c.args.table.now =
     layer_few _ _ c.requires.0 c.requires.1 c.loop-t.starts _ _ c.loop-t.invariant (inside) _ c.states_of.ensures.0
     in
-    omega (arith, few, c.good)
+    omega (arith, few)
 
 pub overflow_step-t : goal.overflow_step-t
 overflow_step-t c =

@@ -121,7 +121,7 @@ returns-then-one-zero-ne0 c =
 
 pub overflow_step-h : goal.overflow_step-h
 overflow_step-h c =
-    omega (arith, (entered c).good)
+    omega (arith)
 
 pub loop-h-preserved : goal.loop-h-preserved
 loop-h-preserved c =

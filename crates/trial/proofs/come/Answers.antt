@@ -8,7 +8,7 @@ use Rattle.trial.proofs.come.Goals as goal
 
 pub overflow_mul-word : goal.overflow_mul-word
 overflow_mul-word c =
-    omega (arith, word_from _ _ _ c.args.chosen.now c.requires.held c.requires.candidate c.args.t c.args.h c.requires.t_lt_frames.0 c.requires.t_lt_frames.1, c.good)
+    omega (arith, word_from _ _ _ c.args.chosen.now c.requires.held c.requires.candidate c.args.t c.args.h c.requires.t_lt_frames.0 c.requires.t_lt_frames.1)
 
 pub overflow_sub-word : goal.overflow_sub-word
 overflow_sub-word c =

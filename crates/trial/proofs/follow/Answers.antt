@@ -97,7 +97,7 @@ offset_bounds-starts-i c =
     let facts : Turn c.args.sought c.args.table.now c.args.starts.now c.loop-i.i c.loop-i.shift c.loop-i.target c.loop-i.state c.loop-i.before ((c.args.h / 2 ^ (c.loop-i.shift - c.args.sought.inputs))) =
     turn _ _ _ c.args.chosen.now c.requires.held c.requires.candidate c.args.t c.args.h c.requires.t_le_frames.0 c.requires.t_le_frames.1 _ _ _ _ _ _ c.loop-i.invariant (omega arith)
     in
-    omega (arith, facts, c.good)
+    omega (arith, facts)
 
 pub bounds-starts-i : goal.bounds-starts-i
 bounds-starts-i c =
@@ -117,7 +117,7 @@ overflow_mul-target c =
     let facts : Turn c.args.sought c.args.table.now c.args.starts.now c.loop-i.i c.loop-i.shift c.loop-i.target c.loop-i.state c.loop-i.before ((c.args.h / 2 ^ (c.loop-i.shift - c.args.sought.inputs))) =
     turn _ _ _ c.args.chosen.now c.requires.held c.requires.candidate c.args.t c.args.h c.requires.t_le_frames.0 c.requires.t_le_frames.1 _ _ _ _ _ _ c.loop-i.invariant (omega arith)
     in
-    omega (arith, facts, c.good)
+    omega (arith, facts)
 
 pub overflow_add-target : goal.overflow_add-target
 overflow_add-target c =
@@ -127,7 +127,7 @@ overflow_add-target c =
     let facts : Turn c.args.sought c.args.table.now c.args.starts.now c.loop-i.i c.loop-i.shift c.loop-i.target c.loop-i.state c.loop-i.before ((c.args.h / 2 ^ (c.loop-i.shift - c.args.sought.inputs))) =
     turn _ _ _ c.args.chosen.now c.requires.held c.requires.candidate c.args.t c.args.h c.requires.t_le_frames.0 c.requires.t_le_frames.1 _ _ _ _ _ _ c.loop-i.invariant (omega arith)
     in
-    omega (arith, facts, c.good)
+    omega (arith, facts)
 
 pub overflow_mul-target-in-loop-i : goal.overflow_mul-target-in-loop-i
 overflow_mul-target-in-loop-i c =
@@ -137,7 +137,7 @@ overflow_mul-target-in-loop-i c =
     let facts : Turn c.args.sought c.args.table.now c.args.starts.now c.loop-i.i c.loop-i.shift c.loop-i.target c.loop-i.state c.loop-i.before ((c.args.h / 2 ^ (c.loop-i.shift - c.args.sought.inputs))) =
     turn _ _ _ c.args.chosen.now c.requires.held c.requires.candidate c.args.t c.args.h c.requires.t_le_frames.0 c.requires.t_le_frames.1 _ _ _ _ _ _ c.loop-i.invariant (omega arith)
     in
-    omega (arith, facts, c.good)
+    omega (arith, facts)
 
 pub overflow_add-starts : goal.overflow_add-starts
 overflow_add-starts c =
@@ -147,7 +147,7 @@ overflow_add-starts c =
     let facts : Turn c.args.sought c.args.table.now c.args.starts.now c.loop-i.i c.loop-i.shift c.loop-i.target c.loop-i.state c.loop-i.before ((c.args.h / 2 ^ (c.loop-i.shift - c.args.sought.inputs))) =
     turn _ _ _ c.args.chosen.now c.requires.held c.requires.candidate c.args.t c.args.h c.requires.t_le_frames.0 c.requires.t_le_frames.1 _ _ _ _ _ _ c.loop-i.invariant (omega arith)
     in
-    omega (arith, facts, c.good)
+    omega (arith, facts)
 
 pub overflow_add-sought : goal.overflow_add-sought
 overflow_add-sought c =
@@ -157,7 +157,7 @@ overflow_add-sought c =
     let facts : Turn c.args.sought c.args.table.now c.args.starts.now c.loop-i.i c.loop-i.shift c.loop-i.target c.loop-i.state c.loop-i.before ((c.args.h / 2 ^ (c.loop-i.shift - c.args.sought.inputs))) =
     turn _ _ _ c.args.chosen.now c.requires.held c.requires.candidate c.args.t c.args.h c.requires.t_le_frames.0 c.requires.t_le_frames.1 _ _ _ _ _ _ c.loop-i.invariant (omega arith)
     in
-    omega (arith, facts, c.good)
+    omega (arith, facts)
 
 pub read-target-requires : goal.read-target-requires
 read-target-requires c =
@@ -201,7 +201,7 @@ overflow_step-i c =
     let facts : Turn c.args.sought c.args.table.now c.args.starts.now c.loop-i.i c.loop-i.shift c.loop-i.target c.loop-i.state c.loop-i.before ((c.args.h / 2 ^ (c.loop-i.shift - c.args.sought.inputs))) =
     turn _ _ _ c.args.chosen.now c.requires.held c.requires.candidate c.args.t c.args.h c.requires.t_le_frames.0 c.requires.t_le_frames.1 _ _ _ _ _ _ c.loop-i.invariant (omega arith)
     in
-    omega (arith, facts, c.good)
+    omega (arith, facts)
 
 pub loop-i-preserved : goal.loop-i-preserved
 loop-i-preserved c =
