@@ -10,7 +10,7 @@ pub fn proved()
     ensures matching { MatchesBits }
     ensures foldings { Foldings }
     ensures askings { Askings }
-    ensures* committings { λ _. ⌜ ((b plan scratch : List ℕ) (nodes : ℕ) (result : List ℕ) → Committing b plan scratch nodes result) ⌝ }
+    ensures committings { (b plan scratch : List ℕ) (nodes : ℕ) (room : List ℕ) → Committing b plan scratch nodes room }
     ensures nodes { TooManyNodes }
     ensures enough { EnoughNodes }
     ensures more { MoreNodes }

@@ -1,276 +1,128 @@
 -- `ask::bytes_needed` meets its contract. The invariant: the sum of the counts of the layers so far.
 -- Assumes nothing.
 use mathlib.Core.Path.{◌≡◌, refl, ap, ap₂, ◌∙◌}
-use Prim.Native.Nat.{ℕ, ◌+◌, ◌*◌, ◌-◌, ◌^◌, ◌≤◌, ◌<◌}
+use mathlib.Core.List.{List}
+use Prim.Native.Nat.{ℕ, ◌+◌, ◌*◌, ◌^◌, ◌≤◌, ◌<◌}
 use native.Mathlib.Nat.{le-mul_of_pos_right}
 use native.Mathlib.Omega.{arith}
-use mathlib.Core.List.{List}
-use lib.ListN.{get_or}
+use lib.ListN.{get_or, length}
 use Rattle.sizes.specs.Sizes.{inputs, frames as framesOf}
 use Rattle.layered.specs.Search.{total}
 use Rattle.layered.proofs.Lists.{total-next}
+use Rattle.layered.proofs.Rows.{power_fits}
 use Rattle.circuit.specs.Theorems.{response}
 use Rattle.circuit.specs.WellFormed.{WellFormed}
-use Rattle.source.specs.Source.{head_of, sourced}
+use Rattle.circuit.specs.declared.Head.{Head}
+use Rattle.source.specs.Source.{sourced}
 use Rattle.source.proofs.Sources.{well}
 use Rattle.table.specs.Table.{head_length}
 use Rattle.table.proofs.Offsets.{head_length_lem}
-use Rattle.layered.proofs.Rows.{power_fits}
+use Rattle.ask.specs.Plan.{Counted}
 use Rattle.ask.proofs.Plans.{state_count, counts_are, two_words, bits_below}
+use Rattle.folded.specs.Folded.{folded_bytes}
 use Rattle.folded.proofs.Tables.{folded-length, entries_most}
 use Rattle.ask.proofs.bytes_needed.Goals as goal
 
+module _ (b : List ℕ) (h : Head) (W : WellFormed b h) where
+  two : 2 ≤ 2 ^ inputs b
+  two = two_words (inputs b) W.headed.sizes.inputs_from
+
+  -- the layers up to t have few entries, and so few states
+  entries-small : (t : ℕ) → t ≤ framesOf b → total t (state_count b) * 2 ^ inputs b ≤ 131072
+  entries-small t l = omega (arith, entries_most (2 ^ inputs b) (framesOf b) (response b) two t, power_fits (inputs b) t (bits_below b W.headed t l))
+
+  sum-small : (t : ℕ) → t ≤ framesOf b → total t (state_count b) ≤ 131072
+  sum-small t l =
+      let p : 0 < 2 ^ inputs b = omega (arith, two) in
+      omega (arith, entries-small t l, le-mul_of_pos_right (total t (state_count b)) p)
+
+  -- a layer more
+  sum_more : (counts : List ℕ) → Counted b counts → (t states : ℕ) → t < framesOf b → states ≡ total t (state_count b) → states + get_or counts t 0 ≡ total (t + 1) (state_count b)
+  sum_more counts C t states l e =
+      omega (arith, e, counts_are b counts W.headed.sizes.frames_from C t (omega arith), total-next (state_count b) t)
+
+  -- all states, times the fan
+  product : (n states power : ℕ) → n ≡ inputs b → states ≡ total (framesOf b) (state_count b) → power ≡ 2 ^ n → states * power ≡ total (framesOf b) (state_count b) * 2 ^ inputs b
+  product n states power e s p = ap₂ (λ (x y : ℕ). x * y) s (p ∙ ap (λ (n : ℕ). 2 ^ n) e)
+
+  product_small : (n states power : ℕ) → n ≡ inputs b → states ≡ total (framesOf b) (state_count b) → power ≡ 2 ^ n → states * power ≤ 131072
+  product_small n states power e s p = omega (arith, product n states power e s p, entries-small (framesOf b) (omega arith))
+
+  -- the head's length
+  head_is : (T r : ℕ) → T ≡ framesOf b → r ≡ head_length T → r ≡ 8 + 4 * framesOf b
+  head_is T r e q = q ∙ ap head_length e ∙ head_length_lem _
+
+  all_bytes : (n T states power r : ℕ) → n ≡ inputs b → T ≡ framesOf b → states ≡ total T (state_count b) → power ≡ 2 ^ n → r ≡ head_length T
+      → r + 4 * (states * power) ≡ length (folded_bytes b)
+  all_bytes n T states power r en eT s p q =
+      let s' : states ≡ total (framesOf b) (state_count b) = s ∙ ap (λ (t : ℕ). total t (state_count b)) eT in
+      omega (arith, product n states power en s' p, head_is T r eT q, folded-length b)
+
+  all_small : (n T states power r : ℕ) → n ≡ inputs b → T ≡ framesOf b → states ≡ total T (state_count b) → power ≡ 2 ^ n → r ≡ head_length T
+      → (states * power ≤ 131072) × (r ≤ 72)
+  all_small n T states power r en eT s p q =
+      let s' : states ≡ total (framesOf b) (state_count b) = s ∙ ap (λ (t : ℕ). total t (state_count b)) eT in
+      (product_small n states power en s' p, omega (arith, head_is T r eT q, W.headed.sizes))
+
 pub loop-t-init : goal.loop-t-init
 unfolding total
-loop-t-init c =
-    (omega arith, refl)
-
-pub offset_bounds-counts-t : goal.offset_bounds-counts-t
-offset_bounds-counts-t c =
-    let b₁ : List ℕ =
-    sourced c.args.source c.args.circuit.now
-    in
-    let known : WellFormed ((sourced c.args.source c.args.circuit.now)) (head_of c.args.source) =
-    well _ _ c.requires.source_of
-    in
-    let within : c.loop-t.t + 1 ≤ 16 =
-    omega (arith, c.loop-t-test.true, (known).headed.sizes, (known).head_is)
-    in
-    omega (arith, within)
+loop-t-init c = refl
 
 pub bounds-counts-t : goal.bounds-counts-t
 bounds-counts-t c =
-    let b₁ : List ℕ =
-    sourced c.args.source c.args.circuit.now
-    in
-    let known : WellFormed ((sourced c.args.source c.args.circuit.now)) (head_of c.args.source) =
-    well _ _ c.requires.source_of
-    in
-    let within : c.loop-t.t + 1 ≤ 16 =
-    omega (arith, c.loop-t-test.true, (known).headed.sizes, (known).head_is)
-    in
-    omega (arith, within, c.requires.counted.places)
-
-pub overflow_cast-states : goal.overflow_cast-states
-overflow_cast-states c =
-    let b₁ : List ℕ =
-    sourced c.args.source c.args.circuit.now
-    in
-    let known : WellFormed ((sourced c.args.source c.args.circuit.now)) (head_of c.args.source) =
-    well _ _ c.requires.source_of
-    in
-    let K : ℕ =
-    2 ^ inputs ((sourced c.args.source c.args.circuit.now))
-    in
-    let two : 2 ≤ (2 ^ inputs ((sourced c.args.source c.args.circuit.now))) =
-    two_words (inputs ((sourced c.args.source c.args.circuit.now))) (known).headed.sizes.inputs_from
-    in
-    let positive : 0 < (2 ^ inputs ((sourced c.args.source c.args.circuit.now))) =
-    omega (arith, two)
-    in
-    let entries-small : (t : ℕ) → t ≤ framesOf ((sourced c.args.source c.args.circuit.now)) → total t (state_count ((sourced c.args.source c.args.circuit.now))) * (2 ^ inputs ((sourced c.args.source c.args.circuit.now))) ≤ 131072 =
-    λ t h. let b = (sourced c.args.source c.args.circuit.now) in
-    omega (arith, entries_most ((2 ^ inputs ((sourced c.args.source c.args.circuit.now)))) (framesOf b) (response b) (two) t, power_fits (inputs b) t (bits_below b (known).headed t h))
-    in
-    let sum-small : (t : ℕ) → t ≤ framesOf ((sourced c.args.source c.args.circuit.now)) → total t (state_count ((sourced c.args.source c.args.circuit.now))) ≤ 131072 =
-    λ t h. omega (arith, entries-small t h, le-mul_of_pos_right (total t (state_count ((sourced c.args.source c.args.circuit.now)))) (positive))
-    in
-    let below : c.loop-t.t + 1 ≤ framesOf ((sourced c.args.source c.args.circuit.now)) =
-    omega (arith, c.loop-t-test.true, (known).head_is)
-    in
-    let sum_more : total (c.loop-t.t + 1) (state_count ((sourced c.args.source c.args.circuit.now))) ≡ total c.loop-t.t (state_count ((sourced c.args.source c.args.circuit.now))) + state_count ((sourced c.args.source c.args.circuit.now)) c.loop-t.t =
-    total-next (state_count ((sourced c.args.source c.args.circuit.now))) c.loop-t.t
-    in
-    let count_is : get_or c.args.counts.now c.loop-t.t 0 ≡ state_count ((sourced c.args.source c.args.circuit.now)) c.loop-t.t =
-    counts_are ((sourced c.args.source c.args.circuit.now)) c.args.counts.now (known).headed.sizes.frames_from c.requires.counted c.loop-t.t (omega (arith, c.loop-t-test.true, (known).head_is))
-    in
-    omega (arith, count_is, sum-small (c.loop-t.t + 1) (below), sum_more)
+    let W = well _ _ c.requires.source_of in
+    omega (arith, W.headed.sizes, W.head_is, c.requires.counted.places)
 
 pub overflow_add-states : goal.overflow_add-states
 overflow_add-states c =
-    let b₁ : List ℕ =
-    sourced c.args.source c.args.circuit.now
-    in
-    let known : WellFormed ((sourced c.args.source c.args.circuit.now)) (head_of c.args.source) =
-    well _ _ c.requires.source_of
-    in
-    let K : ℕ =
-    2 ^ inputs ((sourced c.args.source c.args.circuit.now))
-    in
-    let two : 2 ≤ (2 ^ inputs ((sourced c.args.source c.args.circuit.now))) =
-    two_words (inputs ((sourced c.args.source c.args.circuit.now))) (known).headed.sizes.inputs_from
-    in
-    let positive : 0 < (2 ^ inputs ((sourced c.args.source c.args.circuit.now))) =
-    omega (arith, two)
-    in
-    let entries-small : (t : ℕ) → t ≤ framesOf ((sourced c.args.source c.args.circuit.now)) → total t (state_count ((sourced c.args.source c.args.circuit.now))) * (2 ^ inputs ((sourced c.args.source c.args.circuit.now))) ≤ 131072 =
-    λ t h. let b = (sourced c.args.source c.args.circuit.now) in
-    omega (arith, entries_most ((2 ^ inputs ((sourced c.args.source c.args.circuit.now)))) (framesOf b) (response b) (two) t, power_fits (inputs b) t (bits_below b (known).headed t h))
-    in
-    let sum-small : (t : ℕ) → t ≤ framesOf ((sourced c.args.source c.args.circuit.now)) → total t (state_count ((sourced c.args.source c.args.circuit.now))) ≤ 131072 =
-    λ t h. omega (arith, entries-small t h, le-mul_of_pos_right (total t (state_count ((sourced c.args.source c.args.circuit.now)))) (positive))
-    in
-    let below : c.loop-t.t + 1 ≤ framesOf ((sourced c.args.source c.args.circuit.now)) =
-    omega (arith, c.loop-t-test.true, (known).head_is)
-    in
-    let sum_more : total (c.loop-t.t + 1) (state_count ((sourced c.args.source c.args.circuit.now))) ≡ total c.loop-t.t (state_count ((sourced c.args.source c.args.circuit.now))) + state_count ((sourced c.args.source c.args.circuit.now)) c.loop-t.t =
-    total-next (state_count ((sourced c.args.source c.args.circuit.now))) c.loop-t.t
-    in
-    let count_is : get_or c.args.counts.now c.loop-t.t 0 ≡ state_count ((sourced c.args.source c.args.circuit.now)) c.loop-t.t =
-    counts_are ((sourced c.args.source c.args.circuit.now)) c.args.counts.now (known).headed.sizes.frames_from c.requires.counted c.loop-t.t (omega (arith, c.loop-t-test.true, (known).head_is))
-    in
-    omega (arith, count_is, c.loop-t.invariant.1, sum-small (c.loop-t.t + 1) (below), sum_more)
-
-pub overflow_step-t : goal.overflow_step-t
-overflow_step-t c =
-    let b₁ : List ℕ =
-    sourced c.args.source c.args.circuit.now
-    in
-    let known : WellFormed ((sourced c.args.source c.args.circuit.now)) (head_of c.args.source) =
-    well _ _ c.requires.source_of
-    in
-    let within : c.loop-t.t + 1 ≤ 16 =
-    omega (arith, c.loop-t-test.true, (known).headed.sizes, (known).head_is)
-    in
-    omega (arith, within)
+    let W = well _ _ c.requires.source_of in
+    let b : List ℕ = sourced c.args.source c.args.circuit.now in
+    let l : c.loop-t.t < framesOf b = omega (arith, W.head_is) in
+    let l' : c.loop-t.t + 1 ≤ framesOf b = omega (arith, l) in
+    omega (arith, sum_more b _ W _ c.requires.counted c.loop-t.t c.loop-t.states l c.loop-t.invariant, sum-small b _ W (c.loop-t.t + 1) l')
 
 pub loop-t-preserved : goal.loop-t-preserved
-unfolding total
 loop-t-preserved c =
-    let b₁ : List ℕ =
-    sourced c.args.source c.args.circuit.now
-    in
-    let known : WellFormed ((sourced c.args.source c.args.circuit.now)) (head_of c.args.source) =
-    well _ _ c.requires.source_of
-    in
-    let sum_more : total (c.loop-t.t + 1) (state_count ((sourced c.args.source c.args.circuit.now))) ≡ total c.loop-t.t (state_count ((sourced c.args.source c.args.circuit.now))) + state_count ((sourced c.args.source c.args.circuit.now)) c.loop-t.t =
-    total-next (state_count ((sourced c.args.source c.args.circuit.now))) c.loop-t.t
-    in
-    let count_is : get_or c.args.counts.now c.loop-t.t 0 ≡ state_count ((sourced c.args.source c.args.circuit.now)) c.loop-t.t =
-    counts_are ((sourced c.args.source c.args.circuit.now)) c.args.counts.now (known).headed.sizes.frames_from c.requires.counted c.loop-t.t (omega (arith, c.loop-t-test.true, (known).head_is))
-    in
-    (omega arith, omega (arith, count_is, c.loop-t.invariant.1, sum_more))
+    let W = well _ _ c.requires.source_of in
+    let b : List ℕ = sourced c.args.source c.args.circuit.now in
+    let l : c.loop-t.t < framesOf b = omega (arith, W.head_is) in
+    sum_more b _ W _ c.requires.counted c.loop-t.t c.loop-t.states l c.loop-t.invariant
 
 pub head_length-requires : goal.head_length-requires
 head_length-requires c =
-    let b₁ : List ℕ =
-    sourced c.args.source c.args.circuit.now
-    in
-    let known : WellFormed ((sourced c.args.source c.args.circuit.now)) (head_of c.args.source) =
-    well _ _ c.requires.source_of
-    in
-    omega (arith, (known).headed.sizes, (known).head_is)
+    let W = well _ _ c.requires.source_of in
+    omega (arith, W.headed.sizes, W.head_is)
 
 pub power-requires : goal.power-requires
 power-requires c =
-    let b₁ : List ℕ =
-    sourced c.args.source c.args.circuit.now
-    in
-    let known : WellFormed ((sourced c.args.source c.args.circuit.now)) (head_of c.args.source) =
-    well _ _ c.requires.source_of
-    in
-    omega (arith, (known).headed.sizes, (known).head_is)
+    let W = well _ _ c.requires.source_of in
+    omega (arith, W.headed.sizes, W.head_is)
 
+-- the fact of `all_small` at the loop's end, and that of `all_bytes`
 pub overflow_mul-result : goal.overflow_mul-result
 overflow_mul-result c =
-    let b₁ : List ℕ =
-    sourced c.args.source c.args.circuit.now
-    in
-    let known : WellFormed ((sourced c.args.source c.args.circuit.now)) (head_of c.args.source) =
-    well _ _ c.requires.source_of
-    in
-    let K : ℕ =
-    2 ^ inputs ((sourced c.args.source c.args.circuit.now))
-    in
-    let two : 2 ≤ (2 ^ inputs ((sourced c.args.source c.args.circuit.now))) =
-    two_words (inputs ((sourced c.args.source c.args.circuit.now))) (known).headed.sizes.inputs_from
-    in
-    let entries-small : (t : ℕ) → t ≤ framesOf ((sourced c.args.source c.args.circuit.now)) → total t (state_count ((sourced c.args.source c.args.circuit.now))) * (2 ^ inputs ((sourced c.args.source c.args.circuit.now))) ≤ 131072 =
-    λ t h. let b = (sourced c.args.source c.args.circuit.now) in
-    omega (arith, entries_most ((2 ^ inputs ((sourced c.args.source c.args.circuit.now)))) (framesOf b) (response b) (two) t, power_fits (inputs b) t (bits_below b (known).headed t h))
-    in
-    let product : c.loop-t.states * c.power.result ≡ total (framesOf (b₁ (start c))) (state_count (b₁ (start c))) * K (start c) =
-    let e : c.loop-t.t ≡ framesOf ((sourced c.args.source c.args.circuit.now)) = omega (arith, (known).head_is) in
-    ap₂ (λ (x y : ℕ). x * y) (c.loop-t.invariant.1 ∙ ap (λ (t : ℕ). total t (state_count ((sourced c.args.source c.args.circuit.now)))) e) (c.power.ensures ∙ ap (λ (n : ℕ). 2 ^ n) (known).head_is.inputs_is)
-    in
-    let product_small : total (framesOf ((sourced c.args.source c.args.circuit.now))) (state_count ((sourced c.args.source c.args.circuit.now))) * (2 ^ inputs ((sourced c.args.source c.args.circuit.now))) ≤ 131072 =
-    entries-small (framesOf ((sourced c.args.source c.args.circuit.now))) (omega arith)
-    in
-    omega (arith, product, product_small (start c))
+    let W = well _ _ c.requires.source_of in
+    let e : c.loop-t.t ≡ c.args.source.frames = omega arith in
+    let s = c.loop-t.invariant ∙ ap (λ (t : ℕ). total t (state_count (sourced c.args.source c.args.circuit.now))) e in
+    omega (arith, all_small _ _ W _ _ _ _ _ W.head_is.inputs_is W.head_is.frames_is s c.power.ensures c.head_length.ensures)
 
 pub overflow_mul-result-2 : goal.overflow_mul-result-2
 overflow_mul-result-2 c =
-    let b₁ : List ℕ =
-    sourced c.args.source c.args.circuit.now
-    in
-    let known : WellFormed ((sourced c.args.source c.args.circuit.now)) (head_of c.args.source) =
-    well _ _ c.requires.source_of
-    in
-    let K : ℕ =
-    2 ^ inputs ((sourced c.args.source c.args.circuit.now))
-    in
-    let two : 2 ≤ (2 ^ inputs ((sourced c.args.source c.args.circuit.now))) =
-    two_words (inputs ((sourced c.args.source c.args.circuit.now))) (known).headed.sizes.inputs_from
-    in
-    let entries-small : (t : ℕ) → t ≤ framesOf ((sourced c.args.source c.args.circuit.now)) → total t (state_count ((sourced c.args.source c.args.circuit.now))) * (2 ^ inputs ((sourced c.args.source c.args.circuit.now))) ≤ 131072 =
-    λ t h. let b = (sourced c.args.source c.args.circuit.now) in
-    omega (arith, entries_most ((2 ^ inputs ((sourced c.args.source c.args.circuit.now)))) (framesOf b) (response b) (two) t, power_fits (inputs b) t (bits_below b (known).headed t h))
-    in
-    let product : c.loop-t.states * c.power.result ≡ total (framesOf (b₁ (start c))) (state_count (b₁ (start c))) * K (start c) =
-    let e : c.loop-t.t ≡ framesOf ((sourced c.args.source c.args.circuit.now)) = omega (arith, (known).head_is) in
-    ap₂ (λ (x y : ℕ). x * y) (c.loop-t.invariant.1 ∙ ap (λ (t : ℕ). total t (state_count ((sourced c.args.source c.args.circuit.now)))) e) (c.power.ensures ∙ ap (λ (n : ℕ). 2 ^ n) (known).head_is.inputs_is)
-    in
-    let product_small : total (framesOf ((sourced c.args.source c.args.circuit.now))) (state_count ((sourced c.args.source c.args.circuit.now))) * (2 ^ inputs ((sourced c.args.source c.args.circuit.now))) ≤ 131072 =
-    entries-small (framesOf ((sourced c.args.source c.args.circuit.now))) (omega arith)
-    in
-    omega (arith, product, product_small (start c))
+    let W = well _ _ c.requires.source_of in
+    let e : c.loop-t.t ≡ c.args.source.frames = omega arith in
+    let s = c.loop-t.invariant ∙ ap (λ (t : ℕ). total t (state_count (sourced c.args.source c.args.circuit.now))) e in
+    omega (arith, all_small _ _ W _ _ _ _ _ W.head_is.inputs_is W.head_is.frames_is s c.power.ensures c.head_length.ensures)
 
 pub overflow_add-result : goal.overflow_add-result
 overflow_add-result c =
-    let b₁ : List ℕ =
-    sourced c.args.source c.args.circuit.now
-    in
-    let known : WellFormed ((sourced c.args.source c.args.circuit.now)) (head_of c.args.source) =
-    well _ _ c.requires.source_of
-    in
-    let K : ℕ =
-    2 ^ inputs ((sourced c.args.source c.args.circuit.now))
-    in
-    let two : 2 ≤ (2 ^ inputs ((sourced c.args.source c.args.circuit.now))) =
-    two_words (inputs ((sourced c.args.source c.args.circuit.now))) (known).headed.sizes.inputs_from
-    in
-    let entries-small : (t : ℕ) → t ≤ framesOf ((sourced c.args.source c.args.circuit.now)) → total t (state_count ((sourced c.args.source c.args.circuit.now))) * (2 ^ inputs ((sourced c.args.source c.args.circuit.now))) ≤ 131072 =
-    λ t h. let b = (sourced c.args.source c.args.circuit.now) in
-    omega (arith, entries_most ((2 ^ inputs ((sourced c.args.source c.args.circuit.now)))) (framesOf b) (response b) (two) t, power_fits (inputs b) t (bits_below b (known).headed t h))
-    in
-    let head_is : c.head_length.result ≡ 8 + 4 * framesOf (b₁ (start c)) =
-    c.head_length.ensures ∙ ap head_length (known (start c)).head_is.frames_is ∙ head_length_lem _
-    in
-    let product : c.loop-t.states * c.power.result ≡ total (framesOf (b₁ (start c))) (state_count (b₁ (start c))) * K (start c) =
-    let e : c.loop-t.t ≡ framesOf ((sourced c.args.source c.args.circuit.now)) = omega (arith, (known).head_is) in
-    ap₂ (λ (x y : ℕ). x * y) (c.loop-t.invariant.1 ∙ ap (λ (t : ℕ). total t (state_count ((sourced c.args.source c.args.circuit.now)))) e) (c.power.ensures ∙ ap (λ (n : ℕ). 2 ^ n) (known).head_is.inputs_is)
-    in
-    let product_small : total (framesOf ((sourced c.args.source c.args.circuit.now))) (state_count ((sourced c.args.source c.args.circuit.now))) * (2 ^ inputs ((sourced c.args.source c.args.circuit.now))) ≤ 131072 =
-    entries-small (framesOf ((sourced c.args.source c.args.circuit.now))) (omega arith)
-    in
-    omega (arith, product, product_small (start c), head_is, (known (start c)).headed.sizes)
+    let W = well _ _ c.requires.source_of in
+    let e : c.loop-t.t ≡ c.args.source.frames = omega arith in
+    let s = c.loop-t.invariant ∙ ap (λ (t : ℕ). total t (state_count (sourced c.args.source c.args.circuit.now))) e in
+    omega (arith, all_small _ _ W _ _ _ _ _ W.head_is.inputs_is W.head_is.frames_is s c.power.ensures c.head_length.ensures)
 
 pub returns : goal.returns
 returns c =
-    let b₁ : List ℕ =
-    sourced c.args.source c.args.circuit.now
-    in
-    let known : WellFormed ((sourced c.args.source c.args.circuit.now)) (head_of c.args.source) =
-    well _ _ c.requires.source_of
-    in
-    let K : ℕ =
-    2 ^ inputs ((sourced c.args.source c.args.circuit.now))
-    in
-    let head_is : c.head_length.result ≡ 8 + 4 * framesOf (b₁ (start c)) =
-    c.head_length.ensures ∙ ap head_length (known (start c)).head_is.frames_is ∙ head_length_lem _
-    in
-    let product : c.loop-t.states * c.power.result ≡ total (framesOf (b₁ (start c))) (state_count (b₁ (start c))) * K (start c) =
-    let e : c.loop-t.t ≡ framesOf ((sourced c.args.source c.args.circuit.now)) = omega (arith, (known).head_is) in
-    ap₂ (λ (x y : ℕ). x * y) (c.loop-t.invariant.1 ∙ ap (λ (t : ℕ). total t (state_count ((sourced c.args.source c.args.circuit.now)))) e) (c.power.ensures ∙ ap (λ (n : ℕ). 2 ^ n) (known).head_is.inputs_is)
-    in
-    omega (arith, product, folded-length (b₁ (start c)), head_is)
+    let W = well _ _ c.requires.source_of in
+    let e : c.loop-t.t ≡ c.args.source.frames = omega arith in
+    let s = c.loop-t.invariant ∙ ap (λ (t : ℕ). total t (state_count (sourced c.args.source c.args.circuit.now))) e in
+    all_bytes _ _ W _ _ _ _ _ W.head_is.inputs_is W.head_is.frames_is s c.power.ensures c.head_length.ensures

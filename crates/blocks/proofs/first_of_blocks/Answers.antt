@@ -16,15 +16,15 @@ nonzero_rem-at c =
     omega (arith, pow_pos c.args.bits)
 
 pub returns-then-at-power-ne0 : goal.returns-then-at-power-ne0
-returns-then-at-power-ne0 c =
+returns-then-at-power-ne0 c v now before =
     holds_on c.args.bits c.power.ensures c.args.at v c.args.kept c.requires.1 c.if-at-power-ne0.true before
 
 pub returns-then-bits-lt-BITS : goal.returns-then-bits-lt-BITS
-returns-then-bits-lt-BITS c =
+returns-then-bits-lt-BITS c v now before =
     holds-first c.args.bits c.power.ensures c.args.at v c.args.lanes c.spread.result c.args.bits c.if-at-power-ne0.false (λ j h. refl) c.spread.ensures now
 
 pub returns-else-bits-lt-BITS : goal.returns-else-bits-lt-BITS
-returns-else-bits-lt-BITS c =
+returns-else-bits-lt-BITS c v now before =
     let first : (j : ℕ) → j < lane_count → block_start lane_bits j ≡ block_start c.args.bits j =
     λ j h. start_zero lane_bits j (omega arith) h ∙ sym (start_zero c.args.bits j (omega arith) h) in
     holds-first c.args.bits c.power.ensures c.args.at v c.args.lanes c.spread-else-bits-lt-BITS.result lane_bits c.if-at-power-ne0.false first c.spread-else-bits-lt-BITS.ensures now

@@ -47,18 +47,18 @@ is_admissible-requires c =
 pub returns-then-not-is_admissible : goal.returns-then-not-is_admissible
 unfolding literal_at
 returns-then-not-is_admissible c =
-    let judged : not (admissible c.args.circuit.now c.loop-g.g (literal_at c.args.circuit.now c.args.start c.loop-g.g)) ≡ not c.is_admissible.result =
-    ap not (sym (c.is_admissible.ensures ∙ ap (admissible c.args.circuit.now c.loop-g.g) c.read.ensures.0))
+    let judged : admissible c.args.circuit.now c.loop-g.g (literal_at c.args.circuit.now c.args.start c.loop-g.g) ≡ c.is_admissible.result =
+    sym (c.is_admissible.ensures ∙ ap (admissible c.args.circuit.now c.loop-g.g) c.read.ensures.0)
     in
-    sym (c.loop-g.invariant.2 ∙ first_here _ _ _ _ _ _ (omega arith) (judged ∙ c.if-not-is_admissible.true))
+    sym (c.loop-g.invariant.2 ∙ first_here _ _ _ _ _ _ (omega arith) (ap not (judged ∙ c.if-not-is_admissible.true)))
 
 pub loop-g-preserved : goal.loop-g-preserved
 unfolding literal_at
 loop-g-preserved c =
-    let judged : not (admissible c.args.circuit.now c.loop-g.g (literal_at c.args.circuit.now c.args.start c.loop-g.g)) ≡ not c.is_admissible.result =
-    ap not (sym (c.is_admissible.ensures ∙ ap (admissible c.args.circuit.now c.loop-g.g) c.read.ensures.0))
+    let judged : admissible c.args.circuit.now c.loop-g.g (literal_at c.args.circuit.now c.args.start c.loop-g.g) ≡ c.is_admissible.result =
+    sym (c.is_admissible.ensures ∙ ap (admissible c.args.circuit.now c.loop-g.g) c.read.ensures.0)
     in
-    (omega (arith, c.loop-g.invariant.0), omega arith, c.loop-g.invariant.2 ∙ first_later _ _ _ _ _ _ (omega arith) (judged ∙ c.if-not-is_admissible.false))
+    (omega (arith, c.loop-g.invariant.0), omega arith, c.loop-g.invariant.2 ∙ first_later _ _ _ _ _ _ (omega arith) (ap not (judged ∙ c.if-not-is_admissible.false)))
 
 pub returns : goal.returns
 returns c =

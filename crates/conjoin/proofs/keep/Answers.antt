@@ -2,7 +2,6 @@ use native.Mathlib.Omega.{arith}
 use Prim.Native.Nat.{◌+◌}
 use lib.ListN.{set, length-set}
 use Rattle.conjoin.proofs.Laws.{kept_in}
-use borrow.Author.Rules.{rules}
 use Rattle.conjoin.proofs.keep.Goals as goal
 
 -- src/lib.rt:70:9

@@ -1,6 +1,5 @@
 use mathlib.Core.Path.{refl, ◌∙◌}
 use Rattle.conjoin.specs.Cache
-use borrow.Author.Rules.{rules}
 use Rattle.conjoin.proofs.look.Goals as goal
 
 -- src/lib.rt:56:17

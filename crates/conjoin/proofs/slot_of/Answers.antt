@@ -1,5 +1,4 @@
 use Rattle.conjoin.proofs.Laws.{slot_at}
-use borrow.Author.Rules.{rules}
 use Rattle.conjoin.proofs.slot_of.Goals as goal
 
 -- src/lib.rt:39:1

@@ -1,4 +1,3 @@
-use borrow.Author.Rules.{rules}
 use Rattle.descend.proofs.Laws.{cursor_turns, cursor_goes}
 use Rattle.descend.proofs.next_cursor.Goals as goal
 

@@ -1,13 +1,6 @@
-
 use Rattle.descend.proofs.Laws.{stores_equal}
-use borrow.Author.Rules.{rules}
 use Rattle.descend.proofs.split.Goals as goal
 
-)
-
--- src/lib.rt:117:1
 pub returns : goal.returns
 returns c =
-    (
-  c.next_cursor.ensures,
-  stores_equal c.args.work.now c.args.cursor.low c.args.cursor.high c.parts-branches.ensures.0 c.parts-branches.ensures.1,
+    (c.next_cursor.ensures, stores_equal c.args.work.now c.args.cursor.low c.args.cursor.high c.parts-branches.ensures.0 c.parts-branches.ensures.1)

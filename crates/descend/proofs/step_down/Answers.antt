@@ -1,5 +1,4 @@
 use Rattle.nodes.proofs.Laws.{chosen_yes, chosen_no}
-use borrow.Author.Rules.{rules}
 use Rattle.descend.proofs.step_down.Goals as goal
 
 -- src/lib.rt:43:1

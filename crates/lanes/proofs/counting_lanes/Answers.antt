@@ -21,15 +21,15 @@ unfolding Counts every bit
 table-counts = refl
 
 pub returns-then-place-lt-BITS : goal.returns-then-place-lt-BITS
-returns-then-place-lt-BITS c =
+returns-then-place-lt-BITS c j h =
     counting_bit table table-counts c.args.place j c.if-place-lt-BITS.true h ∙ sym (near_low c.args.at j c.args.place c.requires.0 h c.if-place-lt-BITS.true)
 
 pub returns-then-is_set : goal.returns-then-is_set
-returns-then-is_set c =
+returns-then-is_set c j h =
     bit-ones lane_count j h
     ∙ sym (near_high c.args.at j c.args.place c.requires.0 h c.if-place-lt-BITS.false ∙ sym c.is_set.ensures ∙ c.if-is_set.true)
 
 pub returns-else-is_set : goal.returns-else-is_set
-returns-else-is_set c =
+returns-else-is_set c j h =
     bit-none j
     ∙ sym (near_high c.args.at j c.args.place c.requires.0 h c.if-place-lt-BITS.false ∙ sym c.is_set.ensures ∙ c.if-is_set.false)

@@ -34,14 +34,14 @@ note_use-requires c =
 
 pub slice_bounds-note_use-end-in-loop-g : goal.slice_bounds-note_use-end-in-loop-g
 slice_bounds-note_use-end-in-loop-g c =
-    sym (c.note_use.auto.0 ∙ c.loop-g.invariant.1)
+    sym (c.note_use.auto.firsts ∙ c.loop-g.invariant.1)
 
 pub note_use-requires-in-loop-g : goal.note_use-requires-in-loop-g
 note_use-requires-in-loop-g c =
     let base-in : (n : ℕ) → n ≡ 1 + most_bits → c.args.head.base ≤ n =
     λ n e. omega (arith, c.requires)
     in
-    base-in _ (c.note_use.auto.0 ∙ c.loop-g.invariant.1)
+    base-in _ (c.note_use.auto.firsts ∙ c.loop-g.invariant.1)
 
 pub loop-g-smaller : goal.loop-g-smaller
 loop-g-smaller c =
@@ -54,7 +54,7 @@ loop-g-preserved c =
     in
     let g : c.loop-g.g ≡ suc (c.loop-g.g - 1) = omega (arith, c) in (
       omega (arith, c),
-      c.note_use-in-loop-g.auto.0 ∙ c.note_use.auto.0 ∙ c.loop-g.invariant.1,
+      c.note_use-in-loop-g.auto.firsts ∙ c.note_use.auto.firsts ∙ c.loop-g.invariant.1,
       uses_more c.args.circuit.now c.loop-g.firsts _ c.args.head.base c.read_gate-gate.result.left c.read_gate-gate.result.right (c.loop-g.g - 1) c.requires.head_is.base_is
           (base-in _ c.loop-g.invariant.1) c.read_gate-gate.ensures.left_is c.read_gate-gate.ensures.right_is
           (c.note_use-in-loop-g.ensures ∙ ap (λ f. noted f c.args.head.base c.read_gate-gate.result.right (c.loop-g.g - 1)) c.note_use.ensures) (subst (λ n. FirstUses c.args.circuit.now n c.loop-g.firsts) g c.loop-g.invariant.2),

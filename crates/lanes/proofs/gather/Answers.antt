@@ -27,5 +27,5 @@ loop-place-preserved c = (
 
 pub returns : goal.returns
 unfolding NumberLanes
-returns c =
+returns c j p lj lp =
     c.loop-place.invariant.2 j p lj (omega arith)

@@ -10,7 +10,7 @@ use Rattle.lanes.proofs.Laws.{input_bit_lem, input_none}
 use Rattle.lanes.proofs.input_lanes.Goals as goal
 
 pub returns-then-t-frame : goal.returns-then-t-frame
-returns-then-t-frame c =
+returns-then-t-frame c T h ht N j lj =
     bit-none j ∙ sym (input_none c.args.inputs T c.args.t (h j) c.args.frame c.args.k c.requires.0 c.requires.1 ht (omega (arith, c.if-t-frame)))
 
 pub overflow_mul-result : goal.overflow_mul-result
@@ -43,7 +43,7 @@ bounds-numbers-t c =
 
 pub returns : goal.returns
 unfolding NumberLanes
-returns c =
+returns c T h ht N j lj =
     let place : (c.args.t - c.args.frame) * c.args.inputs + c.args.k < c.args.t * c.args.inputs =
     digits_lt {q = c.args.t - c.args.frame} {m = c.args.t} (omega (arith, c.requires, c.if-t-frame.false)) c.requires.1
     in

@@ -6,6 +6,7 @@ use Prim.Native.Nat.{ℕ, ◌+◌, ◌*◌, ◌-◌, ◌/◌, ◌^◌, ◌≤◌
 use native.Mathlib.Omega.{arith}
 use lib.ListN.{length, get_or, length-set}
 use lib.Seq.{get_or-set_other}
+use borrow.Author.Rules.{rules}
 use Rattle.circuit.specs.Limits.{most_signals}
 use Rattle.circuit.specs.Circuit.{gates, all_inputs}
 use Rattle.circuit.proofs.Laws.{signals_fit}
@@ -28,217 +29,26 @@ store_inputs-start-requires c =
 pub loop-g-init : goal.loop-g-init
 loop-g-init c = (
   c.store_inputs-start.ensures.start.0,
-  omega (arith, c.store_inputs-start.auto.1.1.1.1.0, c.requires),
+  omega (arith, c.store_inputs-start.auto.lanes, c.requires),
   refl,
   c.store_inputs-start.ensures.start.1,
-  λ hs N. inputs-stored c.args.circuit.now c.args.t hs c.store_inputs-start.new.1.1.1.1.0 c.args.head.inputs c.args.head.frames c.args.head.base c.requires.well_formed.head_is.inputs_is c.requires.well_formed.head_is.frames_is c.requires.well_formed.head_is.base_is (c.store_inputs-start.ensures.inputs hs N),
+  λ hs N. inputs-stored c.args.circuit.now c.args.t hs c.store_inputs-start.new.lanes c.args.head.inputs c.args.head.frames c.args.head.base c.requires.well_formed.head_is.inputs_is c.requires.well_formed.head_is.frames_is c.requires.well_formed.head_is.base_is (c.store_inputs-start.ensures.inputs hs N),
   c.store_inputs-start.ensures.settled c.args.circuit.now c.requires.well_formed c.requires.first_uses.0 c.requires.first_uses.1,
 )
 
-pub read_gate-gate-requires : goal.read_gate-gate-requires
-read_gate-gate-requires c =
-    let b₀ : List ℕ =
-    c.args.circuit.now
-    in
-    let g₀' : ℕ =
-    c.loop-g.g
-    in
-    let gate : (c.loop-g.g) < gates ((c.args.circuit.now)) =
-    omega (arith, c, c.requires)
-    in
-    record {
-      well_formed = c.requires.well_formed;
-      g_bound = gate;
-    }
-
-pub offset_bounds-lanes-left : goal.offset_bounds-lanes-left
-offset_bounds-lanes-left c =
-    let b₀ : List ℕ =
-    c.args.circuit.now
-    in
-    let g₀' : ℕ =
-    c.loop-g.g
-    in
-    let n₀ : ℕ =
-    c.args.head.base + (c.loop-g.g)
-    in
-    let gate : (c.loop-g.g) < gates ((c.args.circuit.now)) =
-    omega (arith, c, c.requires)
-    in
-    let room : (c.args.head.base + (c.loop-g.g)) < most_signals =
-    omega (arith, gate, c.requires)
-    in
-    let left_in : c.read_gate-gate.result.left / 2 < (c.args.head.base + (c.loop-g.g)) =
-    omega (arith, c.read_gate-gate.ensures.left-before, c.requires)
-    in
-    omega (arith, left_in, room)
-
-pub bounds-lanes-left : goal.bounds-lanes-left
-bounds-lanes-left c =
-    let b₀ : List ℕ =
-    c.args.circuit.now
-    in
-    let g₀' : ℕ =
-    c.loop-g.g
-    in
-    let n₀ : ℕ =
-    c.args.head.base + (c.loop-g.g)
-    in
-    let gate : (c.loop-g.g) < gates ((c.args.circuit.now)) =
-    omega (arith, c, c.requires)
-    in
-    let room : (c.args.head.base + (c.loop-g.g)) < most_signals =
-    omega (arith, gate, c.requires)
-    in
-    let left_in : c.read_gate-gate.result.left / 2 < (c.args.head.base + (c.loop-g.g)) =
-    omega (arith, c.read_gate-gate.ensures.left-before, c.requires)
-    in
-    omega (arith, left_in, room, c.loop-g.invariant.1)
-
-pub offset_bounds-lanes-right : goal.offset_bounds-lanes-right
-offset_bounds-lanes-right c =
-    let b₀ : List ℕ =
-    c.args.circuit.now
-    in
-    let g₀' : ℕ =
-    c.loop-g.g
-    in
-    let n₀ : ℕ =
-    c.args.head.base + (c.loop-g.g)
-    in
-    let gate : (c.loop-g.g) < gates ((c.args.circuit.now)) =
-    omega (arith, c, c.requires)
-    in
-    let room : (c.args.head.base + (c.loop-g.g)) < most_signals =
-    omega (arith, gate, c.requires)
-    in
-    let right_in : c.read_gate-gate.result.right / 2 < (c.args.head.base + (c.loop-g.g)) =
-    omega (arith, c.read_gate-gate.ensures.right_before, c.requires)
-    in
-    omega (arith, right_in, room)
-
-pub bounds-lanes-right : goal.bounds-lanes-right
-bounds-lanes-right c =
-    let b₀ : List ℕ =
-    c.args.circuit.now
-    in
-    let g₀' : ℕ =
-    c.loop-g.g
-    in
-    let n₀ : ℕ =
-    c.args.head.base + (c.loop-g.g)
-    in
-    let gate : (c.loop-g.g) < gates ((c.args.circuit.now)) =
-    omega (arith, c, c.requires)
-    in
-    let room : (c.args.head.base + (c.loop-g.g)) < most_signals =
-    omega (arith, gate, c.requires)
-    in
-    let right_in : c.read_gate-gate.result.right / 2 < (c.args.head.base + (c.loop-g.g)) =
-    omega (arith, c.read_gate-gate.ensures.right_before, c.requires)
-    in
-    omega (arith, right_in, room, c.loop-g.invariant.1)
-
-pub overflow_add-lanes : goal.overflow_add-lanes
-overflow_add-lanes c =
-    let b₀ : List ℕ =
-    c.args.circuit.now
-    in
-    let g₀' : ℕ =
-    c.loop-g.g
-    in
-    let n₀ : ℕ =
-    c.args.head.base + (c.loop-g.g)
-    in
-    let gate : (c.loop-g.g) < gates ((c.args.circuit.now)) =
-    omega (arith, c, c.requires)
-    in
-    let room : (c.args.head.base + (c.loop-g.g)) < most_signals =
-    omega (arith, gate, c.requires)
-    in
-    omega (arith, room)
-
-pub offset_bounds-lanes-base : goal.offset_bounds-lanes-base
-offset_bounds-lanes-base c =
-    let b₀ : List ℕ =
-    c.args.circuit.now
-    in
-    let g₀' : ℕ =
-    c.loop-g.g
-    in
-    let n₀ : ℕ =
-    c.args.head.base + (c.loop-g.g)
-    in
-    let gate : (c.loop-g.g) < gates ((c.args.circuit.now)) =
-    omega (arith, c, c.requires)
-    in
-    let room : (c.args.head.base + (c.loop-g.g)) < most_signals =
-    omega (arith, gate, c.requires)
-    in
-    omega (arith, room)
-
-pub bounds-lanes-base : goal.bounds-lanes-base
-bounds-lanes-base c =
-    let b₀ : List ℕ =
-    c.args.circuit.now
-    in
-    let g₀' : ℕ =
-    c.loop-g.g
-    in
-    let n₀ : ℕ =
-    c.args.head.base + (c.loop-g.g)
-    in
-    let gate : (c.loop-g.g) < gates ((c.args.circuit.now)) =
-    omega (arith, c, c.requires)
-    in
-    let room : (c.args.head.base + (c.loop-g.g)) < most_signals =
-    omega (arith, gate, c.requires)
-    in
-    omega (arith, room, c.loop-g.invariant.1)
-
-pub overflow_step-g : goal.overflow_step-g
-overflow_step-g c =
-    let b₀ : List ℕ =
-    c.args.circuit.now
-    in
-    let g₀' : ℕ =
-    c.loop-g.g
-    in
-    let n₀ : ℕ =
-    c.args.head.base + (c.loop-g.g)
-    in
-    let gate : (c.loop-g.g) < gates ((c.args.circuit.now)) =
-    omega (arith, c, c.requires)
-    in
-    let room : (c.args.head.base + (c.loop-g.g)) < most_signals =
-    omega (arith, gate, c.requires)
-    in
-    omega (arith, room)
-
-pub loop-g-smaller : goal.loop-g-smaller
-loop-g-smaller c =
-    omega (arith, c)
-
 pub loop-g-preserved : goal.loop-g-preserved
 loop-g-preserved c =
-    let b₀ : List ℕ =
-    c.args.circuit.now
-    in
-    let g₀' : ℕ =
-    c.loop-g.g
-    in
-    let gate : (c.loop-g.g) < gates ((c.args.circuit.now)) =
-    omega (arith, c, c.requires)
-    in
-    let left-fits : get_or c.loop-g.lanes (c.read_gate-gate.result.left / 2) 0 < 2 ^ lane_count = omega (arith, c.type_inv.lanes (c.read_gate-gate.result.left / 2)) in
-    let right-fits : get_or c.loop-g.lanes (c.read_gate-gate.result.right / 2) 0 < 2 ^ lane_count = omega (arith, c.type_inv.lanes (c.read_gate-gate.result.right / 2)) in (
+    let gate : c.loop-g.g < gates c.args.circuit.now = omega (arith, c, c.requires) in
+    let room : c.args.head.base + c.loop-g.g < length c.loop-g.lanes = omega (arith, gate, c.requires, c.loop-g.invariant.1) in
+    let left-fits : get_or c.loop-g.lanes (c.read_gate-gate.result.left / 2) 0 < 2 ^ lane_count = search rules in
+    let right-fits : get_or c.loop-g.lanes (c.read_gate-gate.result.right / 2) 0 < 2 ^ lane_count = search rules in (
       omega (arith, gate, c.requires),
       simp length-set c.loop-g.invariant.1,
-      length-set c.loop-g.lanes (c.args.head.base + (c.loop-g.g)) _ ∙ c.loop-g.invariant.2,
-      get_or-set_other c.loop-g.lanes (c.args.head.base + (c.loop-g.g)) 0 _ 0 (λ e. omega (arith, c.requires)) ∙ c.loop-g.invariant.3,
-      λ hs N. inputs_kept (c.args.circuit.now) c.args.t hs c.loop-g.lanes c.args.head.base (c.args.head.base + (c.loop-g.g)) _ (omega arith) (c.loop-g.invariant.4 hs N),
-      settled_more (c.args.circuit.now) c.requires.well_formed.legal c.loop-g.lanes (c.loop-g.g) (c.args.head.base + (c.loop-g.g)) c.read_gate-gate.result.left c.read_gate-gate.result.right c.literal_lanes.result c.literal_lanes-in-loop-g.result
-          (gate) (omega (arith, c.requires.well_formed.head_is.base_is)) (slice-write-lanes c) c.loop-g.invariant.5 c.read_gate-gate.ensures.left_is c.read_gate-gate.ensures.right_is left-fits right-fits
+      length-set c.loop-g.lanes (c.args.head.base + c.loop-g.g) _ ∙ c.loop-g.invariant.2,
+      get_or-set_other c.loop-g.lanes (c.args.head.base + c.loop-g.g) 0 _ 0 (λ e. omega (arith, c.requires)) ∙ c.loop-g.invariant.3,
+      λ hs N. inputs_kept c.args.circuit.now c.args.t hs c.loop-g.lanes c.args.head.base (c.args.head.base + c.loop-g.g) _ (omega arith) (c.loop-g.invariant.4 hs N),
+      settled_more c.args.circuit.now c.requires.well_formed.legal c.loop-g.lanes c.loop-g.g (c.args.head.base + c.loop-g.g) c.read_gate-gate.result.left c.read_gate-gate.result.right c.literal_lanes.result c.literal_lanes-in-loop-g.result
+          (gate) (omega (arith, c.requires.well_formed.head_is.base_is)) room c.loop-g.invariant.5 c.read_gate-gate.ensures.left_is c.read_gate-gate.ensures.right_is left-fits right-fits
           c.literal_lanes.ensures c.literal_lanes-in-loop-g.ensures,
     )
 

@@ -22,39 +22,28 @@ use Rattle.latest.specs.Latest.{reaches_later}
 use Rattle.latest.proofs.Own.{reaches_is}
 use Rattle.latest.proofs.first_reaching.Goals as goal
 
-pub store_signals-requires : goal.store_signals-requires
-store_signals-requires c =
-    record {
-      source_of = c.requires;
-      most_signals_in_bounds = omega (arith, slice-aggregate-store-signals c);
-    }
-
 pub loop-q-init : goal.loop-q-init
 loop-q-init c =
     (omega arith, λ i h. absurd (omega arith), not_after_first _ 0)
 
 pub output_frame-frame-requires : goal.output_frame-frame-requires
 output_frame-frame-requires c =
-    let b₁ : List ℕ =
-    sourced c.args.source c.args.circuit.now
-    in
-    let known : WellFormed ((sourced c.args.source c.args.circuit.now)) (head_of c.args.source) =
+    let known : WellFormed (sourced c.args.source c.args.circuit.now) (head_of c.args.source) =
     well _ _ c.requires
     in
-    omega (arith, known, c.loop-q.invariant)
-    -- TODO fields ['le_outputs', 'not_after']
+    record {
+      le_outputs = omega (arith, known, c.loop-q.invariant);
+      not_after = c.loop-q.invariant.2;
+    }
 
 pub overflow_cast-frame : goal.overflow_cast-frame
 unfolding frame_of
 overflow_cast-frame c =
-    let b₁ : List ℕ =
-    sourced c.args.source c.args.circuit.now
-    in
-    let known : WellFormed ((sourced c.args.source c.args.circuit.now)) (head_of c.args.source) =
+    let known : WellFormed (sourced c.args.source c.args.circuit.now) (head_of c.args.source) =
     well _ _ c.requires
     in
-    let p = output_parts (sourced c.args.source c.args.circuit.now) (known).headed c.loop-q.q (omega (arith, known)) in
-    omega (arith, c.output_frame-frame.ensures.frame ∙ ap (λ m. suc (c.loop-q.q / m)) (known).head_is.outputs_is, p.0, known)
+    let p = output_parts (sourced c.args.source c.args.circuit.now) known.headed c.loop-q.q (omega (arith, known)) in
+    omega (arith, c.output_frame-frame.ensures.frame ∙ ap (λ m. suc (c.loop-q.q / m)) known.head_is.outputs_is, p.0, known)
 
 pub shown_signal-requires : goal.shown_signal-requires
 shown_signal-requires c =
@@ -66,36 +55,20 @@ bounds-latest-shown_signal c =
 
 pub returns-then-frame-latest : goal.returns-then-frame-latest
 returns-then-frame-latest c =
-    let b₁ : List ℕ =
-    sourced c.args.source c.args.circuit.now
-    in
-    let known : WellFormed ((sourced c.args.source c.args.circuit.now)) (head_of c.args.source) =
+    let known : WellFormed (sourced c.args.source c.args.circuit.now) (head_of c.args.source) =
     well _ _ c.requires
     in
-    let latest : List ℕ =
-    c.store_signals.new.1.1.0
-    in
-    let test : reaches_later (b₁ (start c)) c.loop-q.q ≡ ltb c.output_frame-frame.result (get_or ((c.store_signals.new.1.1.0)) c.shown_signal.result 0) =
-    reaches_is c.args.circuit.now c.args.source c.requires ((c.store_signals.new.1.1.0)) c.output_frame-frame.result c.shown_signal.result c.loop-q.q
-    c.store_signals.ensures c.loop-q-test.taken c.output_frame-frame.ensures.frame c.shown_signal.ensures.0
+    let test : reaches_later (sourced c.args.source c.args.circuit.now) c.loop-q.q ≡ ltb c.output_frame-frame.result (get_or c.store_signals.new.latest c.shown_signal.result 0) =
+    reaches_is c.args.circuit.now c.args.source c.requires c.store_signals.new.latest c.output_frame-frame.result c.shown_signal.result c.loop-q.q
+    c.store_signals.ensures c.loop-q-test.true c.output_frame-frame.ensures.frame c.shown_signal.ensures.0
     in
     sym (least_is _ c.loop-q.q _ (omega (arith, known)) c.loop-q.invariant.1 (λ h. test ∙ lt-ltb _ _ c.if-frame-latest.true))
 
-pub loop-q-smaller : goal.loop-q-smaller
-loop-q-smaller c =
-    omega (arith, c)
-
 pub loop-q-preserved : goal.loop-q-preserved
 loop-q-preserved c =
-    let b₁ : List ℕ =
-    sourced c.args.source c.args.circuit.now
-    in
-    let latest : List ℕ =
-    c.store_signals.new.1.1.0
-    in
-    let test : reaches_later (b₁ (start c)) c.loop-q.q ≡ ltb c.output_frame-frame.result (get_or ((c.store_signals.new.1.1.0)) c.shown_signal.result 0) =
-    reaches_is c.args.circuit.now c.args.source c.requires ((c.store_signals.new.1.1.0)) c.output_frame-frame.result c.shown_signal.result c.loop-q.q
-    c.store_signals.ensures c.loop-q-test.taken c.output_frame-frame.ensures.frame c.shown_signal.ensures.0
+    let test : reaches_later (sourced c.args.source c.args.circuit.now) c.loop-q.q ≡ ltb c.output_frame-frame.result (get_or c.store_signals.new.latest c.shown_signal.result 0) =
+    reaches_is c.args.circuit.now c.args.source c.requires c.store_signals.new.latest c.output_frame-frame.result c.shown_signal.result c.loop-q.q
+    c.store_signals.ensures c.loop-q-test.true c.output_frame-frame.ensures.frame c.shown_signal.ensures.0
     in (
       omega (arith, c),
       rw (add-one c.loop-q.q) (below_suc {P = λ i'. reaches_later (sourced c.args.source c.args.circuit.now) i' ≡ false} c.loop-q.invariant.1 (test ∙ le-ltb _ _ c.if-frame-latest.false)),
@@ -104,10 +77,7 @@ loop-q-preserved c =
 
 pub returns : goal.returns
 returns c =
-    let b₁ : List ℕ =
-    sourced c.args.source c.args.circuit.now
-    in
-    let known : WellFormed ((sourced c.args.source c.args.circuit.now)) (head_of c.args.source) =
+    let known : WellFormed (sourced c.args.source c.args.circuit.now) (head_of c.args.source) =
     well _ _ c.requires
     in
     sym (least_is _ c.args.source.total _ (omega (arith, known)) (λ i h. c.loop-q.invariant.1 i (omega (arith, c.loop-q.invariant.0))) (λ h. absurd (omega (arith, known))))

@@ -23,13 +23,6 @@ overflow_add-t c =
     in
     omega (arith, to)
 
-pub loop-t-smaller : goal.loop-t-smaller
-loop-t-smaller c =
-    let to : c.loop-t.t ≤ c.args.q =
-    omega (arith, c, le-mul_of_pos_right c.loop-t.t c.requires.le_outputs.0)
-    in
-    omega (arith, to)
-
 pub loop-t-preserved : goal.loop-t-preserved
 loop-t-preserved c =
     omega (arith, c, next_from c.loop-t.t (c.loop-t.t + 1) c.args.outputs refl)

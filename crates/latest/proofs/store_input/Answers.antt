@@ -46,25 +46,17 @@ overflow_add-s-in-loop-t c =
     in
     omega (arith, in-range, c.requires)
 
-pub overflow_step-t : goal.overflow_step-t
-overflow_step-t c =
-    let few : c.loop-t.t < most_bits =
-    let some : 0 < c.args.inputs = omega (arith, c.requires) in
-    omega (arith, c, le-mul_of_pos_right c.args.frames some, c.requires)
-    in
-    omega (arith, few)
-
-pub loop-t-smaller : goal.loop-t-smaller
-loop-t-smaller c =
-    omega (arith, c)
-
 pub loop-t-preserved : goal.loop-t-preserved
 loop-t-preserved c =
+    let in-range : c.loop-t.s ≤ c.args.frames * c.args.inputs =
+    omega (arith, c.loop-t.invariant.1, digits_lt {q = c.loop-t.t} {m = c.args.frames} (omega (arith, c)) c.requires.k_lt_inputs.0)
+    in
+    let room : c.loop-t.s < length c.loop-t.latest = omega (arith, in-range, c.loop-t.invariant.2, c.requires) in
     let next : (c.loop-t.t + 1) * c.args.inputs ≡ c.loop-t.t * c.args.inputs + c.args.inputs = subst (λ t. t * c.args.inputs ≡ c.loop-t.t * c.args.inputs + c.args.inputs) (sym (add-one c.loop-t.t)) (suc-mul c.loop-t.t c.args.inputs) in (
       omega (arith, c),
       omega (arith, c.loop-t.invariant.1, next),
       length-set c.loop-t.latest c.loop-t.s _ ∙ c.loop-t.invariant.2,
-      input_more c.args.inputs c.args.frames c.args.k c.loop-t.t c.loop-t.s _ c.loop-t.latest c.requires.k_lt_inputs.0 c.loop-t.invariant.1 (omega arith) (slice-write-latest c) c.loop-t.invariant.3,
+      input_more c.args.inputs c.args.frames c.args.k c.loop-t.t c.loop-t.s _ c.loop-t.latest c.requires.k_lt_inputs.0 c.loop-t.invariant.1 (omega arith) room c.loop-t.invariant.3,
     )
 
 pub returns : goal.returns

@@ -19,17 +19,9 @@ store_input-requires c =
       inputs_to = c.loop-k.invariant.2;
     }
 
-pub overflow_step-k : goal.overflow_step-k
-overflow_step-k c =
-    omega (arith, c, c.requires)
-
-pub loop-k-smaller : goal.loop-k-smaller
-loop-k-smaller c =
-    omega (arith, c)
-
 pub loop-k-preserved : goal.loop-k-preserved
 loop-k-preserved c =
-    (omega (arith, c), c.store_input.auto.1.1.1.0 ∙ c.loop-k.invariant.1, c.store_input.ensures)
+    (omega (arith, c), c.store_input.auto.latest ∙ c.loop-k.invariant.1, c.store_input.ensures)
 
 pub returns : goal.returns
 returns c =

@@ -18,56 +18,43 @@ use Rattle.latest.proofs.store_own_inputs.Goals as goal
 -- ---- a circuit as it stands
 pub store_inputs-requires : goal.store_inputs-requires
 store_inputs-requires c =
-    let known : WellFormed (sourced c.args.t1 c.requires.by_index.0) (head_of c.args.t1) =
+    let known : WellFormed (sourced c.args.source c.requires.by_index.0) (head_of c.args.source) =
     well _ _ c.requires.by_index.1
     in
-    let all-inputs : c.args.t1.frames * c.args.t1.inputs ≡ all_inputs (sourced c.args.t1 c.requires.by_index.0) =
+    let all-inputs : c.args.source.frames * c.args.source.inputs ≡ all_inputs (sourced c.args.source c.requires.by_index.0) =
     inputs_are _ _ _ (known).head_is.inputs_is (known).head_is.frames_is
     in
     omega (arith, known, all-inputs, c.requires.most_signals_in_bounds)
 
 pub returns-then-source : goal.returns-then-source
 returns-then-source c =
-    let known : WellFormed (sourced c.args.t1 c.requires.by_index.0) (head_of c.args.t1) =
+    let known : WellFormed (sourced c.args.source c.requires.by_index.0) (head_of c.args.source) =
     well _ _ c.requires.by_index.1
     in
-    let all-inputs : c.args.t1.frames * c.args.t1.inputs ≡ all_inputs (sourced c.args.t1 c.requires.by_index.0) =
+    let all-inputs : c.args.source.frames * c.args.source.inputs ≡ all_inputs (sourced c.args.source c.requires.by_index.0) =
     inputs_are _ _ _ (known).head_is.inputs_is (known).head_is.frames_is
     in
     let O = is_whole _ _ c.requires.by_index.1 c.if-source.true in
-    let own : c.args.t1.own.base ≡ c.args.t1.base = ap (λ (h : Head). h.base) O.own_is in
-    own_inputs_whole c.args.t1 _ _ c.if-source.true (omega (arith, (known).head_is.base_is, all-inputs)) c.store_inputs.ensures.frames
+    let own : c.args.source.own.base ≡ c.args.source.base = ap (λ (h : Head). h.base) O.own_is in
+    own_inputs_whole c.args.source _ _ c.if-source.true (omega (arith, (known).head_is.base_is, all-inputs)) c.store_inputs.ensures.frames
 
 pub overflow_sub-count : goal.overflow_sub-count
 overflow_sub-count c =
-    let spreads : c.args.t1.whole ≡ false → Spreads c.requires.by_index.0 c.args.t1 =
+    let spreads : c.args.source.whole ≡ false → Spreads c.requires.by_index.0 c.args.source =
     λ e. is_spread _ _ c.requires.by_index.1 e
     in
     omega (arith, (spreads c.if-source.false).network.head_is.base_is)
 
 pub loop-i-init : goal.loop-i-init
 loop-i-init c =
-    (omega arith, refl, placed-none c.args.t1 c.args.latest.now (omega (arith, c.requires.most_signals_in_bounds)))
-
-pub offset_bounds-source-i : goal.offset_bounds-source-i
-offset_bounds-source-i c =
-    let spreads : c.args.t1.whole ≡ false → Spreads c.requires.by_index.0 c.args.t1 =
-    λ e. is_spread _ _ c.requires.by_index.1 e
-    in
-    let of-turn : Spreads c.requires.by_index.0 c.args.t1 =
-    spreads c.if-source.false
-    in
-    let few : c.loop-i.i < 16 =
-    let P = of-turn in omega (arith, c.loop-i-test.true, P.network.head_is.base_is, P.network.headed.inputs-to)
-    in
-    omega (arith, few)
+    (omega arith, refl, placed-none c.args.source c.args.latest.now (omega (arith, c.requires.most_signals_in_bounds)))
 
 pub bounds-source-i : goal.bounds-source-i
 bounds-source-i c =
-    let spreads : c.args.t1.whole ≡ false → Spreads c.requires.by_index.0 c.args.t1 =
+    let spreads : c.args.source.whole ≡ false → Spreads c.requires.by_index.0 c.args.source =
     λ e. is_spread _ _ c.requires.by_index.1 e
     in
-    let of-turn : Spreads c.requires.by_index.0 c.args.t1 =
+    let of-turn : Spreads c.requires.by_index.0 c.args.source =
     spreads c.if-source.false
     in
     let few : c.loop-i.i < 16 =
@@ -77,26 +64,26 @@ bounds-source-i c =
 
 pub overflow_cast-source : goal.overflow_cast-source
 overflow_cast-source c =
-    let spreads : c.args.t1.whole ≡ false → Spreads c.requires.by_index.0 c.args.t1 =
+    let spreads : c.args.source.whole ≡ false → Spreads c.requires.by_index.0 c.args.source =
     λ e. is_spread _ _ c.requires.by_index.1 e
     in
-    let of-turn : Spreads c.requires.by_index.0 c.args.t1 =
+    let of-turn : Spreads c.requires.by_index.0 c.args.source =
     spreads c.if-source.false
     in
-    let inside : get_or c.args.t1.places c.loop-i.i 0 < 16 =
+    let inside : get_or c.args.source.places c.loop-i.i 0 < 16 =
     let P = of-turn in omega (arith, P.places_in c.loop-i.i (omega (arith, c.loop-i-test.true, P.network.head_is.base_is)), P.sizes.bits-to)
     in
     omega (arith, inside)
 
 pub output_frame-requires : goal.output_frame-requires
 output_frame-requires c =
-    let spreads : c.args.t1.whole ≡ false → Spreads c.requires.by_index.0 c.args.t1 =
+    let spreads : c.args.source.whole ≡ false → Spreads c.requires.by_index.0 c.args.source =
     λ e. is_spread _ _ c.requires.by_index.1 e
     in
-    let of-turn : Spreads c.requires.by_index.0 c.args.t1 =
+    let of-turn : Spreads c.requires.by_index.0 c.args.source =
     spreads c.if-source.false
     in
-    let inside : get_or c.args.t1.places c.loop-i.i 0 < 16 =
+    let inside : get_or c.args.source.places c.loop-i.i 0 < 16 =
     let P = of-turn in omega (arith, P.places_in c.loop-i.i (omega (arith, c.loop-i-test.true, P.network.head_is.base_is)), P.sizes.bits-to)
     in
     record {
@@ -106,23 +93,23 @@ output_frame-requires c =
 
 pub overflow_cast-latest : goal.overflow_cast-latest
 overflow_cast-latest c =
-    let spreads : c.args.t1.whole ≡ false → Spreads c.requires.by_index.0 c.args.t1 =
+    let spreads : c.args.source.whole ≡ false → Spreads c.requires.by_index.0 c.args.source =
     λ e. is_spread _ _ c.requires.by_index.1 e
     in
-    let of-turn : Spreads c.requires.by_index.0 c.args.t1 =
+    let of-turn : Spreads c.requires.by_index.0 c.args.source =
     spreads c.if-source.false
     in
-    let inside : get_or c.args.t1.places c.loop-i.i 0 < 16 =
+    let inside : get_or c.args.source.places c.loop-i.i 0 < 16 =
     let P = of-turn in omega (arith, P.places_in c.loop-i.i (omega (arith, c.loop-i-test.true, P.network.head_is.base_is)), P.sizes.bits-to)
     in
-    omega (arith, inside, c.output_frame.ensures.only.0, le-mul_of_pos_right (c.output_frame.result - 1) (output-frame-requires c c.output_frame.lifetimes).0.0)
+    omega (arith, inside, c.output_frame.ensures.only.0, le-mul_of_pos_right (c.output_frame.result - 1) (of-turn).sizes.inputs_from)
 
 pub overflow_add-latest : goal.overflow_add-latest
 overflow_add-latest c =
-    let spreads : c.args.t1.whole ≡ false → Spreads c.requires.by_index.0 c.args.t1 =
+    let spreads : c.args.source.whole ≡ false → Spreads c.requires.by_index.0 c.args.source =
     λ e. is_spread _ _ c.requires.by_index.1 e
     in
-    let of-turn : Spreads c.requires.by_index.0 c.args.t1 =
+    let of-turn : Spreads c.requires.by_index.0 c.args.source =
     spreads c.if-source.false
     in
     let few : c.loop-i.i < 16 =
@@ -132,10 +119,10 @@ overflow_add-latest c =
 
 pub bounds-latest-i : goal.bounds-latest-i
 bounds-latest-i c =
-    let spreads : c.args.t1.whole ≡ false → Spreads c.requires.by_index.0 c.args.t1 =
+    let spreads : c.args.source.whole ≡ false → Spreads c.requires.by_index.0 c.args.source =
     λ e. is_spread _ _ c.requires.by_index.1 e
     in
-    let of-turn : Spreads c.requires.by_index.0 c.args.t1 =
+    let of-turn : Spreads c.requires.by_index.0 c.args.source =
     spreads c.if-source.false
     in
     let few : c.loop-i.i < 16 =
@@ -146,29 +133,12 @@ bounds-latest-i c =
     in
     room
 
-pub overflow_step-i : goal.overflow_step-i
-overflow_step-i c =
-    let spreads : c.args.t1.whole ≡ false → Spreads c.requires.by_index.0 c.args.t1 =
-    λ e. is_spread _ _ c.requires.by_index.1 e
-    in
-    let of-turn : Spreads c.requires.by_index.0 c.args.t1 =
-    spreads c.if-source.false
-    in
-    let few : c.loop-i.i < 16 =
-    let P = of-turn in omega (arith, c.loop-i-test.true, P.network.head_is.base_is, P.network.headed.inputs-to)
-    in
-    omega (arith, few)
-
-pub loop-i-smaller : goal.loop-i-smaller
-loop-i-smaller c =
-    omega (arith, c.loop-i-test.true)
-
 pub loop-i-preserved : goal.loop-i-preserved
 loop-i-preserved c =
-    let spreads : c.args.t1.whole ≡ false → Spreads c.requires.by_index.0 c.args.t1 =
+    let spreads : c.args.source.whole ≡ false → Spreads c.requires.by_index.0 c.args.source =
     λ e. is_spread _ _ c.requires.by_index.1 e
     in
-    let of-turn : Spreads c.requires.by_index.0 c.args.t1 =
+    let of-turn : Spreads c.requires.by_index.0 c.args.source =
     spreads c.if-source.false
     in
     let few : c.loop-i.i < 16 =
@@ -179,12 +149,12 @@ loop-i-preserved c =
     in (
       omega (arith, c.loop-i-test.true),
       length-set c.loop-i.latest (1 + c.loop-i.i) c.output_frame.result ∙ c.loop-i.invariant.1,
-      placed-more c.args.t1 c.loop-i.latest c.loop-i.i c.output_frame.result (room) c.loop-i.invariant.2 c.output_frame.ensures.frame,
+      placed-more c.args.source c.loop-i.latest c.loop-i.i c.output_frame.result (room) c.loop-i.invariant.2 c.output_frame.ensures.frame,
     )
 
 pub returns : goal.returns
 returns c =
-    let spreads : c.args.t1.whole ≡ false → Spreads c.requires.by_index.0 c.args.t1 =
+    let spreads : c.args.source.whole ≡ false → Spreads c.requires.by_index.0 c.args.source =
     λ e. is_spread _ _ c.requires.by_index.1 e
     in
-    placed-all c.args.t1 c.loop-i.latest c.loop-i.i c.if-source.false (omega (arith, c.loop-i-test.false, c.loop-i.invariant.0, (spreads c.if-source.false).network.head_is.base_is)) c.loop-i.invariant.2
+    placed-all c.args.source c.loop-i.latest c.loop-i.i c.if-source.false (omega (arith, c.loop-i-test.false, c.loop-i.invariant.0, (spreads c.if-source.false).network.head_is.base_is)) c.loop-i.invariant.2

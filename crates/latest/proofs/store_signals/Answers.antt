@@ -23,17 +23,14 @@ store_own_inputs-requires c =
 
 pub loop-g-init : goal.loop-g-init
 loop-g-init c =
-    (omega arith, omega (arith, c.store_own_inputs.auto.1.0, c.requires.most_signals_in_bounds), refl, latest-none c.args.circuit.now c.store_own_inputs.new.1.0 c.args.source.own.base)
+    (omega arith, omega (arith, c.store_own_inputs.auto.latest, c.requires.most_signals_in_bounds), refl, latest-none c.args.circuit.now c.store_own_inputs.new.latest c.args.source.own.base)
 
 pub read_gate-gate-requires : goal.read_gate-gate-requires
 read_gate-gate-requires c =
     let known : WellFormed c.args.circuit.now c.args.source.own =
     own_well _ _ c.requires.source_of
     in
-    let g₁ : ℕ =
-    c.loop-g.g
-    in
-    let gate : (c.loop-g.g) < gates c.args.circuit.now =
+    let gate : c.loop-g.g < gates c.args.circuit.now =
     omega (arith, c, known)
     in
     record {
@@ -46,16 +43,13 @@ bounds-latest-left c =
     let known : WellFormed c.args.circuit.now c.args.source.own =
     own_well _ _ c.requires.source_of
     in
-    let g₁ : ℕ =
-    c.loop-g.g
-    in
-    let gate : (c.loop-g.g) < gates c.args.circuit.now =
+    let gate : c.loop-g.g < gates c.args.circuit.now =
     omega (arith, c, known)
     in
-    let room : c.args.source.own.base + (c.loop-g.g) < most_signals =
+    let room : c.args.source.own.base + c.loop-g.g < most_signals =
     omega (arith, gate, known)
     in
-    let left_in : c.read_gate-gate.result.left / 2 < c.args.source.own.base + (c.loop-g.g) =
+    let left_in : c.read_gate-gate.result.left / 2 < c.args.source.own.base + c.loop-g.g =
     omega (arith, c.read_gate-gate.ensures.left-before, known)
     in
     omega (arith, left_in, room, c.loop-g.invariant.1)
@@ -65,16 +59,13 @@ bounds-latest-right c =
     let known : WellFormed c.args.circuit.now c.args.source.own =
     own_well _ _ c.requires.source_of
     in
-    let g₁ : ℕ =
-    c.loop-g.g
-    in
-    let gate : (c.loop-g.g) < gates c.args.circuit.now =
+    let gate : c.loop-g.g < gates c.args.circuit.now =
     omega (arith, c, known)
     in
-    let room : c.args.source.own.base + (c.loop-g.g) < most_signals =
+    let room : c.args.source.own.base + c.loop-g.g < most_signals =
     omega (arith, gate, known)
     in
-    let right_in : c.read_gate-gate.result.right / 2 < c.args.source.own.base + (c.loop-g.g) =
+    let right_in : c.read_gate-gate.result.right / 2 < c.args.source.own.base + c.loop-g.g =
     omega (arith, c.read_gate-gate.ensures.right_before, known)
     in
     omega (arith, right_in, room, c.loop-g.invariant.1)
@@ -84,13 +75,10 @@ overflow_add-latest c =
     let known : WellFormed c.args.circuit.now c.args.source.own =
     own_well _ _ c.requires.source_of
     in
-    let g₁ : ℕ =
-    c.loop-g.g
-    in
-    let gate : (c.loop-g.g) < gates c.args.circuit.now =
+    let gate : c.loop-g.g < gates c.args.circuit.now =
     omega (arith, c, known)
     in
-    let room : c.args.source.own.base + (c.loop-g.g) < most_signals =
+    let room : c.args.source.own.base + c.loop-g.g < most_signals =
     omega (arith, gate, known)
     in
     omega (arith, room)
@@ -100,61 +88,36 @@ bounds-latest-base c =
     let known : WellFormed c.args.circuit.now c.args.source.own =
     own_well _ _ c.requires.source_of
     in
-    let g₁ : ℕ =
-    c.loop-g.g
-    in
-    let gate : (c.loop-g.g) < gates c.args.circuit.now =
+    let gate : c.loop-g.g < gates c.args.circuit.now =
     omega (arith, c, known)
     in
-    let room : c.args.source.own.base + (c.loop-g.g) < most_signals =
+    let room : c.args.source.own.base + c.loop-g.g < most_signals =
     omega (arith, gate, known)
     in
     omega (arith, room, c.loop-g.invariant.1)
-
-pub overflow_step-g : goal.overflow_step-g
-overflow_step-g c =
-    let known : WellFormed c.args.circuit.now c.args.source.own =
-    own_well _ _ c.requires.source_of
-    in
-    let g₁ : ℕ =
-    c.loop-g.g
-    in
-    let gate : (c.loop-g.g) < gates c.args.circuit.now =
-    omega (arith, c, known)
-    in
-    let room : c.args.source.own.base + (c.loop-g.g) < most_signals =
-    omega (arith, gate, known)
-    in
-    omega (arith, room)
-
-pub loop-g-smaller : goal.loop-g-smaller
-loop-g-smaller c =
-    omega (arith, c)
 
 pub loop-g-preserved : goal.loop-g-preserved
 loop-g-preserved c =
     let known : WellFormed c.args.circuit.now c.args.source.own =
     own_well _ _ c.requires.source_of
     in
-    let g₁ : ℕ =
-    c.loop-g.g
-    in
-    let gate : (c.loop-g.g) < gates c.args.circuit.now =
+    let gate : c.loop-g.g < gates c.args.circuit.now =
     omega (arith, c, known)
     in
-    let left_in : c.read_gate-gate.result.left / 2 < c.args.source.own.base + (c.loop-g.g) =
+    let left_in : c.read_gate-gate.result.left / 2 < c.args.source.own.base + c.loop-g.g =
     omega (arith, c.read_gate-gate.ensures.left-before, known)
     in
-    let right_in : c.read_gate-gate.result.right / 2 < c.args.source.own.base + (c.loop-g.g) =
+    let right_in : c.read_gate-gate.result.right / 2 < c.args.source.own.base + c.loop-g.g =
     omega (arith, c.read_gate-gate.ensures.right_before, known)
     in
-    let n = c.args.source.own.base + (c.loop-g.g) in (
+    let n = c.args.source.own.base + c.loop-g.g in
+    let room : n < length c.loop-g.latest = omega (arith, gate, known, c.loop-g.invariant.1) in (
       omega (arith, gate, known),
       simp length-set c.loop-g.invariant.1,
       length-set c.loop-g.latest n c.later.result ∙ c.loop-g.invariant.2,
-      ap (λ (x : ℕ). take (c.args.source.own.base + ((c.loop-g.g) + 1)) (set c.loop-g.latest n x)) c.later.ensures
-          ∙ latest-more _ c.args.circuit.now c.loop-g.latest (c.loop-g.g) n c.read_gate-gate.result.left c.read_gate-gate.result.right (slice-write-latest c) c.loop-g.invariant.3
-          c.read_gate-gate.ensures.left_is c.read_gate-gate.ensures.right_is (left_in) (right_in) (c.args.source.own.base + ((c.loop-g.g) + 1)) (omega arith),
+      ap (λ (x : ℕ). take (c.args.source.own.base + (c.loop-g.g + 1)) (set c.loop-g.latest n x)) c.later.ensures
+          ∙ latest-more _ c.args.circuit.now c.loop-g.latest c.loop-g.g n c.read_gate-gate.result.left c.read_gate-gate.result.right room c.loop-g.invariant.3
+          c.read_gate-gate.ensures.left_is c.read_gate-gate.ensures.right_is left_in right_in (c.args.source.own.base + (c.loop-g.g + 1)) (omega arith),
     )
 
 pub returns : goal.returns
@@ -164,4 +127,4 @@ returns c =
     own_well _ _ c.requires.source_of
     in
     signals_all (own_frames c.args.source c.args.circuit.now) c.args.circuit.now c.loop-g.latest c.args.source.own.base c.loop-g.g
-    (known).head_is.base_is (omega (arith, known, c.loop-g.invariant)) (c.loop-g.invariant.3 ∙ ap (λ fs. grown fs (later_frame c.args.circuit.now) c.loop-g.g) c.store_own_inputs.ensures)
+    known.head_is.base_is (omega (arith, known, c.loop-g.invariant)) (c.loop-g.invariant.3 ∙ ap (λ fs. grown fs (later_frame c.args.circuit.now) c.loop-g.g) c.store_own_inputs.ensures)

@@ -2,8 +2,7 @@ use mathlib.Core.Path.{refl, sym, ◌∙◌}
 use mathlib.Core.Bool.{cond}
 use mathlib.Core.Logic.{◌≢◌}
 use Rattle.diagrams.specs.Making
-use Rattle.nodes.proofs.Laws.{not_yes, differ_yes, differ_no, constants_yes, constants_no}
-use borrow.Author.Rules.{rules}
+use Rattle.nodes.proofs.Laws.{differ_yes, differ_no, constants_yes, constants_no}
 use Rattle.nodes.proofs.known.Goals as goal
 
 pub returns-then-f-false_of : goal.returns-then-f-false_of
@@ -29,14 +28,14 @@ returns-then-not-b c =
     let nf : c.args.pair.f ≢ cond c.args.pair.a 1 0 =
     λ e. c.if-f-false_of.false (e ∙ sym c.false_of.ensures)
     in
-    Making.first_true (nf) c.if-f-lt2.true (not_yes _ c.if-not-b.true) refl
+    Making.first_true (nf) c.if-f-lt2.true c.if-not-b.true refl
 
 pub returns-then-not-a : goal.returns-then-not-a
 returns-then-not-a c =
     let ng : c.args.pair.g ≢ cond c.args.pair.b 1 0 =
     λ e. c.if-g-false_of.false (e ∙ sym c.false_of-2.ensures)
     in
-    Making.second_true (ng) c.if-g-lt2.true (not_yes _ c.if-not-a.true) refl
+    Making.second_true (ng) c.if-g-lt2.true c.if-not-a.true refl
 
 pub returns-then-a-b : goal.returns-then-a-b
 returns-then-a-b c =
@@ -44,7 +43,7 @@ returns-then-a-b c =
 
 pub returns-then-not-a-2 : goal.returns-then-not-a-2
 returns-then-not-a-2 c =
-    Making.same c.if-f-g.true (not_yes c.args.pair.a c.if-not-a-2.true) (sym (differ_no c.args.pair.a c.args.pair.b c.if-a-b.false) ∙ not_yes c.args.pair.a c.if-not-a-2.true) refl
+    Making.same c.if-f-g.true c.if-not-a-2.true (sym (differ_no c.args.pair.a c.args.pair.b c.if-a-b.false) ∙ c.if-not-a-2.true) refl
 
 pub returns-else-not-a-2 : goal.returns-else-not-a-2
 returns-else-not-a-2 c =

@@ -3,7 +3,6 @@ use native.Mathlib.Nat.{mod-lt}
 use native.Mathlib.Omega.{arith}
 use Rattle.diagrams.specs.Making.{home}
 use Rattle.nodes.proofs.Laws.{scaled_fits, scaled_small, scaled_more}
-use borrow.Author.Rules.{rules}
 use Rattle.nodes.proofs.start_of.Goals as goal
 
 -- src/lib.rt:135:6
@@ -20,3 +19,8 @@ overflow_cast-result-2 c =
 pub overflow_add-result : goal.overflow_add-result
 overflow_add-result c =
     record { fits = scaled_more _ c.args.room (mod-lt _ (omega arith)) c.requires }
+
+-- src/lib.rt:137:1
+pub returns : goal.returns
+unfolding home
+returns c = λ _. refl

@@ -2,7 +2,6 @@
 -- Assumes nothing.
 use mathlib.Core.Path.{◌≡◌, refl, sym, ap, ap₂, ◌∙◌}
 use mathlib.Core.Bool.{Bool, true, false, not, cond}
-use mathlib.Core.Logic.{⊎_elim}
 use mathlib.Core.List.{List, []}
 use Prim.Native.Nat.{ℕ, suc, ◌+◌, ◌*◌, ◌-◌, ◌≤◌, ◌<◌}
 use native.Mathlib.Nat.{mul-suc, mul-le-mul_left}
@@ -18,6 +17,7 @@ use Rattle.source.specs.Source.{head_of, sourced}
 use Rattle.source.proofs.Sources.{well}
 use Rattle.circuit.proofs.Laws.{packed_more, packed_below}
 use Rattle.circuit.proofs.Lists.{listed-length, listed_at}
+use Rattle.source.proofs.connected_outputs.Goals.{then-is_connected, else-is_connected}
 use Rattle.source.proofs.connected_outputs.Goals as goal
 
 -- which outputs of the frame are connected
@@ -30,9 +30,6 @@ small b t i j h = packed_below _ 16 (simp length-take (omega arith))
 
 pub overflow_add-end : goal.overflow_add-end
 overflow_add-end c =
-    let b₀ : List ℕ =
-    sourced c.args.source c.args.circuit.now
-    in
     let known : WellFormed ((sourced c.args.source c.args.circuit.now)) (head_of c.args.source) =
     well _ _ c.requires.0
     in
@@ -41,9 +38,6 @@ overflow_add-end c =
 pub overflow_mul-end : goal.overflow_mul-end
 unfolding all_outputs
 overflow_mul-end c =
-    let b₀ : List ℕ =
-    sourced c.args.source c.args.circuit.now
-    in
     let known : WellFormed ((sourced c.args.source c.args.circuit.now)) (head_of c.args.source) =
     well _ _ c.requires.0
     in
@@ -62,9 +56,6 @@ loop-j-init c =
 
 pub overflow_mul-word : goal.overflow_mul-word
 overflow_mul-word c =
-    let b₀ : List ℕ =
-    sourced c.args.source c.args.circuit.now
-    in
     let known : WellFormed ((sourced c.args.source c.args.circuit.now)) (head_of c.args.source) =
     well _ _ c.requires.0
     in
@@ -73,9 +64,6 @@ overflow_mul-word c =
 pub overflow_sub-end : goal.overflow_sub-end
 unfolding all_outputs
 overflow_sub-end c =
-    let b₀ : List ℕ =
-    sourced c.args.source c.args.circuit.now
-    in
     let known : WellFormed ((sourced c.args.source c.args.circuit.now)) (head_of c.args.source) =
     well _ _ c.requires.0
     in
@@ -90,9 +78,6 @@ overflow_sub-end c =
 pub overflow_sub-end-in-loop-j : goal.overflow_sub-end-in-loop-j
 unfolding all_outputs
 overflow_sub-end-in-loop-j c =
-    let b₀ : List ℕ =
-    sourced c.args.source c.args.circuit.now
-    in
     let known : WellFormed ((sourced c.args.source c.args.circuit.now)) (head_of c.args.source) =
     well _ _ c.requires.0
     in
@@ -107,9 +92,6 @@ overflow_sub-end-in-loop-j c =
 pub is_connected-requires : goal.is_connected-requires
 unfolding all_outputs
 is_connected-requires c =
-    let b₀ : List ℕ =
-    sourced c.args.source c.args.circuit.now
-    in
     let known : WellFormed ((sourced c.args.source c.args.circuit.now)) (head_of c.args.source) =
     well _ _ c.requires.0
     in
@@ -123,9 +105,6 @@ is_connected-requires c =
 
 pub overflow_add-word : goal.overflow_add-word
 overflow_add-word c =
-    let b₀ : List ℕ =
-    sourced c.args.source c.args.circuit.now
-    in
     let known : WellFormed ((sourced c.args.source c.args.circuit.now)) (head_of c.args.source) =
     well _ _ c.requires.0
     in
@@ -134,9 +113,6 @@ overflow_add-word c =
 pub loop-j-preserved : goal.loop-j-preserved
 unfolding all_outputs
 loop-j-preserved c =
-    let b₀ : List ℕ =
-    sourced c.args.source c.args.circuit.now
-    in
     let known : WellFormed ((sourced c.args.source c.args.circuit.now)) (head_of c.args.source) =
     well _ _ c.requires.0
     in
@@ -158,15 +134,17 @@ loop-j-preserved c =
     let q : x ≡ get_or (flags b c.args.t) i false = sym e ∙ c.is_connected.ensures ∙ ap (λ q. not (unconnected b (gate_of_output b q))) at ∙ sym (listed_at (connects b c.args.t) false (outputs b) i n) in
     packed_more (flags b c.args.t) i (m - j) j (j + 1) c.loop-j.word (cond x 1 0) (omega (arith, listed-length (connects b c.args.t) (outputs b))) (omega arith) refl c.loop-j.invariant.1
     (ap (λ y. cond y 1 0) q)
-    in
-    (omega arith, ⊎_elim (λ w. w.1 ∙ omega (arith, grows true w.0.taken)) (λ w. w.1 ∙ omega (arith, grows false w.0.left)) c.if-is_connected.branch)
+    in (
+      omega arith,
+      elim c.if-is_connected.branch [
+        | then-is_connected w ↦ w.word-is ∙ omega (arith, grows true w.if-is_connected.true)
+        | else-is_connected w ↦ w.word-is ∙ omega (arith, grows false w.if-is_connected.false)
+      ],
+    )
 
 pub returns : goal.returns
 unfolding connected_outputs
 returns c =
-    let b₀ : List ℕ =
-    sourced c.args.source c.args.circuit.now
-    in
     let known : WellFormed ((sourced c.args.source c.args.circuit.now)) (head_of c.args.source) =
     well _ _ c.requires.0
     in

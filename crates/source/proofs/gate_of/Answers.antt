@@ -1,10 +1,8 @@
 -- `source::gate_of` meets its contract: a gate of the circuit, one of the network, renamed, or one that shows an output.
 -- Assumes nothing.
 use mathlib.Core.Path.{◌≡◌, subst}
-use mathlib.Core.Bool.{false}
-use Prim.Native.Nat.{◌+◌, ◌-◌, ◌≤◌, ◌<◌}
+use Prim.Native.Nat.{◌+◌, ◌-◌, ◌<◌}
 use native.Mathlib.Omega.{arith}
-use borrow.Author.Rules.{rules}
 use Rattle.circuit.specs.Circuit.{gates}
 use Rattle.circuit.specs.WellFormed.{WellFormed, GateOf}
 use Rattle.source.specs.Source.{sourced, Spreads}
@@ -12,16 +10,12 @@ use Rattle.source.proofs.Sources.{own_well, is_spread, renames, whole_gate, spre
 use Rattle.source.proofs.gate_of.Goals as goal
 
 -- ---- a gate behind those of the network
-module _ (s : tie.Start) (l : s.args.source.own.gates ≤ s.args.g) where
-  spreads : (s.args.source.whole ≡ false) × Spreads s.args.circuit.now s.args.source × (s.args.g - gates s.args.circuit.now < s.args.source.total)
-  spreads = behind _ _ s.requires.0 s.args.g s.requires.1 (omega (arith, own s))
-
 pub shown_gate-requires : goal.shown_gate-requires
 shown_gate-requires c =
     let own : WellFormed c.args.circuit.now c.args.source.own =
     own_well _ _ c.requires.0
     in
-    let B = spreads c c.if-own-g.true in
+    let B = behind _ _ c.requires.0 c.args.g c.requires.1 (omega (arith, own, c.if-own-g.true)) in
     (B.0, B.1, omega (arith, B.2, own))
 
 pub returns-then-own-g : goal.returns-then-own-g
@@ -58,7 +52,7 @@ rename-requires c =
     let network : Spreads c.args.circuit.now c.args.source =
     is_spread _ _ c.requires.0 c.if-source.false
     in
-    renames _ _ (network) c.args.g _ (in-network) c.read_gate-gate.ensures.left-before (omega (arith, slice-aggregate-rename c))
+    renames _ _ (network) c.args.g _ (in-network) c.read_gate-gate.ensures.left-before (omega arith)
 
 pub rename-requires-2 : goal.rename-requires-2
 rename-requires-2 c =
@@ -71,7 +65,7 @@ rename-requires-2 c =
     let network : Spreads c.args.circuit.now c.args.source =
     is_spread _ _ c.requires.0 c.if-source.false
     in
-    renames _ _ (network) c.args.g _ (in-network) c.read_gate-gate.ensures.right_before (omega (arith, slice-aggregate-rename-2 c))
+    renames _ _ (network) c.args.g _ (in-network) c.read_gate-gate.ensures.right_before (omega arith)
 
 pub returns : goal.returns
 returns c =

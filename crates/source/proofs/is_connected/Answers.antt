@@ -3,7 +3,6 @@
 use native.Mathlib.Omega.{arith}
 use Prim.Native.Nat.{◌+◌, ◌-◌}
 use mathlib.Core.Path.{◌≡◌, ap, ◌∙◌}
-use borrow.Author.Rules.{rules}
 use Rattle.circuit.specs.Circuit.{gate_of_output, unconnected}
 use Rattle.circuit.specs.WellFormed.{WellFormed}
 use Rattle.source.proofs.Sources.{own_well, few_items, none_there, some_there}

@@ -2,12 +2,11 @@
 -- Assumes nothing.
 use mathlib.Core.Path.{◌≡◌}
 use mathlib.Core.Bool.{false}
-use Prim.Native.Nat.{ℕ, ◌-◌, ◌≤◌, ◌<◌}
+use Prim.Native.Nat.{◌<◌}
 use native.Mathlib.Omega.{arith}
 use lib.Dec.{eqb}
 use lib.ListN.{get_or}
 use borrow.Author.Tests.{eq-eqb, ne_eqb}
-use borrow.Author.Rules.{rules}
 use Rattle.layered.proofs.Search.{below_suc}
 use Rattle.source.proofs.Standing.{item_whole, item-found, item-none}
 use Rattle.source.proofs.item_at.Goals as goal
@@ -51,7 +50,7 @@ loop-k-smaller c =
 
 pub loop-k-preserved : goal.loop-k-preserved
 loop-k-preserved c =
-    (omega (arith, c.loop-k-test.true), λ i h. below_suc {P = λ i. eqb (get_or c.args.t1.shown i 0) c.args.q ≡ false} c.loop-k.invariant.1 (ne_eqb _ _ c.if-source-k.false) i (omega arith))
+    (omega (arith, c.loop-k-test.true), λ i h. below_suc {P = λ i. eqb (get_or c.args.source.shown i 0) c.args.q ≡ false} c.loop-k.invariant.1 (ne_eqb _ _ c.if-source-k.false) i (omega arith))
 
 pub returns : goal.returns
 returns c =

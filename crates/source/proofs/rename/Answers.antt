@@ -2,7 +2,6 @@
 -- Assumes nothing.
 use mathlib.Core.Path.{ap}
 use Prim.Native.Nat.{◌+◌, ◌*◌, ◌%◌}
-use borrow.Author.Rules.{rules}
 use Rattle.source.specs.Rearranged.{renamed}
 use Rattle.source.proofs.rename.Goals as goal
 

@@ -2,7 +2,6 @@
 -- Assumes nothing.
 use Prim.Native.Nat.{◌<◌}
 use native.Mathlib.Omega.{arith}
-use borrow.Author.Rules.{rules}
 use Rattle.source.proofs.Standing.{shown-none, shown-item}
 use Rattle.source.proofs.shown_signal.Goals as goal
 

@@ -3,7 +3,6 @@
 use Prim.Native.Nat.{◌-◌, ◌<◌}
 use native.Mathlib.Omega.{arith}
 use lib.ListN.{get_or}
-use borrow.Author.Rules.{rules}
 use Rattle.source.proofs.Standing.{stands_gate, stands_constant, stands_input}
 use Rattle.source.proofs.stands.Goals as goal
 

@@ -20,13 +20,6 @@ use Rattle.write.proofs.nexts_from.Goals as goal
 entries_few : (layout : Layout) → Laid layout → (states t : ℕ) → t ≤ layout.frames → states ≤ 65535 * t → states * layout.fan ≤ 1048560 * 65536
 entries_few layout L states t h k = let l : states ≤ 1048560 = omega (arith, h, k, frames-to layout L) in mul-le-mul l (words_few layout L)
 
-module _ (c : tie.After-head-length invariant-loop decreases-loop) where
-  abbrev at-loop : tie.At-loop invariant-loop decreases-loop
-  at-loop = c.before.before
-
-  few : at-loop.loop.states * (start at-loop).args.layout.fan ≤ 1048560 * 65536
-  few = entries_few _ (start at-loop).pre.0 _ _ at-loop.loop.inv.0 at-loop.loop.inv.2
-
 -- all layers are summed
 summed : (layout : Layout) (counts : List ℕ) (head states t : ℕ) → head ≡ head_length layout.frames → t ≡ layout.frames → states ≡ total t (λ u. get_or counts u 0) → head + 2 * (states * layout.fan) ≡ nexts_from layout counts
 unfolding nexts_from
@@ -89,20 +82,19 @@ head_length-requires c =
 
 pub overflow_mul-result : goal.overflow_mul-result
 overflow_mul-result c =
-    omega (arith, few c)
+    omega (arith, entries_few _ c.requires.0 _ _ c.loop-t.invariant.0 c.loop-t.invariant.2)
 
 pub overflow_mul-result-2 : goal.overflow_mul-result-2
 overflow_mul-result-2 c =
-    omega (arith, few c)
+    omega (arith, entries_few _ c.requires.0 _ _ c.loop-t.invariant.0 c.loop-t.invariant.2)
 
 pub overflow_add-result : goal.overflow_add-result
 overflow_add-result c =
     let frames-few : c.args.layout.frames ≤ 16 =
     frames-to _ c.requires.0
     in
-    omega (arith, few c, c.head_length.ensures, head_length_lem (start (at-loop c)).args.layout.frames, frames-few (at-loop c))
+    omega (arith, entries_few _ c.requires.0 _ _ c.loop-t.invariant.0 c.loop-t.invariant.2, c.head_length.ensures, head_length_lem c.args.layout.frames, frames-few)
 
 pub returns : goal.returns
 returns c =
-    let l = at-loop c in
-    summed _ _ _ _ l.loop.t c.head_length.ensures (omega (arith, l.loop.inv.0)) l.loop.inv.1
+    summed _ _ _ _ c.loop-t.t c.head_length.ensures (omega (arith, c.loop-t.invariant.0)) c.loop-t.invariant.1

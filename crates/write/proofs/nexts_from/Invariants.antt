@@ -28,7 +28,3 @@ summed layout counts head states t e f g = ap₂ (λ (h s : ℕ). h + 2 * (s * l
 abbrev pub invariant-loop-t : goal.invariant-loop-t
 invariant-loop-t l =
     (l.t ≤ l.frames) × (l.states ≡ total l.t (λ u. get_or l.counts u 0)) × (l.states ≤ 65535 * l.t)
-
-abbrev pub decreases-loop-t : goal.decreases-loop-t
-decreases-loop-t l =
-    l.frames - l.t

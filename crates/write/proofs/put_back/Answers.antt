@@ -18,8 +18,8 @@ module _ (layout : Layout) (s cs ds r : List ℕ) (at : ℕ) (e : cs ≡ ds) (f 
 
 pub put_nexts-requires : goal.put_nexts-requires
 put_nexts-requires c =
-    fits c.args.layout c.args.scratch.now c.Counts-of.result c.args.found.counts c.args.res.now c.nexts_from-at.result c.Counts-of.ensures c.nexts_from-at.ensures c.requires
+    fits c.args.layout c.args.scratch.now c.counts_of-counts.result c.args.found.counts c.args.res.now c.nexts_from-at.result c.counts_of-counts.ensures c.nexts_from-at.ensures c.requires
 
 pub returns : goal.returns
 returns c =
-    put c.args.layout c.args.scratch.now c.Counts-of.result c.args.found.counts c.args.res.now c.nexts_from-at.result c.Counts-of.ensures c.nexts_from-at.ensures _ c.put_nexts.ensures
+    put c.args.layout c.args.scratch.now c.counts_of-counts.result c.args.found.counts c.args.res.now c.nexts_from-at.result c.counts_of-counts.ensures c.nexts_from-at.ensures _ c.put_nexts.ensures

@@ -54,7 +54,7 @@ store-requires c =
     let b = (sourced c.args.source c.args.circuit.now) in
     omega (arith, connected-at (frames b) 0, head_length_lem (frames b), tabulate-length c.loop-t.t (connected_outputs b), c.loop-t.invariant.0, (known).head_is, c.requires.circuit_in_bounds)
     in
-    let len : length c.loop-t.result ≡ length c.args.res.now =
+    let len : length c.loop-t.res ≡ length c.args.res.now =
     ap length c.loop-t.invariant.1 ∙ stored-length 2 _ _ _ (room)
     in
     let place : c.connected_at.result ≡ connected_at (frames ((sourced c.args.source c.args.circuit.now))) 0 + 2 * c.loop-t.t =
@@ -85,7 +85,7 @@ loop-t-preserved c =
     let t : ℕ = c.loop-t.t in (
       omega arith,
       c.store.ensures
-          ∙ stored-behind 2 c.args.res.now c.loop-t.result (connected_at (frames b) 0) (first b t) _ c.connected_at.result c.loop-t.invariant.1
+          ∙ stored-behind 2 c.args.res.now c.loop-t.res (connected_at (frames b) 0) (first b t) _ c.connected_at.result c.loop-t.invariant.1
           (place ∙ omega (arith, tabulate-length t (connected_outputs b))) (room)
           ∙ ap (λ (x : ℕ). stored 2 c.args.res.now (connected_at (frames b) 0) (first b t ++ (x ∷ []))) c.connected_outputs-word.ensures.0
           ∙ ap (λ (t : ℕ). stored 2 c.args.res.now (connected_at (frames b) 0) (first b t)) (sym (add-one t)),

@@ -26,7 +26,3 @@ first b t = tabulate t (connected_outputs b)
 abbrev pub invariant-loop-t : goal.invariant-loop-t
 invariant-loop-t l =
     (l.t ≤ l.last) × (l.res ≡ stored 2 l.initial.res (connected_at (frames (sourced l.source l.circuit)) 0) (first (sourced l.source l.circuit) l.t))
-
-abbrev pub decreases-loop-t : goal.decreases-loop-t
-decreases-loop-t l =
-    l.last - l.t

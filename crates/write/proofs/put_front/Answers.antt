@@ -16,7 +16,7 @@ pub put_head-requires : goal.put_head-requires
 put_head-requires c =
     let b = sourced c.args.source c.args.circuit.now in record {
       source_of = c.requires.0;
-      counts_to = subst (λ cs. CountsTo (inputs b) (outputs b) (frames b) (response b) cs (frames b - 1)) (sym c.Counts-of.ensures) c.requires.1;
+      counts_to = subst (λ cs. CountsTo (inputs b) (outputs b) (frames b) (response b) cs (frames b - 1)) (sym c.counts_of-counts.ensures) c.requires.1;
       circuit_in_bounds = c.requires.2;
     }
 

@@ -72,14 +72,14 @@ store_all-requires-2 c =
     well _ _ c.requires.source_of
     in (
       omega (arith, c.requires.counts_to.places, known),
-      omega (arith, head_length_lem (frames (sourced c.args.source c.args.circuit.now)), c.requires.circuit_in_bounds, c.store_all.auto.1.1.0, (known).head_is),
+      omega (arith, head_length_lem (frames (sourced c.args.source c.args.circuit.now)), c.requires.circuit_in_bounds, c.store_all.auto.bytes, (known).head_is),
     )
 
 pub put_connected-requires : goal.put_connected-requires
 put_connected-requires c =
     record {
       source_of = c.requires.source_of;
-      circuit_in_bounds = omega (arith, c.requires.circuit_in_bounds, c.store_all-2.auto.1.1.0, c.store_all.auto.1.1.0);
+      circuit_in_bounds = omega (arith, c.requires.circuit_in_bounds, c.store_all-2.auto.bytes, c.store_all.auto.bytes);
     }
 
 pub returns : goal.returns
@@ -93,7 +93,7 @@ returns c =
     let b = (sourced c.args.source c.args.circuit.now) in
     let h = (known).head_is in
     head_stored b c.args.res.now c.args.counts.now (omega (arith, head_length_lem (frames b), c.requires.circuit_in_bounds)) c.requires.counts_to (known).headed.sizes.frames-to
-    c.store_all.new.1.1.0 c.store_all-2.new.1.1.0 c.put_connected.new.1.1.0 (c.args.source.frames + 1) (connected_at (frames b) 0)
+    c.store_all.new.bytes c.store_all-2.new.bytes c.put_connected.new.res (c.args.source.frames + 1) (connected_at (frames b) 0)
     (ap (λ (t : ℕ). t + 1) h.frames_is) (omega (arith, connected-at (frames b) 0))
     (c.store_all.ensures ∙ ap (stored 2 c.args.res.now 0) (first-words _ _ _ b h.inputs_is h.outputs_is h.frames_is))
     c.store_all-2.ensures

@@ -16,7 +16,3 @@ use Rattle.write.proofs.put_nexts.Given as goal
 abbrev pub invariant-loop-t : goal.invariant-loop-t
 invariant-loop-t l =
     (l.t ≤ l.last) × (l.from ≡ layer_at l.layout.fan (suc l.t)) × (l.end ≡ l.at + 2 * length (nexts_in l.layout l.scratch l.counts l.t)) × (l.res ≡ stored 2 l.initial.res l.at (nexts_in l.layout l.scratch l.counts l.t))
-
-abbrev pub decreases-loop-t : goal.decreases-loop-t
-decreases-loop-t l =
-    l.last - l.t

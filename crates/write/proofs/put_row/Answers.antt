@@ -32,14 +32,14 @@ overflow_mul-from c =
     let columns : c.loop-w.w * c.args.layout.outputs + c.args.layout.outputs ≤ c.args.layout.fan * c.args.layout.outputs =
     columns_in c.loop-w.w c.args.layout.fan c.args.layout.outputs c.loop-w-test.true
     in
-    omega (arith, columns, c.requires.1, c.good)
+    omega (arith, columns, c.requires.1, c.well_formed)
 
 pub overflow_add-from : goal.overflow_add-from
 overflow_add-from c =
     let columns : c.loop-w.w * c.args.layout.outputs + c.args.layout.outputs ≤ c.args.layout.fan * c.args.layout.outputs =
     columns_in c.loop-w.w c.args.layout.fan c.args.layout.outputs c.loop-w-test.true
     in
-    omega (arith, columns, c.requires.1, c.good)
+    omega (arith, columns, c.requires.1, c.well_formed)
 
 pub overflow_mul-w : goal.overflow_mul-w
 overflow_mul-w c =
@@ -61,7 +61,7 @@ store-requires c =
     let room : c.args.to + 2 * length (first c.args.layout c.args.work.now c.loop-w.w) ≤ length c.args.res.now =
     omega (arith, c.requires.2, c.loop-w.invariant.0, tabulate-length c.loop-w.w (word_at c.args.layout c.args.work.now))
     in
-    let len : length c.loop-w.result ≡ length c.args.res.now =
+    let len : length c.loop-w.res ≡ length c.args.res.now =
     ap length c.loop-w.invariant.1 ∙ stored-length 2 _ _ _ (room)
     in
     omega (arith, len, c.requires.2)
@@ -76,7 +76,7 @@ loop-w-preserved c =
     let w : ℕ = c.loop-w.w in (
       omega arith,
       c.store.ensures
-          ∙ stored-behind 2 c.args.res.now c.loop-w.result c.args.to (v w) _ _ c.loop-w.invariant.1 (omega (arith, tabulate-length w (word_at c.args.layout c.args.work.now))) (room)
+          ∙ stored-behind 2 c.args.res.now c.loop-w.res c.args.to (v w) _ _ c.loop-w.invariant.1 (omega (arith, tabulate-length w (word_at c.args.layout c.args.work.now))) (room)
           ∙ ap (λ (x : ℕ). stored 2 c.args.res.now c.args.to (v w ++ (x ∷ []))) c.word_of.ensures
           ∙ ap (λ (w : ℕ). stored 2 c.args.res.now c.args.to (v w)) (sym (add-one w)),
     )

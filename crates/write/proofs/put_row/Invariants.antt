@@ -25,7 +25,3 @@ first layout ws w = tabulate w (word_at layout ws)
 abbrev pub invariant-loop-w : goal.invariant-loop-w
 invariant-loop-w l =
     (l.w ≤ l.fan) × (l.res ≡ stored 2 l.initial.res l.to (first l.layout l.work l.w))
-
-abbrev pub decreases-loop-w : goal.decreases-loop-w
-decreases-loop-w l =
-    l.fan - l.w

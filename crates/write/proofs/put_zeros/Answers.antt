@@ -27,7 +27,7 @@ store-requires c =
     let room : c.args.at + 2 * length {A = ℕ} (replicate c.loop-i.i 0) ≤ length c.args.res.now =
     omega (arith, c.requires, c.loop-i.invariant.0, length-replicate {A = ℕ} c.loop-i.i 0)
     in
-    let len : length c.loop-i.result ≡ length c.args.res.now =
+    let len : length c.loop-i.res ≡ length c.args.res.now =
     ap length c.loop-i.invariant.1 ∙ stored-length 2 _ _ _ (room)
     in
     omega (arith, c.requires, len)
@@ -43,7 +43,7 @@ loop-i-preserved c =
     in (
       omega arith,
       c.store.ensures
-          ∙ stored-behind 2 c.args.res.now c.loop-i.result c.args.at (replicate c.loop-i.i 0) (0 ∷ []) _ c.loop-i.invariant.1 (omega (arith, length-replicate {A = ℕ} c.loop-i.i 0)) (room)
+          ∙ stored-behind 2 c.args.res.now c.loop-i.res c.args.at (replicate c.loop-i.i 0) (0 ∷ []) _ c.loop-i.invariant.1 (omega (arith, length-replicate {A = ℕ} c.loop-i.i 0)) (room)
           ∙ ap (stored 2 c.args.res.now c.args.at) (one_more 0 c.loop-i.i),
     )
 

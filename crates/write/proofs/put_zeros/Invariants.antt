@@ -13,7 +13,3 @@ use Rattle.write.proofs.put_zeros.Given as goal
 abbrev pub invariant-loop-i : goal.invariant-loop-i
 invariant-loop-i l =
     (l.i ≤ l.count) × (l.res ≡ stored 2 l.initial.res l.at (replicate l.i 0))
-
-abbrev pub decreases-loop-i : goal.decreases-loop-i
-decreases-loop-i l =
-    l.count - l.i

@@ -21,7 +21,7 @@ loop-t-init c =
 
 pub overflow_cast-numbers : goal.overflow_cast-numbers
 overflow_cast-numbers c =
-    search (rules, c.list-counts.type-inv)
+    search (rules, c.list-counts.type_inv)
 
 pub loop-t-preserved : goal.loop-t-preserved
 loop-t-preserved c =
