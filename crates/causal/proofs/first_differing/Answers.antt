@@ -47,7 +47,6 @@ output_frame-frame-requires c =
       not_after = c.loop-q.invariant.6;
     }
 
--- once the frame is found: the turn
 pub overflow_sub-later : goal.overflow_sub-later
 overflow_sub-later c =
     let headed : CircuitHeaded (sourced c.args.source c.args.circuit.now) =

@@ -33,9 +33,6 @@ loop-k-preserved c =
     let end_at : c.args.frame * c.args.inputs ≡ (c.args.frame - 1) * c.args.inputs + c.args.inputs =
     ends c.args.frame c.args.inputs c.requires.le_frame.0
     in
-    let signal : ℕ =
-    1 + (c.args.frame - 1) * c.args.inputs + c.loop-k.k
-    in
     let few : ((1 + (c.args.frame - 1) * c.args.inputs + c.loop-k.k) ≤ c.args.frame * c.args.inputs) × ((1 + (c.args.frame - 1) * c.args.inputs + c.loop-k.k) ≤ most_bits) =
     omega (arith, c, end_at, c.requires)
     in
@@ -47,7 +44,7 @@ loop-k-preserved c =
       length-set c.loop-k.lanes s c.input_lanes-after.result ∙ c.loop-k.invariant.1,
       get_or-set_other c.loop-k.lanes s 0 c.input_lanes-after.result 0 (λ e. omega arith) ∙ c.loop-k.invariant.2,
       lower (get_or c.loop-k.lanes s 0) c.input_lanes-after.result c.loop-k.least (get_or c.args.firsts.now s 0) c.restart-least.ensures c.loop-k.invariant.3,
-      λ T h ht N L. inputs-more c.args.inputs T c.args.t h c.loop-k.lanes s c.args.frame c.loop-k.k c.input_lanes-after.result (omega arith) (omega (arith, c)) (room) (c.loop-k.invariant.4 T h ht N L) (c.input_lanes-after.ensures T h ht N),
+      λ T h ht N L. inputs-more c.args.inputs T c.args.t h c.loop-k.lanes s c.args.frame c.loop-k.k c.input_lanes-after.result (omega arith) (omega (arith, c)) room (c.loop-k.invariant.4 T h ht N L) (c.input_lanes-after.ensures T h ht N),
       λ b e F S. settled_input b c.loop-k.lanes c.args.firsts.now c.loop-k.least s c.input_lanes-after.result c.restart-least.result (omega (arith, few)) F c.restart-least.ensures (c.loop-k.invariant.5 b e F S),
     )
 

@@ -46,7 +46,7 @@ loop-g-preserved c =
       get_or-set_other c.loop-g.lanes (c.args.head.base + c.loop-g.g) 0 _ 0 (λ e. omega (arith, c.requires)) ∙ c.loop-g.invariant.3,
       λ hs N. inputs_kept c.args.circuit.now c.args.t hs c.loop-g.lanes c.args.head.base (c.args.head.base + c.loop-g.g) _ (omega arith) (c.loop-g.invariant.4 hs N),
       settled_more c.args.circuit.now c.requires.well_formed.legal c.loop-g.lanes c.loop-g.g (c.args.head.base + c.loop-g.g) c.read_gate-gate.result.left c.read_gate-gate.result.right c.literal_lanes.result c.literal_lanes-in-loop-g.result
-          (gate) (omega (arith, c.requires.well_formed.head_is.base_is)) room c.loop-g.invariant.5 c.read_gate-gate.ensures.left_is c.read_gate-gate.ensures.right_is left-fits right-fits
+          gate (omega (arith, c.requires.well_formed.head_is.base_is)) room c.loop-g.invariant.5 c.read_gate-gate.ensures.left_is c.read_gate-gate.ensures.right_is left-fits right-fits
           c.literal_lanes.ensures c.literal_lanes-in-loop-g.ensures,
     )
 

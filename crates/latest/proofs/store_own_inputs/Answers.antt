@@ -21,7 +21,7 @@ store_inputs-requires c =
     well _ _ c.requires.by_index.1
     in
     let all-inputs : c.args.source.frames * c.args.source.inputs ≡ all_inputs (sourced c.args.source c.requires.by_index.0) =
-    inputs_are _ _ _ (known).head_is.inputs_is (known).head_is.frames_is
+    inputs_are _ _ _ known.head_is.inputs_is known.head_is.frames_is
     in
     omega (arith, known, all-inputs, c.requires.most_signals_in_bounds)
 
@@ -31,12 +31,13 @@ returns-then-source c =
     well _ _ c.requires.by_index.1
     in
     let all-inputs : c.args.source.frames * c.args.source.inputs ≡ all_inputs (sourced c.args.source c.requires.by_index.0) =
-    inputs_are _ _ _ (known).head_is.inputs_is (known).head_is.frames_is
+    inputs_are _ _ _ known.head_is.inputs_is known.head_is.frames_is
     in
     let O = is_whole _ _ c.requires.by_index.1 c.if-source.true in
     let own : c.args.source.own.base ≡ c.args.source.base = ap (λ (h : Head). h.base) O.own_is in
-    own_inputs_whole c.args.source _ _ c.if-source.true (omega (arith, (known).head_is.base_is, all-inputs)) c.store_inputs.ensures.frames
+    own_inputs_whole c.args.source _ _ c.if-source.true (omega (arith, own, known.head_is.base_is, all-inputs)) c.store_inputs.ensures.frames
 
+-- ---- a network
 pub loop-i-init : goal.loop-i-init
 loop-i-init c =
     (omega arith, refl, placed-none c.args.source c.args.latest.now (omega (arith, c.requires.most_signals_in_bounds)))
@@ -53,7 +54,7 @@ output_frame-requires c =
     let P = of-turn in omega (arith, P.places_in c.loop-i.i (omega (arith, c.loop-i-test.true, P.network.head_is.base_is)), P.sizes.bits-to)
     in
     record {
-      le_outputs = omega (arith, (of-turn).sizes, inside);
+      le_outputs = omega (arith, of-turn.sizes, inside);
       not_after = not_after_first _ _;
     }
 
@@ -73,7 +74,7 @@ loop-i-preserved c =
     in (
       omega (arith, c.loop-i-test.true),
       length-set c.loop-i.latest (1 + c.loop-i.i) c.output_frame.result ∙ c.loop-i.invariant.1,
-      placed-more c.args.source c.loop-i.latest c.loop-i.i c.output_frame.result (room) c.loop-i.invariant.2 c.output_frame.ensures.frame,
+      placed-more c.args.source c.loop-i.latest c.loop-i.i c.output_frame.result room c.loop-i.invariant.2 c.output_frame.ensures.frame,
     )
 
 pub returns : goal.returns
