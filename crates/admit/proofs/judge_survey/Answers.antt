@@ -7,7 +7,6 @@ use Rattle.source.specs.Source.{head_of, sourced}
 use Rattle.source.proofs.Sources.{well}
 use Rattle.admit.specs.Admit.{agreed_on}
 use Rattle.admit.proofs.Judged.{bytes_are, judges_refused, judges_counted}
-use borrow.Author.Rules.{rules}
 use Rattle.admit.proofs.judge_survey.Goals as goal
 
 pub returns-then-place-source : goal.returns-then-place-source

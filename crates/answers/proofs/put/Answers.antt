@@ -4,7 +4,6 @@ use mathlib.Core.Path.{ap, ◌∙◌}
 use Rattle.verdict.specs.declared.Figures.{Figures}
 use Rattle.answers.specs.Answer.{verdict_numbers, filled}
 use Rattle.answers.proofs.Laws.{fills}
-use borrow.Author.Rules.{rules}
 use Rattle.answers.proofs.put.Goals as goal
 
 pub returns : goal.returns

@@ -4,7 +4,6 @@ use native.Mathlib.Omega.{arith}
 use lib.ListN.{length-set}
 use Rattle.answers.specs.Answer.{layer_numbers}
 use Rattle.answers.proofs.Laws.{fills}
-use borrow.Author.Rules.{rules}
 use Rattle.answers.proofs.put_layer.Goals as goal
 
 pub bounds-answer-1 : goal.bounds-answer-1

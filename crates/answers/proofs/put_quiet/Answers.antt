@@ -6,7 +6,6 @@ use lib.ListN.{length-set}
 use Rattle.steps.specs.declared.StepFigures.{StepFigures}
 use Rattle.answers.specs.Answer.{quiet_numbers, filled}
 use Rattle.answers.proofs.Laws.{fills}
-use borrow.Author.Rules.{rules}
 use Rattle.answers.proofs.put_quiet.Goals as goal
 
 pub bounds-answer-1 : goal.bounds-answer-1

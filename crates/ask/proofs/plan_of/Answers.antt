@@ -3,7 +3,6 @@
 use Rattle.source.specs.Source.{sourced}
 use Rattle.source.proofs.Sources.{well}
 use Rattle.ask.proofs.Plans.{plan_is}
-use borrow.Author.Rules.{rules}
 use Rattle.ask.proofs.plan_of.Goals as goal
 
 pub bytes_needed-bytes-requires : goal.bytes_needed-bytes-requires

@@ -1,11 +1,10 @@
 -- `refine::collect_words` meets its contract. The invariant: the paths of the candidates so far are stored, and `next` is the next number.
 -- Assumes nothing.
 use mathlib.Core.Path.{◌≡◌, sym, ap, ◌∙◌}
-use Prim.Native.Nat.{◌+◌, ◌*◌, ◌^◌, ◌-◌, ◌≤◌, ◌<◌}
+use Prim.Native.Nat.{◌+◌, ◌*◌, ◌^◌, ◌≤◌, ◌<◌}
 use native.Mathlib.Nat.{add-zero}
 use native.Mathlib.Omega.{arith}
 use lib.ListN.{length, get_or}
-use Rattle.refine.specs.Collecting.{Collecting}
 use Rattle.refine.proofs.Collecting.{collect_new, collect_old, word_in, word_short, word_path}
 use Rattle.refine.proofs.collect_words.Goals as goal
 use Rattle.refine.proofs.collect_words.Goals.{then-scratch-first, else-scratch-first}
@@ -137,7 +136,7 @@ loop-w-preserved c =
     let n : c.args.rows.numbers + (k + c.loop-w.w) ≡ c.args.rows.numbers + k + c.loop-w.w = omega arith in
     let q = ap (λ j. get_or c.loop-w.scratch j 0) n in
     elim c.if-scratch-first.branch [
-      then-scratch-first t ↦
+      | then-scratch-first t ↦
           let p = word_path c.args.scratch.now c.args.rows c.args.from c.args.fan c.args.bits c.args.state c.loop-w.w c.requires.collectable c.requires.state_bound (omega arith) in
           (omega arith, rw (t.scratch-is, t.next-is) (collect_new c.args.scratch.now c.loop-w.scratch c.args.rows c.args.from c.args.fan c.args.bits (k + c.loop-w.w) c.loop-w.next c.requires.collectable inside c.loop-w.invariant.1 (q ∙ t.if-scratch-first.true) _ _ p e))
       | else-scratch-first t ↦

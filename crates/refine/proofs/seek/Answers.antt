@@ -1,15 +1,14 @@
 -- `refine::seek` meets its contract. The invariants: what is passed of the bucket is not the same as c; the parts of g's and c's rows so far are
 -- equal.
 -- Assumes nothing.
-use mathlib.Core.Path.{◌≡◌}
-use Prim.Native.Nat.{ℕ, ◌+◌, ◌*◌, ◌-◌, ◌≤◌, ◌<◌}
+use Prim.Native.Nat.{◌+◌, ◌*◌, ◌-◌, ◌≤◌, ◌<◌}
 use native.Mathlib.Nat.{le_refl}
 use native.Mathlib.Numerals.{add-one}
 use native.Mathlib.Omega.{arith}
 use lib.ListN.{length, get_or}
 use Rattle.layered.proofs.Search.{below_suc}
 use Rattle.refine.specs.Buckets.{test_in, hash_in}
-use Rattle.refine.proofs.Buckets.{Hashed, Walk, walk_from, walk_ended, walk_falls, walk_on, walk_found}
+use Rattle.refine.proofs.Buckets.{Hashed, walk_from, walk_ended, walk_falls, walk_on, walk_found}
 use Rattle.refine.proofs.Same.{row_hashed}
 use Rattle.refine.proofs.Refining.{row_fits, numbers_differ, parts_differ, all_same}
 use Rattle.refine.proofs.seek.Goals as goal

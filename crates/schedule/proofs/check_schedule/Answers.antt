@@ -1,7 +1,6 @@
 -- `schedule::check_schedule` meets its contract: each stage is the definition's.
 -- Assumes nothing.
 use native.Mathlib.Omega.{arith}
-use borrow.Author.Rules.{rules}
 use Rattle.verdict.proofs.Laws.{stop, go_on, accepts}
 use Rattle.sizes.specs.Limits.{most_inputs, most_bits}
 use Rattle.sizes.proofs.Laws.{sized}

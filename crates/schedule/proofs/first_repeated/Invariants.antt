@@ -1,18 +1,11 @@
 -- `schedule::first_repeated` meets its contract. The invariant: no item before item k is the same as an earlier one.
 -- Assumes nothing.
-use mathlib.Core.Path.{◌≡◌, sym, ◌∙◌}
+use mathlib.Core.Path.{◌≡◌}
 use mathlib.Core.Bool.{false}
-use Prim.Native.Nat.{ℕ, ◌-◌, ◌≤◌, ◌<◌}
-use native.Mathlib.Omega.{arith}
-use lib.ListN.{length}
-use Rattle.layered.proofs.Search.{least_is, below_suc}
+use Prim.Native.Nat.{ℕ, ◌≤◌, ◌<◌}
 use Rattle.spreading.specs.Spread.{is_repeated}
 use Rattle.schedule.proofs.first_repeated.Given as goal
 
 abbrev pub invariant-loop-k : goal.invariant-loop-k
 invariant-loop-k l =
     (l.k ≤ l.all) × ((i : ℕ) → i < l.k → is_repeated l.list i ≡ false)
-
-abbrev pub decreases-loop-k : goal.decreases-loop-k
-decreases-loop-k l =
-    l.all - l.k

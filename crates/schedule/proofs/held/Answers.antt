@@ -1,10 +1,8 @@
 -- `schedule::held` meets its contract. The invariant: the items before item k are stored.
 -- Assumes nothing.
-use mathlib.Core.Path.{◌≡◌, refl}
-use Prim.Native.Nat.{ℕ, ◌-◌, ◌≤◌, ◌<◌}
+use mathlib.Core.Path.{refl}
 use native.Mathlib.Omega.{arith}
-use lib.ListN.{length, get_or, length-set}
-use Rattle.sizes.specs.Limits.{most_bits}
+use lib.ListN.{length-set}
 use Rattle.schedule.proofs.Lists.{held_more}
 use Rattle.schedule.proofs.held.Goals as goal
 

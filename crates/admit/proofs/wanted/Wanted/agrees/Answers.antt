@@ -3,7 +3,6 @@
 use mathlib.Core.Path.{ap, ◌∙◌}
 use Rattle.layered.specs.Search.{equal}
 use Rattle.admit.proofs.Judged.{agrees_any, agrees_none, agrees_list}
-use borrow.Author.Rules.{rules}
 use Rattle.admit.proofs.wanted.Wanted.agrees.Goals as goal
 
 pub returns-then-self : goal.returns-then-self

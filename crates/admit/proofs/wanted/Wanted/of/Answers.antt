@@ -1,9 +1,8 @@
 -- `admit::wanted::Wanted::of` meets its contract. The invariant: the list begins with the numbers so far.
 -- Assumes nothing.
 use mathlib.Core.Path.{◌≡◌, refl}
-use Prim.Native.Nat.{◌-◌, ◌≤◌}
 use native.Mathlib.Omega.{arith}
-use lib.ListN.{length, take, length-set}
+use lib.ListN.{length, length-set}
 use Rattle.admit.proofs.Judged.{wanted_none, wanted_list, copied, all_copied}
 use Rattle.admit.proofs.wanted.Wanted.of.Goals as goal
 

@@ -1,14 +1,10 @@
 -- `ask::plan::Plan::numbers` meets its contract. The invariant: the sizes and the counts so far stand in front.
 -- Assumes nothing.
-use mathlib.Core.Path.{◌≡◌, refl, sym, ap, ap₂, ◌∙◌}
-use mathlib.Core.List.{List, [], ◌∷◌, ◌++◌}
-use Prim.Native.Nat.{ℕ, suc, ◌+◌, ◌-◌, ◌≤◌}
-use native.Mathlib.Numerals.{add-one}
-use native.Mathlib.Omega.{arith}
-use lib.ListN.{length, get_or, set, take, length-set}
-use lib.Seq.{take-suc, take-suc-set, take_all}
+use mathlib.Core.Path.{◌≡◌}
+use mathlib.Core.List.{List, ◌∷◌}
+use Prim.Native.Nat.{ℕ, ◌+◌, ◌≤◌}
+use lib.ListN.{length, take}
 use Rattle.ask.specs.declared.plan.Plan.{Plan}
-use borrow.Author.Rules.{rules}
 use Rattle.ask.proofs.plan.Plan.numbers.Given as goal
 
 -- the sizes, and the counts of the layers below t
@@ -18,7 +14,3 @@ front p counts t = p.inputs ∷ p.outputs ∷ p.frames ∷ take t counts
 abbrev pub invariant-loop-t : goal.invariant-loop-t
 invariant-loop-t l =
     (l.t ≤ 17) × (length l.numbers ≡ 21) × (take (3 + l.t) l.numbers ≡ front l.self l.counts l.t)
-
-abbrev pub decreases-loop-t : goal.decreases-loop-t
-decreases-loop-t l =
-    17 - l.t
