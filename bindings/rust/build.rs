@@ -24,7 +24,7 @@ fn main() {
 /// A relative TFF_LIB_DIR counts from this package's folder, as the default does.
 fn library_folder() -> PathBuf {
     let package = PathBuf::from(env::var_os("CARGO_MANIFEST_DIR").expect("set by cargo"));
-    let given = env::var_os("TFF_LIB_DIR").unwrap_or_else(|| "../../target/staticlib".into());
+    let given = env::var_os("TFF_LIB_DIR").unwrap_or_else(|| "../../crates/tff/out".into());
     let folder = package.join(given);
     folder.canonicalize().unwrap_or(folder)
 }

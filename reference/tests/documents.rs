@@ -19,13 +19,14 @@ fn read(file: &Path) -> String {
     fs::read_to_string(file).unwrap_or_else(|error| panic!("{}: {error}", file.display()))
 }
 
-/// The crates in the order of `crates.txt`, which has a line `NAME: DEPENDENCY ..` for each.
+/// The crates in the order of `crates.txt`, which has a line `NAME: DEPENDENCY ..` for each; behind
+/// the name of a static library stands the word `staticlib`.
 fn crates() -> Vec<Crate> {
     read(&root().join("crates.txt"))
         .lines()
         .filter_map(|line| line.split('#').next()?.split_once(':'))
         .map(|(name, dependencies)| Crate {
-            name: name.trim().to_string(),
+            name: name.trim().trim_end_matches(" staticlib").to_string(),
             dependencies: dependencies.split_whitespace().map(String::from).collect(),
         })
         .collect()
@@ -84,13 +85,15 @@ fn sorted(block: &str) -> Vec<&str> {
     lines
 }
 
-/// All code and proofs in a folder, comments left out.
+/// All code and proofs in a folder, comments left out, and what the check keeps in `out`.
 fn code(folder: &Path) -> String {
     let mut text = String::new();
     for entry in fs::read_dir(folder).expect("each crate has a folder") {
         let path = entry.expect("an entry").path();
         if path.is_dir() {
-            text += &code(&path);
+            if !path.ends_with("out") {
+                text += &code(&path);
+            }
         } else if let Some(comment) = comment_mark(&path) {
             for line in read(&path).lines() {
                 text += line.split(comment).next().unwrap_or_default();
@@ -110,13 +113,13 @@ fn comment_mark(file: &Path) -> Option<&'static str> {
     }
 }
 
-/// Whether `code` names a crate: `NAME::`, or `Rattle·NAME` in a proof.
+/// Whether `code` names a crate: `NAME::`, or `Rattle.NAME` in a clause or a proof.
 fn mentions(code: &str, name: &str) -> bool {
     let in_word = |letter: char| letter.is_alphanumeric() || letter == '_';
     code.match_indices(name).any(|(at, _)| {
         let (before, after) = (&code[..at], &code[at + name.len()..]);
         let called = after.starts_with("::") && !before.ends_with(in_word);
-        let cited = before.ends_with("Rattle·") && !after.starts_with(in_word);
+        let cited = before.ends_with("Rattle.") && !after.starts_with(in_word);
         called || cited
     })
 }

@@ -25,7 +25,7 @@ use root::root;
 /// The C program in the file `source` of the repository, compiled.
 fn compiled(source: &str) -> PathBuf {
     let library = env::var_os("TFF_LIB_DIR").map_or_else(
-        || root().join("target/staticlib"),
+        || root().join("crates/tff/out"),
         |given| root().join("bindings/rust").join(given),
     );
     let source = root().join(source);

@@ -17,7 +17,7 @@ use root::root;
 
 /// What the built program writes for `input`.
 fn run_program(input: &[u8]) -> String {
-    written(&mut Command::new(root().join("target/bin/folding")), input)
+    written(&mut Command::new(root().join("crates/folding/out/folding")), input)
 }
 
 fn compare(input: &[u8]) {

@@ -51,7 +51,7 @@ each_alone b count words before p e k h before' room =
     let c = both_parts b count words (length before) p e in
     let F : SequencesFed n T count words (length before) p = all_fed n T count words (length before) p c.2 in
     let own : List ℕ = sequence_at T words k in
-    let fed : Fed n T own = fed_at n T count words F.All-words k h in
+    let fed : Fed n T own = fed_at n T count words F.all_words k h in
     let alone : simulated b 1 own (length before') ≡ answer 0 T = alone_accepted b own (length before') c.0 c.1 fed room in (
       alone,
       outputs_in b count words before p e k h,

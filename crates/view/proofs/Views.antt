@@ -91,7 +91,7 @@ module _ (b d : List ℕ) (mask : ℕ) (C : Comparable b d) where
   -- they are judged alike
   judged_alike : (words : List ℕ) (room : ℕ) → viewed b mask words room ≡ viewed d mask words room
   unfolding viewed
-  judged_alike words room = rw (C.IsFirst-passes, C.second_passes, C.same_inputs, C.same-outputs, C.same-frames)
+  judged_alike words room = rw (C.first_passes, C.second_passes, C.same_inputs, C.same-outputs, C.same-frames)
 
   -- and where they agree in masked bits on the words of an accepted view, it shows the same
   pub look_alike : (words before : List ℕ) → (Words (2 ^ inputs b) (frames b) words → AgreeOn b d mask words) → LookAlike b d mask words before
@@ -120,7 +120,7 @@ module _ (b d : List ℕ) (mask : ℕ) (C : Comparable b d) where
   accepts : mask < 2 ^ outputs b → (c before : List ℕ) → Words (2 ^ inputs b) (frames b) c → length before ≡ frames b → viewed b mask c (length before) ≡ answer 0 (frames b)
   unfolding viewed mask_checked
   accepts h c before W l =
-      rw (C.IsFirst-passes, lt-leb (2 ^ outputs b) mask h, l)
+      rw (C.first_passes, lt-leb (2 ^ outputs b) mask h, l)
       (sequence_passes (inputs b) (frames b) c (frames b) (record { as_many = words-length W; below = words-at W }) (le_refl (frames b)))
 
   -- where they look alike, they agree in masked bits

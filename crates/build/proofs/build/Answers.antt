@@ -1,7 +1,7 @@
 -- `build::build` meets its contract: how the loop over the signals begins, goes on and ends.
 -- Assumes nothing.
-use mathlib.Core.Path.{◌≡◌, ◌∙◌}
-use Prim.Native.Nat.{◌+◌, ◌-◌, ◌<◌}
+use mathlib.Core.Path.{◌∙◌}
+use Prim.Native.Nat.{◌+◌, ◌<◌}
 use native.Mathlib.Omega.{arith}
 use Rattle.circuit.specs.Circuit.{gates, all_inputs}
 use Rattle.source.specs.Source.{sourced}

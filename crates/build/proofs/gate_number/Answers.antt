@@ -1,5 +1,4 @@
 use Rattle.build.proofs.Laws.{number_input, number_gate}
-use borrow.Author.Rules.{rules}
 use Rattle.build.proofs.gate_number.Goals as goal
 
 -- src/lib.rt:71:9

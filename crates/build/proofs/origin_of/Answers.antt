@@ -5,7 +5,6 @@ use Rattle.circuit.specs.WellFormed.{WellFormed}
 use Rattle.source.specs.Source.{head_of, sourced}
 use Rattle.source.proofs.Sources.{well}
 use Rattle.build.proofs.Laws.{origin_input, origin_gate}
-use borrow.Author.Rules.{rules}
 use Rattle.build.proofs.origin_of.Goals as goal
 
 pub overflow_add-s : goal.overflow_add-s

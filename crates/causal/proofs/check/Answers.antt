@@ -27,7 +27,7 @@ of-requires c =
     let known : Formed c.args.circuit.now =
     formed _ c.in-Accepted.field-0 (accepts c.check_form-judged.result _ c.in-Accepted.field-0 c.check_form-judged.ensures c.in-Accepted.is)
     in
-    (known).head
+    known.head
 
 pub check_look_ahead-requires : goal.check_look_ahead-requires
 unfolding form_checked form_within
@@ -35,7 +35,7 @@ check_look_ahead-requires c =
     let known : Formed c.args.circuit.now =
     formed _ c.in-Accepted.field-0 (accepts c.check_form-judged.result _ c.in-Accepted.field-0 c.check_form-judged.ensures c.in-Accepted.is)
     in
-    whole_source _ _ (known) c.of.ensures
+    whole_source _ _ known c.of.ensures
 
 pub returns : goal.returns
 unfolding checked form_checked

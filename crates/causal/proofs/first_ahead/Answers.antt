@@ -24,21 +24,15 @@ use Rattle.causal.proofs.first_ahead.Goals as goal
 
 pub overflow_sub-source : goal.overflow_sub-source
 overflow_sub-source c =
-    let b₁ : List ℕ =
-        sourced c.args.source c.args.circuit.now
-    in
-    let known : WellFormed ((sourced c.args.source c.args.circuit.now)) (head_of c.args.source) =
-        well _ _ c.requires.source_of
+    let known : WellFormed (sourced c.args.source c.args.circuit.now) (head_of c.args.source) =
+    well _ _ c.requires.source_of
     in
     omega (arith, known)
 
 pub power-count-requires : goal.power-count-requires
 power-count-requires c =
-    let b₁ : List ℕ =
-        sourced c.args.source c.args.circuit.now
-    in
-    let known : WellFormed ((sourced c.args.source c.args.circuit.now)) (head_of c.args.source) =
-        well _ _ c.requires.source_of
+    let known : WellFormed (sourced c.args.source c.args.circuit.now) (head_of c.args.source) =
+    well _ _ c.requires.source_of
     in
     omega (arith, known)
 
@@ -56,17 +50,13 @@ first_uses-firsts-requires c =
 
 pub loop-at-init : goal.loop-at-init
 loop-at-init c =
-    let b₁ : List ℕ =
-        sourced c.args.source c.args.circuit.now
-    in
-    let known : WellFormed ((sourced c.args.source c.args.circuit.now)) (head_of c.args.source) =
-        well _ _ c.requires.source_of
+    let known : WellFormed (sourced c.args.source c.args.circuit.now) (head_of c.args.source) =
+    well _ _ c.requires.source_of
     in
     let b = (sourced c.args.source c.args.circuit.now) in
     let p = known in
     let all : c.args.source.base - 1 ≡ all_inputs b = omega (arith, p) in
-
-    let count : c.power-count.result ≡ 2 ^ all_inputs b = c.power-count.ensures ∙ ap (λ c.power-count. 2 ^ c.power-count) all in (
+    let count : c.power-count.result ≡ 2 ^ all_inputs b = c.power-count.ensures ∙ ap (λ k. 2 ^ k) all in (
       refl,
       rw count (pow_mono {j = 16} p.headed.inputs-to),
       count,
@@ -88,16 +78,16 @@ slice_bounds-store_signals-end-in-loop-at-2 c =
 
 pub store_signals-requires : goal.store_signals-requires
 store_signals-requires c =
-    let W = own_well _ _ (c).requires.0 in
+    let W = own_well _ _ c.requires.source_of in
     record {
-        well_formed = W;
-        t_bound = (omega (arith, W), search rules, search rules, omega (arith, c.loop-at.invariant.3));
-        first_uses = (c.loop-at.invariant.7, c.loop-at.invariant.8);
+      well_formed = W;
+      t_bound = (omega (arith, W), search rules, search rules, omega (arith, c.loop-at.invariant.3));
+      first_uses = (c.loop-at.invariant.7, c.loop-at.invariant.8);
     }
 
 pub slice_bounds-first_differing-end : goal.slice_bounds-first_differing-end
 slice_bounds-first_differing-end c =
-    sym (c.store_signals.auto.1.1.1.1.1.0 ∙ c.loop-at.invariant.3)
+    sym (c.store_signals.auto.lanes ∙ c.loop-at.invariant.3)
 
 pub slice_bounds-first_differing-end-in-loop-at-2 : goal.slice_bounds-first_differing-end-in-loop-at-2
 slice_bounds-first_differing-end-in-loop-at-2 c =
@@ -105,87 +95,52 @@ slice_bounds-first_differing-end-in-loop-at-2 c =
 
 pub first_differing-found-requires : goal.first_differing-found-requires
 first_differing-found-requires c =
-    let b₁ : List ℕ =
-        sourced c.args.source c.args.circuit.now
+    let known : WellFormed (sourced c.args.source c.args.circuit.now) (head_of c.args.source) =
+    well _ _ c.requires.source_of
     in
-    let known : WellFormed ((sourced c.args.source c.args.circuit.now)) (head_of c.args.source) =
-        well _ _ c.requires.source_of
-    in
-    let s = (c) in
-
-
-
-
-    let W = own_well _ _ s.pre.0 in
-    let lanes : length c.store_signals.new.1.1.1.1.1.0 ≡ most_signals = c.store_signals.auto.1.1.1.1.1.0 ∙ c.loop-at.invariant.3 in record {
-        source_of = s.pre.0;
-        lane_count_value = (c.loop-at.invariant.0, c.loop-at.invariant.5.low, c.loop-at.invariant.5.high);
-        most_signals_in_bounds = (omega arith, omega (arith, c.loop-at.invariant.4), c.shown_signals-shown.ensures);
-        outputs = outputs_played _ _ c.own_bits-bits.result c.shown_signals-shown.result c.own_bits-bits.ensures c.shown_signals-shown.ensures c.loop-at.at _ (omega (arith, c.loop-at.invariant.0, c.loop-at.invariant.1, c.loop-at-test.true)) c.store_signals.new.1.1.1.1.1.0 W.head_is.frames_is
-                (c.store_signals.ensures.signals _ c.neighbours-numbers.ensures) s.pre.0 (λ q h. output_few (sourced c.args.source c.args.circuit.now) (known s).headed (head_of s.args.source) (known s).head_is q h);
-        firsts = c.loop-at.invariant.6;
+    let W = own_well _ _ c.requires.source_of in
+    let lanes : length c.store_signals.new.lanes ≡ most_signals = c.store_signals.auto.lanes ∙ c.loop-at.invariant.3 in record {
+      source_of = c.requires.source_of;
+      lane_count_value = (c.loop-at.invariant.0, c.loop-at.invariant.5.low, c.loop-at.invariant.5.high);
+      most_signals_in_bounds = (omega arith, omega (arith, c.loop-at.invariant.4), c.shown_signals-shown.ensures);
+      outputs = outputs_played _ _ c.own_bits-bits.result c.shown_signals-shown.result c.own_bits-bits.ensures c.shown_signals-shown.ensures c.loop-at.at _ (omega (arith, c.loop-at.invariant.0, c.loop-at.invariant.1, c.loop-at-test.true)) c.store_signals.new.lanes W.head_is.frames_is
+          (c.store_signals.ensures.signals _ c.neighbours-numbers.ensures) c.requires.source_of (λ q h. output_few (sourced c.args.source c.args.circuit.now) known.headed (head_of c.args.source) known.head_is q h);
+      firsts = c.loop-at.invariant.6;
     }
 
 pub returns-then-found-from : goal.returns-then-found-from
 returns-then-found-from c =
-    let b₁ : List ℕ =
-        sourced c.args.source c.args.circuit.now
+    let known : WellFormed (sourced c.args.source c.args.circuit.now) (head_of c.args.source) =
+    well _ _ c.requires.source_of
     in
-    let known : WellFormed ((sourced c.args.source c.args.circuit.now)) (head_of c.args.source) =
-        well _ _ c.requires.source_of
+    let on : Pass (sourced c.args.source c.args.circuit.now) c.args.from c.first_differing-found.result (c.loop-at.at + lane_count) =
+    pass_more (sourced c.args.source c.args.circuit.now) known.headed c.args.from c.loop-at.found c.loop-at.at c.first_differing-found.result c.loop-at.invariant.5 c.first_differing-found.ensures.first_differing
     in
-    let start : tie.Start invariant-loop decreases-loop =
-        c
-    in
-    let b₀ : List ℕ =
-        b₁ ((c))
-    in
-    let on : Pass ((b₁ ((c)))) ((c)).args.from c.first_differing-found.result (c.loop-at.at + lane_count) =
-        pass_more ((b₁ ((c)))) (known ((c))).headed ((c)).args.from c.loop-at.found c.loop-at.at c.first_differing-found.result c.loop-at.invariant.5 c.first_differing-found.ensures.first_differing
-    in
-    pass_early (sourced c.args.source c.args.circuit.now) (known).headed (c).args.from (c).pre.1.1 c.first_differing-found.result _ (omega (arith, c.if-found-from.true)) (on)
-
-pub loop-at-smaller : goal.loop-at-smaller
-loop-at-smaller c =
-    omega (arith, c)
+    pass_early (sourced c.args.source c.args.circuit.now) known.headed c.args.from c.requires.by_index c.first_differing-found.result _ (omega (arith, c.if-found-from.true)) on
 
 pub loop-at-preserved : goal.loop-at-preserved
 loop-at-preserved c =
-    let b₁ : List ℕ =
-        sourced c.args.source c.args.circuit.now
+    let known : WellFormed (sourced c.args.source c.args.circuit.now) (head_of c.args.source) =
+    well _ _ c.requires.source_of
     in
-    let known : WellFormed ((sourced c.args.source c.args.circuit.now)) (head_of c.args.source) =
-        well _ _ c.requires.source_of
+    let on : Pass (sourced c.args.source c.args.circuit.now) c.args.from c.first_differing-found.result (c.loop-at.at + lane_count) =
+    pass_more (sourced c.args.source c.args.circuit.now) known.headed c.args.from c.loop-at.found c.loop-at.at c.first_differing-found.result c.loop-at.invariant.5 c.first_differing-found.ensures.first_differing
     in
-    let start : tie.Start invariant-loop decreases-loop =
-        c
-    in
-    let b₀ : List ℕ =
-        b₁ ((c))
-    in
-    let on : Pass ((b₁ ((c)))) ((c)).args.from c.first_differing-found.result (c.loop-at.at + lane_count) =
-        pass_more ((b₁ ((c)))) (known ((c))).headed ((c)).args.from c.loop-at.found c.loop-at.at c.first_differing-found.result c.loop-at.invariant.5 c.first_differing-found.ensures.first_differing
-    in
-    let s = (c) in
-
     let e : c.loop-at.at ≡ c.loop-at.at + lane_count - lane_count = omega arith in (
       omega (arith, c.loop-at.invariant.0),
       c.loop-at.invariant.1,
       c.loop-at.invariant.2,
-      c.store_signals.auto.1.1.1.1.1.0 ∙ c.loop-at.invariant.3,
-      c.first_differing-found.auto.1.1.1.1.1.0 ∙ c.loop-at.invariant.4,
+      c.store_signals.auto.lanes ∙ c.loop-at.invariant.3,
+      c.first_differing-found.auto.kept ∙ c.loop-at.invariant.4,
       on,
-      λ h. subst (λ at. Firsts (sourced c.args.source c.args.circuit.now) at c.first_differing-found.new.1.1.1.1.1.0 s.args.from c.first_differing-found.result) e c.first_differing-found.ensures.firsts_2,
+      λ h. subst (λ at. Firsts (sourced c.args.source c.args.circuit.now) at c.first_differing-found.new.kept c.args.from c.first_differing-found.result) e c.first_differing-found.ensures.firsts_2,
       c.loop-at.invariant.7,
       c.store_signals.ensures.ready,
     )
 
 pub returns : goal.returns
 returns c =
-    let b₁ : List ℕ =
-        sourced c.args.source c.args.circuit.now
+    let known : WellFormed (sourced c.args.source c.args.circuit.now) (head_of c.args.source) =
+    well _ _ c.requires.source_of
     in
-    let known : WellFormed ((sourced c.args.source c.args.circuit.now)) (head_of c.args.source) =
-        well _ _ c.requires.source_of
-    in
-    pass_end (sourced c.args.source c.args.circuit.now) (known).headed c.args.from c.requires.by_index c.loop-at.found c.loop-at.at _ c.loop-at.invariant.2 (omega arith) c.loop-at.invariant.5
+    pass_end (sourced c.args.source c.args.circuit.now) known.headed c.args.from c.requires.by_index c.loop-at.found c.loop-at.at _ c.loop-at.invariant.2 (omega arith) c.loop-at.invariant.5

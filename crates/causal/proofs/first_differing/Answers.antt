@@ -37,374 +37,200 @@ loop-q-init c = (
 
 pub output_frame-frame-requires : goal.output_frame-frame-requires
 output_frame-frame-requires c =
-    let b₀ : List ℕ =
-    sourced c.args.source c.args.circuit.now
-    in
-    let s₀ : Head =
-    head_of c.args.source
-    in
-    let q₁ : ℕ =
-    c.loop-q.q
-    in
-    let headed : CircuitHeaded ((sourced c.args.source c.args.circuit.now)) =
+    let headed : CircuitHeaded (sourced c.args.source c.args.circuit.now) =
     (well _ _ c.requires.source_of).headed
     in
-    let of-head : HeadOf ((sourced c.args.source c.args.circuit.now)) ((head_of c.args.source)) =
+    let of-head : HeadOf (sourced c.args.source c.args.circuit.now) (head_of c.args.source) =
     (well _ _ c.requires.source_of).head_is
     in
-    let inside : (c.loop-q.q) < all_outputs ((sourced c.args.source c.args.circuit.now)) =
+    let inside : c.loop-q.q < all_outputs (sourced c.args.source c.args.circuit.now) =
     omega (arith, c, c.requires.lane_count_value)
     in
-    omega (arith, of-head, headed, c.loop-q.invariant, output_few (sourced c.args.source c.args.circuit.now) (headed) (head_of c.args.source) (of-head) (c.loop-q.q) (inside))
-    -- TODO fields ['le_outputs', 'not_after']
+    record {
+      le_outputs = omega (arith, of-head, headed, output_few (sourced c.args.source c.args.circuit.now) headed (head_of c.args.source) of-head c.loop-q.q inside);
+      not_after = c.loop-q.invariant.6;
+    }
 
 -- once the frame is found: the turn
 pub overflow_sub-later : goal.overflow_sub-later
 overflow_sub-later c =
-    let b₀ : List ℕ =
-    sourced c.args.source c.args.circuit.now
-    in
-    let s₀ : Head =
-    head_of c.args.source
-    in
-    let q₁ : ℕ =
-    c.loop-q.q
-    in
-    let headed : CircuitHeaded ((sourced c.args.source c.args.circuit.now)) =
+    let headed : CircuitHeaded (sourced c.args.source c.args.circuit.now) =
     (well _ _ c.requires.source_of).headed
     in
-    let of-head : HeadOf ((sourced c.args.source c.args.circuit.now)) ((head_of c.args.source)) =
+    let of-head : HeadOf (sourced c.args.source c.args.circuit.now) (head_of c.args.source) =
     (well _ _ c.requires.source_of).head_is
     in
-    let inside : (c.loop-q.q) < all_outputs ((sourced c.args.source c.args.circuit.now)) =
+    let inside : c.loop-q.q < all_outputs (sourced c.args.source c.args.circuit.now) =
     omega (arith, c, c.requires.lane_count_value)
     in
-    frame_in (sourced c.args.source c.args.circuit.now) (headed) (head_of c.args.source) (of-head) (c.loop-q.q) (inside) c.output_frame-frame.result c.output_frame-frame.ensures.frame
+    frame_in (sourced c.args.source c.args.circuit.now) headed (head_of c.args.source) of-head c.loop-q.q inside c.output_frame-frame.result c.output_frame-frame.ensures.frame
 
 pub offset_bounds-shown-q : goal.offset_bounds-shown-q
 offset_bounds-shown-q c =
-    let b₀ : List ℕ =
-    sourced c.args.source c.args.circuit.now
-    in
-    let s₀ : Head =
-    head_of c.args.source
-    in
-    let q₁ : ℕ =
-    c.loop-q.q
-    in
-    let headed : CircuitHeaded ((sourced c.args.source c.args.circuit.now)) =
-    (well _ _ c.requires.source_of).headed
-    in
-    let of-head : HeadOf ((sourced c.args.source c.args.circuit.now)) ((head_of c.args.source)) =
-    (well _ _ c.requires.source_of).head_is
-    in
-    let inside : (c.loop-q.q) < all_outputs ((sourced c.args.source c.args.circuit.now)) =
-    omega (arith, c, c.requires.lane_count_value)
-    in
-    omega (arith, output_few (sourced c.args.source c.args.circuit.now) (headed) (head_of c.args.source) (of-head) (c.loop-q.q) (inside))
+    let W = well _ _ c.requires.source_of in
+    omega (arith, output_few (sourced c.args.source c.args.circuit.now) W.headed (head_of c.args.source) W.head_is c.loop-q.q (omega (arith, c, c.requires.lane_count_value)))
+
+pub offset_bounds-kept-q : goal.offset_bounds-kept-q
+offset_bounds-kept-q c =
+    let W = well _ _ c.requires.source_of in
+    omega (arith, output_few (sourced c.args.source c.args.circuit.now) W.headed (head_of c.args.source) W.head_is c.loop-q.q (omega (arith, c, c.requires.lane_count_value)))
+
+pub offset_bounds-kept-q-in-loop-q : goal.offset_bounds-kept-q-in-loop-q
+offset_bounds-kept-q-in-loop-q c =
+    let W = well _ _ c.requires.source_of in
+    omega (arith, output_few (sourced c.args.source c.args.circuit.now) W.headed (head_of c.args.source) W.head_is c.loop-q.q (omega (arith, c, c.requires.lane_count_value)))
 
 pub bounds-shown-q : goal.bounds-shown-q
 bounds-shown-q c =
-    let b₀ : List ℕ =
-    sourced c.args.source c.args.circuit.now
-    in
-    let s₀ : Head =
-    head_of c.args.source
-    in
-    let q₁ : ℕ =
-    c.loop-q.q
-    in
-    let headed : CircuitHeaded ((sourced c.args.source c.args.circuit.now)) =
+    let headed : CircuitHeaded (sourced c.args.source c.args.circuit.now) =
     (well _ _ c.requires.source_of).headed
     in
-    let of-head : HeadOf ((sourced c.args.source c.args.circuit.now)) ((head_of c.args.source)) =
+    let of-head : HeadOf (sourced c.args.source c.args.circuit.now) (head_of c.args.source) =
     (well _ _ c.requires.source_of).head_is
     in
-    let inside : (c.loop-q.q) < all_outputs ((sourced c.args.source c.args.circuit.now)) =
+    let inside : c.loop-q.q < all_outputs (sourced c.args.source c.args.circuit.now) =
     omega (arith, c, c.requires.lane_count_value)
     in
-    omega (arith, output_few (sourced c.args.source c.args.circuit.now) (headed) (head_of c.args.source) (of-head) (c.loop-q.q) (inside), c.requires.most_signals_in_bounds.2.as_many)
-
-pub offset_bounds-lanes-shown : goal.offset_bounds-lanes-shown
-offset_bounds-lanes-shown c =
-    let b₀ : List ℕ =
-    sourced c.args.source c.args.circuit.now
-    in
-    let s₀ : Head =
-    head_of c.args.source
-    in
-    let q₁ : ℕ =
-    c.loop-q.q
-    in
-    let headed : CircuitHeaded ((sourced c.args.source c.args.circuit.now)) =
-    (well _ _ c.requires.source_of).headed
-    in
-    let of-head : HeadOf ((sourced c.args.source c.args.circuit.now)) ((head_of c.args.source)) =
-    (well _ _ c.requires.source_of).head_is
-    in
-    let inside : (c.loop-q.q) < all_outputs ((sourced c.args.source c.args.circuit.now)) =
-    omega (arith, c, c.requires.lane_count_value)
-    in
-    let signal-in : get_or c.args.shown.now ((c.loop-q.q)) 0 < most_signals =
-    (c.requires.most_signals_in_bounds.2.are ((c.loop-q.q)) (output_few ((sourced c.args.source c.args.circuit.now)) (headed) ((head_of c.args.source)) (of-head) ((c.loop-q.q)) (inside))).1
-    in
-    omega (arith, signal-in)
+    omega (arith, output_few (sourced c.args.source c.args.circuit.now) headed (head_of c.args.source) of-head c.loop-q.q inside, c.requires.most_signals_in_bounds.2.as_many)
 
 pub bounds-lanes-shown : goal.bounds-lanes-shown
 bounds-lanes-shown c =
-    let b₀ : List ℕ =
-    sourced c.args.source c.args.circuit.now
-    in
-    let s₀ : Head =
-    head_of c.args.source
-    in
-    let q₁ : ℕ =
-    c.loop-q.q
-    in
-    let headed : CircuitHeaded ((sourced c.args.source c.args.circuit.now)) =
+    let headed : CircuitHeaded (sourced c.args.source c.args.circuit.now) =
     (well _ _ c.requires.source_of).headed
     in
-    let of-head : HeadOf ((sourced c.args.source c.args.circuit.now)) ((head_of c.args.source)) =
+    let of-head : HeadOf (sourced c.args.source c.args.circuit.now) (head_of c.args.source) =
     (well _ _ c.requires.source_of).head_is
     in
-    let inside : (c.loop-q.q) < all_outputs ((sourced c.args.source c.args.circuit.now)) =
+    let inside : c.loop-q.q < all_outputs (sourced c.args.source c.args.circuit.now) =
     omega (arith, c, c.requires.lane_count_value)
     in
-    let signal-in : get_or c.args.shown.now ((c.loop-q.q)) 0 < most_signals =
-    (c.requires.most_signals_in_bounds.2.are ((c.loop-q.q)) (output_few ((sourced c.args.source c.args.circuit.now)) (headed) ((head_of c.args.source)) (of-head) ((c.loop-q.q)) (inside))).1
+    let signal-in : get_or c.args.shown.now c.loop-q.q 0 < most_signals =
+    (c.requires.most_signals_in_bounds.2.are c.loop-q.q (output_few (sourced c.args.source c.args.circuit.now) headed (head_of c.args.source) of-head c.loop-q.q inside)).1
     in
     omega (arith, signal-in, c.requires.most_signals_in_bounds.0)
 
 pub overflow_mul-source : goal.overflow_mul-source
 overflow_mul-source c =
-    let b₀ : List ℕ =
-    sourced c.args.source c.args.circuit.now
-    in
-    let s₀ : Head =
-    head_of c.args.source
-    in
-    let q₁ : ℕ =
-    c.loop-q.q
-    in
-    let headed : CircuitHeaded ((sourced c.args.source c.args.circuit.now)) =
+    let headed : CircuitHeaded (sourced c.args.source c.args.circuit.now) =
     (well _ _ c.requires.source_of).headed
     in
-    let of-head : HeadOf ((sourced c.args.source c.args.circuit.now)) ((head_of c.args.source)) =
+    let of-head : HeadOf (sourced c.args.source c.args.circuit.now) (head_of c.args.source) =
     (well _ _ c.requires.source_of).head_is
     in
-    let inside : (c.loop-q.q) < all_outputs ((sourced c.args.source c.args.circuit.now)) =
+    let inside : c.loop-q.q < all_outputs (sourced c.args.source c.args.circuit.now) =
     omega (arith, c, c.requires.lane_count_value)
     in
-    omega (arith, later_to (sourced c.args.source c.args.circuit.now) (headed) (head_of c.args.source) (of-head) (c.loop-q.q) (inside) c.output_frame-frame.result c.output_frame-frame.ensures.frame)
-
-pub offset_bounds-kept-q : goal.offset_bounds-kept-q
-offset_bounds-kept-q c =
-    let b₀ : List ℕ =
-    sourced c.args.source c.args.circuit.now
-    in
-    let s₀ : Head =
-    head_of c.args.source
-    in
-    let q₁ : ℕ =
-    c.loop-q.q
-    in
-    let headed : CircuitHeaded ((sourced c.args.source c.args.circuit.now)) =
-    (well _ _ c.requires.source_of).headed
-    in
-    let of-head : HeadOf ((sourced c.args.source c.args.circuit.now)) ((head_of c.args.source)) =
-    (well _ _ c.requires.source_of).head_is
-    in
-    let inside : (c.loop-q.q) < all_outputs ((sourced c.args.source c.args.circuit.now)) =
-    omega (arith, c, c.requires.lane_count_value)
-    in
-    omega (arith, output_few (sourced c.args.source c.args.circuit.now) (headed) (head_of c.args.source) (of-head) (c.loop-q.q) (inside))
+    omega (arith, later_to (sourced c.args.source c.args.circuit.now) headed (head_of c.args.source) of-head c.loop-q.q inside c.output_frame-frame.result c.output_frame-frame.ensures.frame)
 
 pub bounds-kept-q : goal.bounds-kept-q
 bounds-kept-q c =
-    let b₀ : List ℕ =
-    sourced c.args.source c.args.circuit.now
-    in
-    let s₀ : Head =
-    head_of c.args.source
-    in
-    let q₁ : ℕ =
-    c.loop-q.q
-    in
-    let headed : CircuitHeaded ((sourced c.args.source c.args.circuit.now)) =
+    let headed : CircuitHeaded (sourced c.args.source c.args.circuit.now) =
     (well _ _ c.requires.source_of).headed
     in
-    let of-head : HeadOf ((sourced c.args.source c.args.circuit.now)) ((head_of c.args.source)) =
+    let of-head : HeadOf (sourced c.args.source c.args.circuit.now) (head_of c.args.source) =
     (well _ _ c.requires.source_of).head_is
     in
-    let inside : (c.loop-q.q) < all_outputs ((sourced c.args.source c.args.circuit.now)) =
+    let inside : c.loop-q.q < all_outputs (sourced c.args.source c.args.circuit.now) =
     omega (arith, c, c.requires.lane_count_value)
     in
-    let room : (c.loop-q.q) < length c.loop-q.auto =
-    omega (arith, output_few ((sourced c.args.source c.args.circuit.now)) (headed) ((head_of c.args.source)) (of-head) ((c.loop-q.q)) (inside), c.loop-q.invariant.2, c.requires)
+    let room : c.loop-q.q < length c.loop-q.kept =
+    omega (arith, output_few (sourced c.args.source c.args.circuit.now) headed (head_of c.args.source) of-head c.loop-q.q inside, c.loop-q.invariant.2, c.requires)
     in
     room
 
 pub first_of_blocks-due-requires : goal.first_of_blocks-due-requires
 first_of_blocks-due-requires c =
-    let b₀ : List ℕ =
-    sourced c.args.source c.args.circuit.now
-    in
-    let s₀ : Head =
-    head_of c.args.source
-    in
-    let q₁ : ℕ =
-    c.loop-q.q
-    in
-    let headed : CircuitHeaded ((sourced c.args.source c.args.circuit.now)) =
+    let headed : CircuitHeaded (sourced c.args.source c.args.circuit.now) =
     (well _ _ c.requires.source_of).headed
     in
-    let of-head : HeadOf ((sourced c.args.source c.args.circuit.now)) ((head_of c.args.source)) =
+    let of-head : HeadOf (sourced c.args.source c.args.circuit.now) (head_of c.args.source) =
     (well _ _ c.requires.source_of).head_is
     in
-    let inside : (c.loop-q.q) < all_outputs ((sourced c.args.source c.args.circuit.now)) =
+    let inside : c.loop-q.q < all_outputs (sourced c.args.source c.args.circuit.now) =
     omega (arith, c, c.requires.lane_count_value)
     in
-    (later_to (sourced c.args.source c.args.circuit.now) (headed) (head_of c.args.source) (of-head) (c.loop-q.q) (inside) c.output_frame-frame.result c.output_frame-frame.ensures.frame, c.requires.lane_count_value.0)
+    (later_to (sourced c.args.source c.args.circuit.now) headed (head_of c.args.source) of-head c.loop-q.q inside c.output_frame-frame.result c.output_frame-frame.ensures.frame, c.requires.lane_count_value.0)
 
 pub returns-then-seen-due : goal.returns-then-seen-due
 unfolding Firsts Outputs
 returns-then-seen-due c =
-    let b₀ : List ℕ =
-    sourced c.args.source c.args.circuit.now
-    in
-    let s₀ : Head =
-    head_of c.args.source
-    in
-    let q₁ : ℕ =
-    c.loop-q.q
-    in
-    let headed : CircuitHeaded ((sourced c.args.source c.args.circuit.now)) =
+    let headed : CircuitHeaded (sourced c.args.source c.args.circuit.now) =
     (well _ _ c.requires.source_of).headed
     in
-    let of-head : HeadOf ((sourced c.args.source c.args.circuit.now)) ((head_of c.args.source)) =
+    let of-head : HeadOf (sourced c.args.source c.args.circuit.now) (head_of c.args.source) =
     (well _ _ c.requires.source_of).head_is
     in
-    let inside : (c.loop-q.q) < all_outputs ((sourced c.args.source c.args.circuit.now)) =
+    let inside : c.loop-q.q < all_outputs (sourced c.args.source c.args.circuit.now) =
     omega (arith, c, c.requires.lane_count_value)
     in
-    let signal : ℕ =
-    get_or c.args.shown.now ((c.loop-q.q)) 0
+    let seen : Holds (get_or c.args.lanes.now (get_or c.args.shown.now c.loop-q.q 0) 0) c.args.at (output_on (sourced c.args.source c.args.circuit.now) c.loop-q.q) =
+    c.requires.outputs c.loop-q.q inside
     in
-    let seen : Holds (get_or c.args.lanes.now ((get_or c.args.shown.now ((c.loop-q.q)) 0)) 0) c.args.at (output_on ((sourced c.args.source c.args.circuit.now)) ((c.loop-q.q))) =
-    c.requires.outputs ((c.loop-q.q)) (inside)
-    in
-    let due : Holds c.first_of_blocks-due.result c.args.at (λ x. output_on ((sourced c.args.source c.args.circuit.now)) ((c.loop-q.q)) (block_start (later_inputs ((sourced c.args.source c.args.circuit.now)) ((c.loop-q.q))) x)) =
-    due_holds ((sourced c.args.source c.args.circuit.now)) c.args.at ((c.loop-q.q)) _ _ c.first_of_blocks-due.result _
-    (later_is ((sourced c.args.source c.args.circuit.now)) (headed) ((head_of c.args.source)) (of-head) ((c.loop-q.q)) (inside) c.output_frame-frame.result c.output_frame-frame.ensures.frame) (seen)
-    (λ p. c.loop-q.invariant.5 p ((c.loop-q.q)) (omega arith) (omega (arith, c)))
+    let due : Holds c.first_of_blocks-due.result c.args.at (λ x. output_on (sourced c.args.source c.args.circuit.now) c.loop-q.q (block_start (later_inputs (sourced c.args.source c.args.circuit.now) c.loop-q.q) x)) =
+    due_holds (sourced c.args.source c.args.circuit.now) c.args.at c.loop-q.q _ _ c.first_of_blocks-due.result _
+    (later_is (sourced c.args.source c.args.circuit.now) headed (head_of c.args.source) of-head c.loop-q.q inside c.output_frame-frame.result c.output_frame-frame.ensures.frame) seen
+    (λ p. c.loop-q.invariant.5 p c.loop-q.q (omega arith) (omega (arith, c)))
     c.first_of_blocks-due.ensures
     in
-    let fits : get_or c.args.lanes.now (get_or c.args.shown.now (c.loop-q.q) 0) 0 < 2 ^ lane_count = omega (arith, c.type_inv.lanes (get_or c.args.shown.now (c.loop-q.q) 0)) in
+    let fits : get_or c.args.lanes.now (get_or c.args.shown.now c.loop-q.q 0) 0 < 2 ^ lane_count = omega (arith, c.type_inv.lanes (get_or c.args.shown.now c.loop-q.q 0)) in
     let fits-2 : c.first_of_blocks-due.result < 2 ^ lane_count = omega (arith, c.first_of_blocks-due) in record {
       first_differing = record {
         r_from = c.loop-q.invariant.0;
         r-to = c.loop-q.invariant.1;
         before = c.loop-q.invariant.3;
-        there = λ h. part_apart (sourced c.args.source c.args.circuit.now) c.args.at (c.loop-q.q) _ _ (seen) (due) fits fits-2 c.if-seen-due.true;
+        there = λ h. part_apart (sourced c.args.source c.args.circuit.now) c.args.at c.loop-q.q _ _ seen due fits fits-2 c.if-seen-due.true;
       };
       firsts_2 = c.loop-q.invariant.4;
     }
 
-pub offset_bounds-kept-q-in-loop-q : goal.offset_bounds-kept-q-in-loop-q
-offset_bounds-kept-q-in-loop-q c =
-    let b₀ : List ℕ =
-    sourced c.args.source c.args.circuit.now
-    in
-    let s₀ : Head =
-    head_of c.args.source
-    in
-    let q₁ : ℕ =
-    c.loop-q.q
-    in
-    let headed : CircuitHeaded ((sourced c.args.source c.args.circuit.now)) =
-    (well _ _ c.requires.source_of).headed
-    in
-    let of-head : HeadOf ((sourced c.args.source c.args.circuit.now)) ((head_of c.args.source)) =
-    (well _ _ c.requires.source_of).head_is
-    in
-    let inside : (c.loop-q.q) < all_outputs ((sourced c.args.source c.args.circuit.now)) =
-    omega (arith, c, c.requires.lane_count_value)
-    in
-    omega (arith, output_few (sourced c.args.source c.args.circuit.now) (headed) (head_of c.args.source) (of-head) (c.loop-q.q) (inside))
-
 pub bounds-kept-q-in-loop-q : goal.bounds-kept-q-in-loop-q
 bounds-kept-q-in-loop-q c =
-    let b₀ : List ℕ =
-    sourced c.args.source c.args.circuit.now
-    in
-    let s₀ : Head =
-    head_of c.args.source
-    in
-    let q₁ : ℕ =
-    c.loop-q.q
-    in
-    let headed : CircuitHeaded ((sourced c.args.source c.args.circuit.now)) =
+    let headed : CircuitHeaded (sourced c.args.source c.args.circuit.now) =
     (well _ _ c.requires.source_of).headed
     in
-    let of-head : HeadOf ((sourced c.args.source c.args.circuit.now)) ((head_of c.args.source)) =
+    let of-head : HeadOf (sourced c.args.source c.args.circuit.now) (head_of c.args.source) =
     (well _ _ c.requires.source_of).head_is
     in
-    let inside : (c.loop-q.q) < all_outputs ((sourced c.args.source c.args.circuit.now)) =
+    let inside : c.loop-q.q < all_outputs (sourced c.args.source c.args.circuit.now) =
     omega (arith, c, c.requires.lane_count_value)
     in
-    let room : (c.loop-q.q) < length c.loop-q.auto =
-    omega (arith, output_few ((sourced c.args.source c.args.circuit.now)) (headed) ((head_of c.args.source)) (of-head) ((c.loop-q.q)) (inside), c.loop-q.invariant.2, c.requires)
+    let room : c.loop-q.q < length c.loop-q.kept =
+    omega (arith, output_few (sourced c.args.source c.args.circuit.now) headed (head_of c.args.source) of-head c.loop-q.q inside, c.loop-q.invariant.2, c.requires)
     in
     room
-
-pub loop-q-smaller : goal.loop-q-smaller
-loop-q-smaller c =
-    omega (arith, c)
 
 pub loop-q-preserved : goal.loop-q-preserved
 unfolding Firsts Outputs
 loop-q-preserved c =
-    let b₀ : List ℕ =
-    sourced c.args.source c.args.circuit.now
-    in
-    let s₀ : Head =
-    head_of c.args.source
-    in
-    let q₁ : ℕ =
-    c.loop-q.q
-    in
-    let headed : CircuitHeaded ((sourced c.args.source c.args.circuit.now)) =
+    let headed : CircuitHeaded (sourced c.args.source c.args.circuit.now) =
     (well _ _ c.requires.source_of).headed
     in
-    let of-head : HeadOf ((sourced c.args.source c.args.circuit.now)) ((head_of c.args.source)) =
+    let of-head : HeadOf (sourced c.args.source c.args.circuit.now) (head_of c.args.source) =
     (well _ _ c.requires.source_of).head_is
     in
-    let inside : (c.loop-q.q) < all_outputs ((sourced c.args.source c.args.circuit.now)) =
+    let inside : c.loop-q.q < all_outputs (sourced c.args.source c.args.circuit.now) =
     omega (arith, c, c.requires.lane_count_value)
     in
-    let room : (c.loop-q.q) < length c.loop-q.auto =
-    omega (arith, output_few ((sourced c.args.source c.args.circuit.now)) (headed) ((head_of c.args.source)) (of-head) ((c.loop-q.q)) (inside), c.loop-q.invariant.2, c.requires)
+    let room : c.loop-q.q < length c.loop-q.kept =
+    omega (arith, output_few (sourced c.args.source c.args.circuit.now) headed (head_of c.args.source) of-head c.loop-q.q inside, c.loop-q.invariant.2, c.requires)
     in
-    let signal : ℕ =
-    get_or c.args.shown.now ((c.loop-q.q)) 0
+    let seen : Holds (get_or c.args.lanes.now (get_or c.args.shown.now c.loop-q.q 0) 0) c.args.at (output_on (sourced c.args.source c.args.circuit.now) c.loop-q.q) =
+    c.requires.outputs c.loop-q.q inside
     in
-    let seen : Holds (get_or c.args.lanes.now ((get_or c.args.shown.now ((c.loop-q.q)) 0)) 0) c.args.at (output_on ((sourced c.args.source c.args.circuit.now)) ((c.loop-q.q))) =
-    c.requires.outputs ((c.loop-q.q)) (inside)
-    in
-    let due : Holds c.first_of_blocks-due.result c.args.at (λ x. output_on ((sourced c.args.source c.args.circuit.now)) ((c.loop-q.q)) (block_start (later_inputs ((sourced c.args.source c.args.circuit.now)) ((c.loop-q.q))) x)) =
-    due_holds ((sourced c.args.source c.args.circuit.now)) c.args.at ((c.loop-q.q)) _ _ c.first_of_blocks-due.result _
-    (later_is ((sourced c.args.source c.args.circuit.now)) (headed) ((head_of c.args.source)) (of-head) ((c.loop-q.q)) (inside) c.output_frame-frame.result c.output_frame-frame.ensures.frame) (seen)
-    (λ p. c.loop-q.invariant.5 p ((c.loop-q.q)) (omega arith) (omega (arith, c)))
+    let due : Holds c.first_of_blocks-due.result c.args.at (λ x. output_on (sourced c.args.source c.args.circuit.now) c.loop-q.q (block_start (later_inputs (sourced c.args.source c.args.circuit.now) c.loop-q.q) x)) =
+    due_holds (sourced c.args.source c.args.circuit.now) c.args.at c.loop-q.q _ _ c.first_of_blocks-due.result _
+    (later_is (sourced c.args.source c.args.circuit.now) headed (head_of c.args.source) of-head c.loop-q.q inside c.output_frame-frame.result c.output_frame-frame.ensures.frame) seen
+    (λ p. c.loop-q.invariant.5 p c.loop-q.q (omega arith) (omega (arith, c)))
     c.first_of_blocks-due.ensures
     in
-    let q = (c.loop-q.q) in (
+    let q = c.loop-q.q in (
       omega (arith, c.loop-q.invariant),
       omega (arith, c),
       simp length-set c.loop-q.invariant.2,
       λ j lo hi.
           below_suc {P = λ j. c.args.from ≤ j → part_as_first (sourced c.args.source c.args.circuit.now) c.args.at j ≡ true} {n = q} (λ j h lo. c.loop-q.invariant.3 j lo h)
-          (λ _. part_same (sourced c.args.source c.args.circuit.now) c.args.at q _ _ (seen) (due) c.if-seen-due.false) j (omega arith) lo,
-      firsts_more (sourced c.args.source c.args.circuit.now) c.args.at c.loop-q.kept q c.first_of_blocks-due.result c.args.from (room) c.loop-q.invariant.4 (due),
+          (λ _. part_same (sourced c.args.source c.args.circuit.now) c.args.at q _ _ seen due c.if-seen-due.false) j (omega arith) lo,
+      firsts_more (sourced c.args.source c.args.circuit.now) c.args.at c.loop-q.kept q c.first_of_blocks-due.result c.args.from room c.loop-q.invariant.4 due,
       λ p. firsts_rest (sourced c.args.source c.args.circuit.now) (c.args.at - lane_count) c.loop-q.kept q c.first_of_blocks-due.result c.args.found (c.loop-q.invariant.5 p),
       not_after_next _ c.output_frame-frame.result q c.output_frame-frame.ensures.only.0,
     )

@@ -3,7 +3,7 @@
 use mathlib.Core.Path.{◌≡◌, ap, ap₂, ◌∙◌}
 use mathlib.Core.Bool.{cond}
 use mathlib.Core.List.{List}
-use Prim.Native.Nat.{ℕ, suc, ◌+◌, ◌*◌, ◌-◌, ◌/◌, ◌^◌, ◌≤◌}
+use Prim.Native.Nat.{ℕ, suc, ◌+◌, ◌*◌, ◌-◌, ◌/◌, ◌^◌, ◌≤◌, ◌<◌}
 use native.Mathlib.Nat.{mul-le-mul}
 use native.Mathlib.Omega.{arith}
 use borrow.Author.Rules.{rules}
@@ -20,309 +20,129 @@ use Rattle.unfolded.specs.Counted.{ones, frame_needs}
 use Rattle.table.proofs.Parts.{count_in, part_is, part_in, part_length}
 use Rattle.counting.proofs.Needs.{cond_most, ones_are}
 use Rattle.counting.proofs.frame_needs.Goals as goal
+use Rattle.counting.proofs.frame_needs.Goals.{Start}
+
+-- the entry: the table, its layout and its sizes
+abbrev b₀ : Start → List ℕ
+b₀ s = s.args.table.now
+
+lay : (s : Start) → Laid (b₀ s) s.args.layout
+lay s = laid (b₀ s) s.args.layout s.requires.table_headed s.requires.layout_value.0
+
+outputs_are : (s : Start) → s.args.sizes.outputs ≡ outputs (b₀ s)
+outputs_are s = ap (λ (z : Sizes). z.outputs) s.requires.layout_value.1
+
+inputs_are : (s : Start) → s.args.sizes.inputs ≡ inputs (b₀ s)
+inputs_are s = ap (λ (z : Sizes). z.inputs) s.requires.layout_value.1
+
+matches-few : (s : Start) → s.args.layout.words * s.args.sizes.inputs ≤ 2048
+matches-few s = let h : s.args.sizes.inputs ≤ 8 = omega (arith, inputs_are s, s.requires.table_headed.sized) in mul-le-mul (lay s).words-to h
+
+-- how many edges there are, where the layer has n states
+module _ (s : Start) (n : ℕ) (en : (n ≡ states (b₀ s) s.args.t) × (n < 65536)) where
+  edges_are : n * s.args.layout.words ≡ states (b₀ s) s.args.t * 2 ^ inputs (b₀ s)
+  edges_are = ap₂ ◌*◌ en.0 (lay s).words_is
+
+  edges_few : n * s.args.layout.words ≤ 16777216
+  edges_few = row_small _ _ en.1 (lay s).words-to
+
+  -- the layer's part, with m entries below it
+  module _ (m : ℕ) (em : (m ≡ entries_below (b₀ s) s.args.t) × (m ≤ 268435456)) where
+    from_is : s.args.layout.outputs + 2 * m ≡ outputs_at (b₀ s) + 2 * entries_below (b₀ s) s.args.t
+    from_is = λ i. (lay s).outputs_is i + 2 * em.0 i
+
+    within : s.args.layout.outputs + 2 * m + 2 * (n * s.args.layout.words) ≤ length (b₀ s)
+    within = omega (arith, from_is, edges_are, lay s, part_in (b₀ s) (outputs_at (b₀ s)) s.args.t (omega (arith, lay s)) s.requires.layout_value.2)
+
+    -- what is passed on
+    abbrev part : List ℕ
+    part =
+        let from : ℕ = s.args.layout.outputs + 2 * m in
+        take (from + 2 * (n * s.args.layout.words) - from) (drop from (b₀ s))
+
+    part-whole : part ≡ layer_part (b₀ s) (outputs_at (b₀ s)) s.args.t
+    part-whole = part_is (b₀ s) _ _ _ _ from_is (ap (λ (k : ℕ). s.args.layout.outputs + 2 * m + 2 * k) edges_are)
+
+    part-few : length part ≤ 33554432
+    part-few = omega (arith, edges_few, edges_are, ap length part-whole, part_length (b₀ s) (outputs_at (b₀ s)) s.args.t (omega (arith, lay s)) s.requires.layout_value.2)
+
+    -- the bits 1 in it
+    ones_is : (z : ℕ) → z ≡ total (length part / 2) (λ e. tally s.args.sizes.outputs (bit (word_at part (2 * e)))) → z ≡ ones (b₀ s) s.args.t
+    ones_is z ez =
+        ez
+        ∙ (λ i. total (length (part-whole i) / 2) (λ e. tally (outputs_are s i) (bit (word_at (part-whole i) (2 * e)))))
+        ∙ ones_are (b₀ s) s.args.t (omega (arith, lay s)) s.requires.layout_value.2
+
+  -- the edges that are gathered into next states
+  module _ (g : ℕ) (eg : g ≡ cond (ltb (suc s.args.t) s.args.layout.frames) (n * s.args.layout.words) 0) where
+    gathered-few : g ≤ 16777216
+    gathered-few = rw eg (cond_most (ltb (suc s.args.t) s.args.layout.frames) edges_few)
+
+    entering-is : g ≡ cond (ltb (suc s.args.t) (frames (b₀ s))) (states (b₀ s) s.args.t * 2 ^ inputs (b₀ s)) 0
+    entering-is = eg ∙ (λ i. cond (ltb (suc s.args.t) ((lay s).frames_is i)) (edges_are i) 0)
+
+-- ---- the answers
 
 pub states_of-requires : goal.states_of-requires
-states_of-requires c =
-    count_in (c.args.table.now) c.requires.table_headed c.args.t (omega (arith, c.requires.layout_value.2))
+states_of-requires c = count_in c.args.table.now c.requires.table_headed c.args.t (omega (arith, c.requires.layout_value.2))
 
 pub overflow_mul-edges : goal.overflow_mul-edges
-overflow_mul-edges c =
-    let b₀ : List ℕ =
-    c.args.table.now
-    in
-    let lay : Laid ((c.args.table.now)) c.args.layout =
-    laid ((c.args.table.now)) c.args.layout c.requires.table_headed c.requires.layout_value.0
-    in
-    let edges_few : c.states_of.result * c.args.layout.words ≤ 16777216 =
-    row_small _ _ c.states_of.ensures.1 (lay).words-to
-    in
-    omega (arith, edges_few)
+overflow_mul-edges c = omega (arith, edges_few (goal.at.overflow_mul-edges c).Start _ c.states_of.ensures)
 
 pub entries_below-requires : goal.entries_below-requires
 entries_below-requires c =
-    let b₀ : List ℕ =
-    c.args.table.now
-    in
-    let lay : Laid ((c.args.table.now)) c.args.layout =
-    laid ((c.args.table.now)) c.args.layout c.requires.table_headed c.requires.layout_value.0
-    in
-    let l = lay in
-    record {
+    let l = lay (goal.at.entries_below-requires c).Start in record {
       words_value = (l.words_is, l.words-to);
-      layer_le_most_frames = (omega (arith, l.frames_is, c.requires.layout_value.2, l.frames-to), omega (arith, count_in (c.args.table.now) c.requires.table_headed c.args.t (omega (arith, c.requires.layout_value.2))));
+      layer_le_most_frames = (omega (arith, l.frames_is, c.requires.layout_value.2, l.frames-to), omega (arith, count_in c.args.table.now c.requires.table_headed c.args.t (omega (arith, c.requires.layout_value.2))));
     }
 
 pub overflow_add-from : goal.overflow_add-from
-overflow_add-from c =
-    let b₀ : List ℕ =
-    c.args.table.now
-    in
-    let lay : Laid ((c.args.table.now)) c.args.layout =
-    laid ((c.args.table.now)) c.args.layout c.requires.table_headed c.requires.layout_value.0
-    in
-    let edges_are : c.states_of.result * c.args.layout.words ≡ states ((c.args.table.now)) c.args.t * 2 ^ inputs ((c.args.table.now)) =
-    ap₂ ◌*◌ c.states_of.ensures.0 (lay).words_is
-    in
-    let s₂ : tie.Start =
-    s₁ c
-    in
-    let from_is : ((s₁ c)).args.layout.outputs + 2 * c.entries_below.result ≡ outputs_at (b₀ ((s₁ c))) + 2 * entries_below (b₀ ((s₁ c))) ((s₁ c)).args.t =
-    λ i. (lay ((s₁ c))).outputs_is i + 2 * c.entries_below.ensures.0 i
-    in
-    let within : ((s₁ c)).args.layout.outputs + 2 * c.entries_below.result + 2 * (c.states_of.result * ((s₁ c)).args.layout.words) ≤ length (b₀ ((s₁ c))) =
-    let s = (s₁ c) in
-    omega (arith, from_is, edges_are, lay s, part_in (b₀ s) (outputs_at (b₀ s)) s.args.t (omega (arith, lay s)) s.pre.1.2)
-    in
-    omega (arith, within, (s₁ c).well_formed)
+overflow_add-from c = omega (arith, within (goal.at.overflow_add-from c).Start _ c.states_of.ensures _ c.entries_below.ensures, c.well_formed)
 
 pub overflow_mul-to : goal.overflow_mul-to
-overflow_mul-to c =
-    let b₀ : List ℕ =
-    c.args.table.now
-    in
-    let lay : Laid ((c.args.table.now)) c.args.layout =
-    laid ((c.args.table.now)) c.args.layout c.requires.table_headed c.requires.layout_value.0
-    in
-    let edges_few : c.states_of.result * c.args.layout.words ≤ 16777216 =
-    row_small _ _ c.states_of.ensures.1 (lay).words-to
-    in
-    omega (arith, edges_few)
+overflow_mul-to c = omega (arith, edges_few (goal.at.overflow_mul-to c).Start _ c.states_of.ensures)
 
 pub overflow_add-to : goal.overflow_add-to
-overflow_add-to c =
-    let b₀ : List ℕ =
-    c.args.table.now
-    in
-    let lay : Laid ((c.args.table.now)) c.args.layout =
-    laid ((c.args.table.now)) c.args.layout c.requires.table_headed c.requires.layout_value.0
-    in
-    let edges_are : c.states_of.result * c.args.layout.words ≡ states ((c.args.table.now)) c.args.t * 2 ^ inputs ((c.args.table.now)) =
-    ap₂ ◌*◌ c.states_of.ensures.0 (lay).words_is
-    in
-    let s₂ : tie.Start =
-    s₁ c
-    in
-    let from_is : ((s₁ c)).args.layout.outputs + 2 * c.entries_below.result ≡ outputs_at (b₀ ((s₁ c))) + 2 * entries_below (b₀ ((s₁ c))) ((s₁ c)).args.t =
-    λ i. (lay ((s₁ c))).outputs_is i + 2 * c.entries_below.ensures.0 i
-    in
-    let within : ((s₁ c)).args.layout.outputs + 2 * c.entries_below.result + 2 * (c.states_of.result * ((s₁ c)).args.layout.words) ≤ length (b₀ ((s₁ c))) =
-    let s = (s₁ c) in
-    omega (arith, from_is, edges_are, lay s, part_in (b₀ s) (outputs_at (b₀ s)) s.args.t (omega (arith, lay s)) s.pre.1.2)
-    in
-    omega (arith, within, (s₁ c).well_formed)
+overflow_add-to c = omega (arith, within (goal.at.overflow_add-to c).Start _ c.states_of.ensures _ c.entries_below.ensures, c.well_formed)
 
--- TODO no new goal for slice-bounds-ones-in-end
--- part-ones-in-end c =
---     let b₀ : List ℕ =
---         c.args.table.now
---     in
---     let lay : Laid ((c.args.table.now)) c.args.layout =
---         laid ((c.args.table.now)) c.args.layout c.requires.table_headed c.requires.layout_value.0
---     in
---     let edges_are : c.states_of.result * c.args.layout.words ≡ states ((c.args.table.now)) c.args.t * 2 ^ inputs ((c.args.table.now)) =
---         ap₂ ◌*◌ c.states_of.ensures.0 (lay).words_is
---     in
---     let s₂ : tie.Start =
---         s₁ c
---     in
---     let from_is : ((s₁ c)).args.layout.outputs + 2 * c.entries_below.result ≡ outputs_at (b₀ ((s₁ c))) + 2 * entries_below (b₀ ((s₁ c))) ((s₁ c)).args.t =
---         λ i. (lay ((s₁ c))).outputs_is i + 2 * c.entries_below.ensures.0 i
---     in
---     let within : ((s₁ c)).args.layout.outputs + 2 * c.entries_below.result + 2 * (c.states_of.result * ((s₁ c)).args.layout.words) ≤ length (b₀ ((s₁ c))) =
---         let s = (s₁ c) in
---     omega (arith, from_is, edges_are, lay s, part_in (b₀ s) (outputs_at (b₀ s)) s.args.t (omega (arith, lay s)) s.pre.1.2)
---     in
--- within
+pub slice_bounds-ones_in-end : goal.slice_bounds-ones_in-end
+slice_bounds-ones_in-end c = within (goal.at.slice_bounds-ones_in-end c).Start _ c.states_of.ensures _ c.entries_below.ensures
 
 pub ones_in-ones-requires : goal.ones_in-ones-requires
 ones_in-ones-requires c =
-    let b₀ : List ℕ =
-    c.args.table.now
-    in
-    let lay : Laid ((c.args.table.now)) c.args.layout =
-    laid ((c.args.table.now)) c.args.layout c.requires.table_headed c.requires.layout_value.0
-    in
-    let edges_are : c.states_of.result * c.args.layout.words ≡ states ((c.args.table.now)) c.args.t * 2 ^ inputs ((c.args.table.now)) =
-    ap₂ ◌*◌ c.states_of.ensures.0 (lay).words_is
-    in
-    let edges_few : c.states_of.result * c.args.layout.words ≤ 16777216 =
-    row_small _ _ c.states_of.ensures.1 (lay).words-to
-    in
-    let s₂ : tie.Start =
-    s₁ c
-    in
-    let from_is : ((s₁ c)).args.layout.outputs + 2 * c.entries_below.result ≡ outputs_at (b₀ ((s₁ c))) + 2 * entries_below (b₀ ((s₁ c))) ((s₁ c)).args.t =
-    λ i. (lay ((s₁ c))).outputs_is i + 2 * c.entries_below.ensures.0 i
-    in
-    let part : List ℕ =
-    let from : ℕ = ((s₁ c)).args.layout.outputs + 2 * c.entries_below.result in
-    take (from + 2 * (c.states_of.result * ((s₁ c)).args.layout.words) - from) (drop from (b₀ ((s₁ c))))
-    in
-    let part-whole : (let from : ℕ = ((s₁ c)).args.layout.outputs + 2 * c.entries_below.result in
-    take (from + 2 * (c.states_of.result * ((s₁ c)).args.layout.words) - from) (drop from (b₀ ((s₁ c))))) ≡ layer_part (b₀ ((s₁ c))) (outputs_at (b₀ ((s₁ c)))) ((s₁ c)).args.t =
-    part_is (b₀ ((s₁ c))) _ _ _ _ (from_is) (ap (λ (k : ℕ). ((s₁ c)).args.layout.outputs + 2 * c.entries_below.result + 2 * k) (edges_are))
-    in
-    let outputs_are : c.args.sizes.outputs ≡ outputs ((c.args.table.now)) =
-    ap (λ (z : Sizes). z.outputs) c.requires.layout_value.1
-    in
-    let s = (s₁ c) in (
-      omega (arith, outputs_are s, s.pre.0.sized),
-      omega (arith, edges_few, edges_are, ap length (part-whole), part_length (b₀ s) (outputs_at (b₀ s)) s.args.t (omega (arith, lay s)) s.pre.1.2),
-    )
+    let s = (goal.at.ones_in-ones-requires c).Start in
+    (omega (arith, outputs_are s, s.requires.table_headed.sized), part-few s _ c.states_of.ensures _ c.entries_below.ensures)
 
 pub gathered-entering-requires : goal.gathered-entering-requires
-gathered-entering-requires c =
-    let b₀ : List ℕ =
-    c.args.table.now
-    in
-    let lay : Laid ((c.args.table.now)) c.args.layout =
-    laid ((c.args.table.now)) c.args.layout c.requires.table_headed c.requires.layout_value.0
-    in
-    omega (arith, (lay).frames_is, c.requires.layout_value.2)
+gathered-entering-requires c = omega (arith, (lay (goal.at.gathered-entering-requires c).Start).frames_is, c.requires.layout_value.2)
 
 pub overflow_mul-result : goal.overflow_mul-result
-overflow_mul-result c =
-    let b₀ : List ℕ =
-    c.args.table.now
-    in
-    let lay : Laid ((c.args.table.now)) c.args.layout =
-    laid ((c.args.table.now)) c.args.layout c.requires.table_headed c.requires.layout_value.0
-    in
-    let inputs_are : c.args.sizes.inputs ≡ inputs ((c.args.table.now)) =
-    ap (λ (z : Sizes). z.inputs) c.requires.layout_value.1
-    in
-    let matches-few : c.args.layout.words * c.args.sizes.inputs ≤ 2048 =
-    let h : c.args.sizes.inputs ≤ 8 = omega (arith, inputs_are, c.requires.table_headed.sized) in mul-le-mul (lay).words-to h
-    in
-    omega (arith, matches-few (s₁ c))
+overflow_mul-result c = omega (arith, matches-few (goal.at.overflow_mul-result c).Start)
 
 pub overflow_add-result : goal.overflow_add-result
 overflow_add-result c =
-    let b₀ : List ℕ =
-    c.args.table.now
-    in
-    let lay : Laid ((c.args.table.now)) c.args.layout =
-    laid ((c.args.table.now)) c.args.layout c.requires.table_headed c.requires.layout_value.0
-    in
-    let edges_few : c.states_of.result * c.args.layout.words ≤ 16777216 =
-    row_small _ _ c.states_of.ensures.1 (lay).words-to
-    in
-    let s₂ : tie.Start =
-    s₁ c
-    in
-    let s₃ : tie.Start =
-    (s₁ c)
-    in
-    let gathered-few : c.gathered-entering.result ≤ 16777216 =
-    rw c.gathered-entering.ensures (cond_most (ltb (suc (((s₁ c))).args.t) (((s₁ c))).args.layout.frames) (edges_few))
-    in
-    omega (arith, gathered-few, c.ones_in-ones.ensures.1)
+    let s = (goal.at.overflow_add-result c).Start in
+    omega (arith, gathered-few s _ c.states_of.ensures _ c.gathered-entering.ensures, c.ones_in-ones.ensures.1)
 
 pub overflow_add-result-2 : goal.overflow_add-result-2
 overflow_add-result-2 c =
-    let b₀ : List ℕ =
-    c.args.table.now
-    in
-    let lay : Laid ((c.args.table.now)) c.args.layout =
-    laid ((c.args.table.now)) c.args.layout c.requires.table_headed c.requires.layout_value.0
-    in
-    let edges_few : c.states_of.result * c.args.layout.words ≤ 16777216 =
-    row_small _ _ c.states_of.ensures.1 (lay).words-to
-    in
-    let s₂ : tie.Start =
-    s₁ c
-    in
-    let s₃ : tie.Start =
-    (s₁ c)
-    in
-    let gathered-few : c.gathered-entering.result ≤ 16777216 =
-    rw c.gathered-entering.ensures (cond_most (ltb (suc (((s₁ c))).args.t) (((s₁ c))).args.layout.frames) (edges_few))
-    in
-    omega (arith, edges_few, gathered-few, c.ones_in-ones.ensures.1)
+    let s = (goal.at.overflow_add-result-2 c).Start in
+    omega (arith, edges_few s _ c.states_of.ensures, gathered-few s _ c.states_of.ensures _ c.gathered-entering.ensures, c.ones_in-ones.ensures.1)
 
 pub overflow_add-result-3 : goal.overflow_add-result-3
 overflow_add-result-3 c =
-    let b₀ : List ℕ =
-    c.args.table.now
-    in
-    let lay : Laid ((c.args.table.now)) c.args.layout =
-    laid ((c.args.table.now)) c.args.layout c.requires.table_headed c.requires.layout_value.0
-    in
-    let edges_few : c.states_of.result * c.args.layout.words ≤ 16777216 =
-    row_small _ _ c.states_of.ensures.1 (lay).words-to
-    in
-    let s₂ : tie.Start =
-    s₁ c
-    in
-    let inputs_are : c.args.sizes.inputs ≡ inputs ((c.args.table.now)) =
-    ap (λ (z : Sizes). z.inputs) c.requires.layout_value.1
-    in
-    let s₃ : tie.Start =
-    (s₁ c)
-    in
-    let gathered-few : c.gathered-entering.result ≤ 16777216 =
-    rw c.gathered-entering.ensures (cond_most (ltb (suc (((s₁ c))).args.t) (((s₁ c))).args.layout.frames) (edges_few))
-    in
-    let matches-few : c.args.layout.words * c.args.sizes.inputs ≤ 2048 =
-    let h : c.args.sizes.inputs ≤ 8 = omega (arith, inputs_are, c.requires.table_headed.sized) in mul-le-mul (lay).words-to h
-    in
-    omega (arith, matches-few (s₁ c), edges_few, gathered-few, c.ones_in-ones.ensures.1)
+    let s = (goal.at.overflow_add-result-3 c).Start in
+    omega (arith, matches-few s, edges_few s _ c.states_of.ensures, gathered-few s _ c.states_of.ensures _ c.gathered-entering.ensures, c.ones_in-ones.ensures.1)
 
 pub returns : goal.returns
 unfolding frame_needs
 returns c =
-    let b₀ : List ℕ =
-    c.args.table.now
-    in
-    let lay : Laid ((c.args.table.now)) c.args.layout =
-    laid ((c.args.table.now)) c.args.layout c.requires.table_headed c.requires.layout_value.0
-    in
-    let edges_are : c.states_of.result * c.args.layout.words ≡ states ((c.args.table.now)) c.args.t * 2 ^ inputs ((c.args.table.now)) =
-    ap₂ ◌*◌ c.states_of.ensures.0 (lay).words_is
-    in
-    let edges_few : c.states_of.result * c.args.layout.words ≤ 16777216 =
-    row_small _ _ c.states_of.ensures.1 (lay).words-to
-    in
-    let s₂ : tie.Start =
-    s₁ c
-    in
-    let from_is : ((s₁ c)).args.layout.outputs + 2 * c.entries_below.result ≡ outputs_at (b₀ ((s₁ c))) + 2 * entries_below (b₀ ((s₁ c))) ((s₁ c)).args.t =
-    λ i. (lay ((s₁ c))).outputs_is i + 2 * c.entries_below.ensures.0 i
-    in
-    let part : List ℕ =
-    let from : ℕ = ((s₁ c)).args.layout.outputs + 2 * c.entries_below.result in
-    take (from + 2 * (c.states_of.result * ((s₁ c)).args.layout.words) - from) (drop from (b₀ ((s₁ c))))
-    in
-    let part-whole : (let from : ℕ = ((s₁ c)).args.layout.outputs + 2 * c.entries_below.result in
-    take (from + 2 * (c.states_of.result * ((s₁ c)).args.layout.words) - from) (drop from (b₀ ((s₁ c))))) ≡ layer_part (b₀ ((s₁ c))) (outputs_at (b₀ ((s₁ c)))) ((s₁ c)).args.t =
-    part_is (b₀ ((s₁ c))) _ _ _ _ (from_is) (ap (λ (k : ℕ). ((s₁ c)).args.layout.outputs + 2 * c.entries_below.result + 2 * k) (edges_are))
-    in
-    let outputs_are : c.args.sizes.outputs ≡ outputs ((c.args.table.now)) =
-    ap (λ (z : Sizes). z.outputs) c.requires.layout_value.1
-    in
-    let inputs_are : c.args.sizes.inputs ≡ inputs ((c.args.table.now)) =
-    ap (λ (z : Sizes). z.inputs) c.requires.layout_value.1
-    in
-    let s₃ : tie.Start =
-    (s₁ c)
-    in
-    let ones_is : c.ones_in-ones.result ≡ ones (b₀ (((s₁ c)))) (((s₁ c))).args.t =
-    let s = ((s₁ c)) in
-    c.ones_in-ones.ensures.0
-    ∙ (λ i. total (length (part-whole i) / 2) (λ e. tally (outputs_are s i) (bit (word_at (part-whole i) (2 * e)))))
-    ∙ ones_are (b₀ s) s.args.t (omega (arith, lay s)) s.pre.1.2
-    in
-    let gathered-few : c.gathered-entering.result ≤ 16777216 =
-    rw c.gathered-entering.ensures (cond_most (ltb (suc (((s₁ c))).args.t) (((s₁ c))).args.layout.frames) (edges_few))
-    in
-    let entering-is : c.gathered-entering.result ≡ cond (ltb (suc (((s₁ c))).args.t) (frames (b₀ (((s₁ c)))))) (states (b₀ (((s₁ c)))) (((s₁ c))).args.t * 2 ^ inputs (b₀ (((s₁ c))))) 0 =
-    let s = ((s₁ c)) in c.gathered-entering.ensures ∙ (λ i. cond (ltb (suc s.args.t) ((lay s).frames_is i)) (edges_are i) 0)
-    in
-    let matches-few : c.args.layout.words * c.args.sizes.inputs ≤ 2048 =
-    let h : c.args.sizes.inputs ≤ 8 = omega (arith, inputs_are, c.requires.table_headed.sized) in mul-le-mul (lay).words-to h
-    in
-    let s = (s₁ c) in
-    let l = lay s in (
-      (λ i. l.words_is i * inputs_are s i + (edges_are i + (entering-is i + ones_is i))),
-      omega (arith, matches-few s, edges_few, gathered-few, c.ones_in-ones.ensures.1),
+    let s = (goal.at.returns c).Start in
+    let l = lay s in
+    let n = c.states_of.ensures in
+    let edges = edges_are s _ n in
+    let entering = entering-is s _ n _ c.gathered-entering.ensures in
+    let ones = ones_is s _ n _ c.entries_below.ensures _ c.ones_in-ones.ensures.0 in (
+      (λ i. l.words_is i * inputs_are s i + (edges i + (entering i + ones i))),
+      omega (arith, matches-few s, edges_few s _ n, gathered-few s _ n _ c.gathered-entering.ensures, c.ones_in-ones.ensures.1),
     )

@@ -1,7 +1,6 @@
 -- `counting::ones_of` meets its contract. The invariant: the bits 1 so far are counted.
 -- Assumes nothing.
 use mathlib.Core.Path.{◌≡◌, sym, ap, ◌∙◌}
-use mathlib.Core.Logic.{⊎_elim}
 use Prim.Native.Nat.{ℕ, ◌-◌, ◌≤◌}
 use native.Mathlib.Omega.{arith}
 use Rattle.circuit.specs.Lists.{bit}
@@ -9,6 +8,7 @@ use Rattle.layered.specs.Search.{tally}
 use Rattle.layered.proofs.Search.{tally_at_most}
 use Rattle.layered.proofs.Lists.{tally-next}
 use Rattle.counting.proofs.ones_of.Goals as goal
+use Rattle.counting.proofs.ones_of.Goals.{then-is_set, else-is_set}
 
 pub loop-j-init : goal.loop-j-init
 unfolding tally
@@ -33,10 +33,10 @@ overflow_step-j c =
 pub loop-j-preserved : goal.loop-j-preserved
 loop-j-preserved c =
     let p = bit c.args.word in
-    ⊎_elim
-    (λ w. (omega (arith, c.loop-j-test.true), w.1 ∙ omega (arith, c.loop-j.invariant.1, tally-next p c.loop-j.j _ (sym c.is_set.ensures ∙ w.0.taken))))
-    (λ w. (omega (arith, c.loop-j-test.true), w.1 ∙ omega (arith, c.loop-j.invariant.1, tally-next p c.loop-j.j _ (sym c.is_set.ensures ∙ w.0.left))))
-    c.if-is_set.branch
+    elim c.if-is_set.branch [
+      | then-is_set w ↦ (omega (arith, c.loop-j-test.true), w.ones-is ∙ omega (arith, c.loop-j.invariant.1, tally-next p c.loop-j.j _ (sym c.is_set.ensures ∙ w.if-is_set.true)))
+      | else-is_set w ↦ (omega (arith, c.loop-j-test.true), w.ones-is ∙ omega (arith, c.loop-j.invariant.1, tally-next p c.loop-j.j _ (sym c.is_set.ensures ∙ w.if-is_set.false)))
+    ]
 
 pub returns : goal.returns
 returns c =

@@ -1,7 +1,6 @@
 -- `counting::ones_of` meets its contract. The invariant: the bits 1 so far are counted.
 -- Assumes nothing.
 use mathlib.Core.Path.{◌≡◌, sym, ap, ◌∙◌}
-use mathlib.Core.Logic.{⊎_elim}
 use Prim.Native.Nat.{ℕ, ◌-◌, ◌≤◌}
 use native.Mathlib.Omega.{arith}
 use Rattle.circuit.specs.Lists.{bit}

@@ -225,12 +225,6 @@ loop-t-preserved c =
     let first_of : c.read-source.result.first ≡ c.loop-t.k =
     ap (λ (p : Source). p.first) c.read-source.ensures
     in
-    let ended : c.loop-t.t ≡ framesOf ((c.args.table.now)) =
-    omega (arith, c.loop-t-test.false, c.loop-t.invariant.0, frames_are)
-    in
-    let room : c.loop-t.k + outputs_of ((c.args.table.now)) * framesOf ((c.args.table.now)) ≤ c.args.target.gates =
-    omega (arith, all-gates, c.loop-t.invariant.1, ap (λ (t : ℕ). length (drawing ((c.args.table.now)) t).gates) (ended))
-    in
     let b = (c.args.table.now) in
     let t : ℕ = c.loop-t.t in
     let next : suc c.read-source.result.frame ≡ t + 1 = omega (arith, frame-of) in
@@ -239,12 +233,12 @@ loop-t-preserved c =
       omega (arith, c.loop-t-test.true),
       c.put_frame-k.ensures.end ∙ ap (λ (t : ℕ). length (drawing b t).gates) next,
       drawn-more b c.args.target.gates c.args.res.now c.loop-t.res _ t c.loop-t.k c.loop-t.invariant.2 c.loop-t.invariant.1
-          (c.put_frame-k.ensures.gates ∙ (λ c. gates_stored c.args.target.gates (first_of c) c.loop-t.res (frame_gates (frame_at b (frame-of c)))))
+          (c.put_frame-k.ensures.gates ∙ (λ i. gates_stored c.args.target.gates (first_of i) c.loop-t.res (frame_gates (frame_at b (frame-of i)))))
           (omega (arith, gates_are, frame_ends b t, frame_room b t (early))) (fit).room
           ∙ ap (λ (t : ℕ). gates_stored c.args.target.gates 0 c.args.res.now (drawing b t).gates) (sym (add-one t)),
-      subst (λ (t : ℕ). StatesKept b t c.put_frame-k.new.1.1.1.0) next c.put_frame-k.ensures.states,
+      subst (λ (t : ℕ). StatesKept b t c.put_frame-k.new.states) next c.put_frame-k.ensures.states,
       outputs-left b c.loop-t.outputs _ _ t c.args.target.outputs (outputs_are) c.loop-t.invariant.4 (omega arith) outs ∙ ap (λ (t : ℕ). (drawing b t).outputs) (sym (add-one t)),
-      part_back c.loop-t.outputs c.put_frame-k.new.1.1.1.1.0 (c.args.target.outputs * t) c.args.target.outputs most_literals (ap length outs ∙ listed-length _ c.args.target.outputs) room c.loop-t.invariant.5,
+      part_back c.loop-t.outputs c.put_frame-k.new.outputs (c.args.target.outputs * t) c.args.target.outputs most_literals (ap length outs ∙ listed-length _ c.args.target.outputs) room c.loop-t.invariant.5,
     )
 
 pub slice_bounds-put_outputs-end : goal.slice_bounds-put_outputs-end
@@ -330,7 +324,7 @@ returns c =
     let room : c.loop-t.k + outputs_of ((c.args.table.now)) * framesOf ((c.args.table.now)) ≤ c.args.target.gates =
     omega (arith, all-gates, c.loop-t.invariant.1, ap (λ (t : ℕ). length (drawing ((c.args.table.now)) t).gates) (ended))
     in
-    let drawn-all : c.put_outputs.new.1.1.1.1.1.0
+    let drawn-all : c.put_outputs.new.res
     ≡ gates_stored c.args.target.gates 0 c.args.res.now (drawn ((c.args.table.now))) =
     outputs-drawn ((c.args.table.now)) c.args.target.gates c.args.res.now c.loop-t.res _ c.loop-t.k c.loop-t.outputs
     (c.loop-t.invariant.2 ∙ ap (λ (t : ℕ). gates_stored c.args.target.gates 0 c.args.res.now (drawing ((c.args.table.now)) t).gates) (ended))

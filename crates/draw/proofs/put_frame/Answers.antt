@@ -13,9 +13,9 @@ use Rattle.table.specs.Table.{states, entry_count, outputs_at, nexts_at, layer_p
 use Rattle.table.specs.Sound.{TableHeaded}
 use Rattle.table.proofs.Parts.{part_length}
 use Rattle.circuit.proofs.Lists.{listed-length}
-use Rattle.unfolded.specs.Unfolded.{Frame, match_gates, edge_gates, next_gates, out_literal, out_gates, frame_gates, Drawing, table_frame, drawing}
+use Rattle.unfolded.specs.Unfolded.{chains_from, matching, Frame, match_gates, edge_gates, next_gates, out_literal, out_gates, frame_gates, Drawing, table_frame, drawing}
 use Rattle.unfolded.proofs.Counts.{edge_count, frame_count}
-use Rattle.chains.specs.Chains.{Fits, target_of, gates_stored}
+use Rattle.chains.specs.Chains.{Fits, target_of, gates_stored, edge_of}
 use Rattle.chains.specs.declared.Target.{Target}
 use Rattle.chains.proofs.Stored.{gates-length, fits_still}
 use Rattle.gathers.specs.Gathers.{gather_gates, gather_literals}
@@ -26,811 +26,277 @@ use Rattle.draw.specs.Draw.{frame_at, source_of, StatesKept}
 use Rattle.draw.specs.declared.Source.{Source}
 use Rattle.draw.proofs.Frames.{matches_are, matches-count, edges_are, nexts_are, next_literals, outs_are, out_literals, outs_count, next_is_not_output, nexts_stand, outputs_stand, nexts_part, outputs_part, parts_stored, frame_ends, frame_room, frame_edges, few_states, few_drawn, states-count, states-next, states-left}
 use Rattle.draw.proofs.put_frame.Goals as goal
+use Rattle.draw.proofs.put_frame.Goals.{Start}
 
--- ---- after the match chains
+-- ---- the entry
+
+abbrev b₀ : Start → List ℕ
+b₀ s = s.args.table.now
+
+abbrev t₀ : Start → ℕ
+t₀ s = s.args.source.frame
+
+abbrev d₀ : Start → Drawing
+d₀ s = drawing (b₀ s) (t₀ s)
+
+abbrev F₀ : Start → Frame
+F₀ s = frame_at (b₀ s) (t₀ s)
+
+head : (s : Start) → TableHeaded (b₀ s)
+head s = s.requires.sound.headed
+
+aim : (s : Start) → s.args.target ≡ target_of (b₀ s)
+aim s = s.requires.target_value.0
+
+fits₀ : (s : Start) → Fits s.args.target s.args.res.now
+fits₀ s = s.requires.target_value.1
+
+early : (s : Start) → t₀ s < frames (b₀ s)
+early s = s.requires.frame_bound.0
+
+-- the source
+planned : (s : Start) → s.args.source ≡ source_of (b₀ s) (t₀ s) (length (d₀ s).gates)
+planned s = s.requires.frame_bound.1
+
+first_is : (s : Start) → s.args.source.first ≡ length (d₀ s).gates
+first_is s = ap (λ (p : Source). p.first) (planned s)
+
+edges-is : (s : Start) → s.args.source.edges ≡ states (b₀ s) (t₀ s) * 2 ^ inputs (b₀ s)
+edges-is s = ap (λ (p : Source). p.edges) (planned s)
+
+drawn-is : (s : Start) → s.args.source.drawn ≡ (F₀ s).nexts
+unfolding table_frame
+drawn-is s = ap (λ (p : Source). p.drawn) (planned s)
+
+-- the frame's gates have room
+room : (s : Start) → s.args.source.first + length (frame_gates (F₀ s)) ≤ s.args.target.gates
+room s = omega (arith, first_is s, frame_room (b₀ s) (t₀ s) (early s), ap (λ (target : Target). target.gates) (aim s))
+
+few : (s : Start) (t : ℕ) → t < frames (b₀ s) → states (b₀ s) t ≤ most_drawn_states
+few s t h = few_states (b₀ s) t h (head s).sized.inputs_from (omega (arith, (fits₀ s).gates-to, ap (λ (target : Target). target.gates) (aim s)))
+
+matches : (s : Start) → length (match_gates (F₀ s)) ≡ s.args.target.words * s.args.target.inputs
+matches s = matches-count (b₀ s) (head s) (t₀ s) (early s) s.args.target (aim s) (d₀ s) s.args.source.first (first_is s)
+
+edge-length : (s : Start) → length (edge_gates (F₀ s)) ≡ s.args.source.edges
+edge-length s = edge_count (F₀ s) ∙ frame_edges (b₀ s) (t₀ s) (d₀ s) ∙ sym (edges-is s)
+
+edges_few : (s : Start) → s.args.source.edges ≤ length s.args.states.now * s.args.target.words
+edges_few s =
+    let w : s.args.source.edges ≡ states (b₀ s) (t₀ s) * s.args.target.words = edges-is s ∙ ap (λ (target : Target). states (b₀ s) (t₀ s) * target.words) (sym (aim s)) in
+    let l : states (b₀ s) (t₀ s) ≤ length s.args.states.now = omega (arith, s.requires.states_kept.long, few s (t₀ s) (early s)) in
+    omega (arith, w, mul-le-mul_right s.args.target.words l)
+
+-- the entries stand in the table
+entries-stand : (s : Start)
+    → (s.args.source.nexts + 2 * s.args.source.edges ≤ length (b₀ s)) × (s.args.source.outputs + 2 * s.args.source.edges ≤ length (b₀ s))
+entries-stand s = ((nexts_part (b₀ s) (head s) (t₀ s) (early s) _ _ (planned s)).0, (outputs_part (b₀ s) (head s) (t₀ s) (early s) _ _ (planned s)).0)
+
+-- the places for the literals of the next states
+drawn-few : (s : Start) → s.args.source.drawn ≤ length s.args.states.now
+drawn-few s = omega (arith, s.requires.states_kept.long, ap (λ (p : Source). p.drawn) (planned s), few_drawn (b₀ s) (suc (t₀ s)) (few s (suc (t₀ s))))
+
+abbrev count₃ : Start → ℕ
+count₃ s = length (take s.args.source.drawn s.args.states.now)
+
+count₃-is : (s : Start) → count₃ s ≡ (F₀ s).nexts
+count₃-is s = length-take-le s.args.source.drawn s.args.states.now (drawn-few s) ∙ drawn-is s
+
+count₅-is : (s : Start) → length s.args.outputs.now ≡ (F₀ s).outputs
+count₅-is s = s.requires.outputs_len ∙ outs_count (b₀ s) (head s) (t₀ s) (early s) s.args.target (aim s) (d₀ s)
+
+-- ---- after the match chains: the result is v₁, and the next gate is j
+
+module _ (s : Start) (v₁ : List ℕ) (j : ℕ)
+    (e₁ : v₁ ≡ gates_stored s.args.target.gates s.args.source.first s.args.res.now (chains_from (s.args.target.base + s.args.source.first) (matching s.args.target.inputs s.args.source.frame) s.args.target.words))
+    (ej : j ≡ s.args.source.first + s.args.target.words * s.args.target.inputs)
+    where
+  stored₁ : v₁ ≡ gates_stored s.args.target.gates s.args.source.first s.args.res.now (match_gates (F₀ s))
+  stored₁ =
+      e₁
+      ∙ ap (gates_stored s.args.target.gates s.args.source.first s.args.res.now)
+      (matches_are (b₀ s) (head s) (t₀ s) (early s) s.args.target (aim s) (d₀ s) s.args.source.first (first_is s))
+
+  fits₁ : Fits s.args.target v₁
+  fits₁ = fits_still s.args.target s.args.res.now v₁ s.args.source.first (match_gates (F₀ s)) (fits₀ s) stored₁ (omega (arith, room s, frame_count (F₀ s)))
+
+  -- the first gate of the gather chains
+  abbrev g₂ : ℕ
+  g₂ = j + s.args.source.edges
+
+  g₂-is : g₂ ≡ j + states (b₀ s) (t₀ s) * 2 ^ inputs (b₀ s)
+  g₂-is = ap (λ (c : ℕ). j + c) (edges-is s)
+
+  -- the edges are among the gates, and so are those of the next states
+  edges-in : g₂ ≤ s.args.target.gates
+  edges-in = omega (arith, ej, matches s, edge-length s, frame_count (F₀ s), room s)
+
+  nexts_in_lem : g₂ + length (next_gates (F₀ s)) ≤ s.args.target.gates
+  nexts_in_lem = omega (arith, ej, matches s, edge-length s, frame_count (F₀ s), room s)
+
+  -- the edges are those of the entries
+  entries-in : (p : List ℕ) (start : ℕ) → p ≡ layer_part (b₀ s) start (t₀ s) → start + 2 * entry_count (b₀ s) ≤ length (b₀ s) → j + length p / 2 ≤ s.args.target.gates
+  entries-in p start e h = omega (arith, ap length e, part_length (b₀ s) start (t₀ s) h (early s), edges-is s, edges-in)
+
+  -- ---- after the edges: the result is v₂
+
+  module _ (v₂ : List ℕ)
+      (e₂ : v₂ ≡ gates_stored s.args.target.gates j v₁ (listed [] (edge_of s.args.target.inputs (s.args.target.base + s.args.source.first) s.args.states.now) s.args.source.edges))
+      where
+    stored₂ : v₂ ≡ gates_stored s.args.target.gates j v₁ (edge_gates (F₀ s))
+    stored₂ =
+        e₂
+        ∙ ap (gates_stored s.args.target.gates j v₁)
+        (edges_are (b₀ s) (head s) (t₀ s) (early s) s.args.target (aim s) (d₀ s) s.args.source.first (first_is s) j ej
+        (head s).sized.inputs_from s.args.states.now (states-count (b₀ s) (head s).one_first (t₀ s) (early s)) s.requires.states_kept.kept _ (edges-is s))
+
+    fits₂ : Fits s.args.target v₂
+    fits₂ = fits_still s.args.target v₁ v₂ j (edge_gates (F₀ s)) fits₁ stored₂ (omega (arith, ej, matches s, frame_count (F₀ s), room s))
+
+    -- ---- after the next states, whose entries are p₃: the result is v₃, the literals are ls₃, and the next gate is o
+
+    module _ (p₃ : List ℕ) (e₃ : p₃ ≡ take (2 * s.args.source.edges) (drop s.args.source.nexts (b₀ s))) where
+      p₃-is : p₃ ≡ layer_part (b₀ s) (nexts_at (b₀ s)) (t₀ s)
+      p₃-is = e₃ ∙ (nexts_part (b₀ s) (head s) (t₀ s) (early s) _ _ (planned s)).1
+
+      abbrev nexts₃ : Gathering
+      nexts₃ = record { key = NextState; edges = j }
+
+      chains₃-are : gather_gates s.args.target nexts₃ p₃ g₂ (count₃ s) ≡ next_gates (F₀ s)
+      chains₃-are =
+          nexts_are (b₀ s) (head s) (t₀ s) (early s) s.args.target (aim s) (d₀ s) s.args.source.first (first_is s) j ej g₂ g₂-is p₃ p₃-is (count₃ s) (count₃-is s)
+
+      kept₃-are : gather_literals s.args.target nexts₃ p₃ g₂ (count₃ s) ≡ (drawing (b₀ s) (suc (t₀ s))).states
+      kept₃-are =
+          next_literals (b₀ s) (head s) (t₀ s) (early s) s.args.target (aim s) (d₀ s) s.args.source.first (first_is s) j ej g₂ g₂-is p₃ p₃-is (count₃ s) (count₃-is s)
+          ∙ sym (states-next (b₀ s) (t₀ s))
+
+      module _ (v₃ ls₃ : List ℕ) (o : ℕ)
+          (ev₃ : v₃ ≡ gates_stored s.args.target.gates g₂ v₂ (gather_gates s.args.target nexts₃ p₃ g₂ (count₃ s)))
+          (els₃ : ls₃ ≡ gather_literals s.args.target nexts₃ p₃ g₂ (count₃ s))
+          (eo : o ≡ g₂ + length (gather_gates s.args.target nexts₃ p₃ g₂ (count₃ s)))
+          where
+        stored₃ : v₃ ≡ gates_stored s.args.target.gates g₂ v₂ (next_gates (F₀ s))
+        stored₃ = ev₃ ∙ ap (gates_stored s.args.target.gates g₂ v₂) chains₃-are
+
+        fits₃ : Fits s.args.target v₃
+        fits₃ = fits_still s.args.target v₂ v₃ g₂ (next_gates (F₀ s)) fits₂ stored₃ nexts_in_lem
+
+        states₃ : StatesKept (b₀ s) (suc (t₀ s)) (ls₃ ++ drop s.args.source.drawn s.args.states.now)
+        states₃ =
+            let e = els₃ ∙ kept₃-are in
+            states-left (b₀ s) s.args.states.now _ (t₀ s) s.args.source.drawn e
+            (drawn-is s ∙ sym (ap length (e ∙ states-next (b₀ s) (t₀ s)) ∙ listed-length _ (F₀ s).nexts)) (drawn-few s) s.requires.states_kept.long
+
+        o₄-is : o ≡ g₂ + length (next_gates (F₀ s))
+        o₄-is = eo ∙ ap (λ (gs : List (ℕ × ℕ)). g₂ + length gs) chains₃-are
+
+        outs-end : o + length (out_gates (F₀ s)) ≡ s.args.source.first + length (frame_gates (F₀ s))
+        outs-end = omega (arith, o₄-is, ej, matches s, edge-length s, frame_count (F₀ s))
+
+        -- ---- after the outputs, whose entries are p₅: the result is v₄
+
+        module _ (p₅ : List ℕ) (e₅ : p₅ ≡ take (2 * s.args.source.edges) (drop s.args.source.outputs (b₀ s))) where
+          p₅-is : p₅ ≡ layer_part (b₀ s) (outputs_at (b₀ s)) (t₀ s)
+          p₅-is = e₅ ∙ (outputs_part (b₀ s) (head s) (t₀ s) (early s) _ _ (planned s)).1
+
+          abbrev outs₅ : Gathering
+          outs₅ = record { key = OutputBit; edges = j }
+
+          chains₅-are : gather_gates s.args.target outs₅ p₅ o (length s.args.outputs.now) ≡ out_gates (F₀ s)
+          chains₅-are =
+              outs_are (b₀ s) (head s) (t₀ s) (early s) s.args.target (aim s) (d₀ s) s.args.source.first (first_is s) j ej g₂ g₂-is o o₄-is p₅ p₅-is _ (count₅-is s)
+
+          kept₅-are : gather_literals s.args.target outs₅ p₅ o (length s.args.outputs.now) ≡ listed [] (out_literal (F₀ s)) s.args.target.outputs
+          kept₅-are =
+              out_literals (b₀ s) (head s) (t₀ s) (early s) s.args.target (aim s) (d₀ s) s.args.source.first (first_is s) j ej g₂ g₂-is o o₄-is p₅ p₅-is _ (count₅-is s)
+              ∙ ap (listed [] (out_literal (F₀ s))) (sym (count₅-is s) ∙ s.requires.outputs_len)
+
+          outs-in : o + length (gather_gates s.args.target outs₅ p₅ o (length s.args.outputs.now)) ≤ s.args.target.gates
+          outs-in = omega (arith, ap length chains₅-are, outs-end, room s)
+
+          module _ (v₄ : List ℕ) (e₄ : v₄ ≡ gates_stored s.args.target.gates o v₃ (gather_gates s.args.target outs₅ p₅ o (length s.args.outputs.now))) where
+            stored₆ : v₄ ≡ gates_stored s.args.target.gates s.args.source.first s.args.res.now (frame_gates (F₀ s))
+            stored₆ =
+                parts_stored s.args.target.gates s.args.source.first s.args.res.now v₁ v₂ v₃ _ (F₀ s) j g₂ o
+                stored₁ stored₂ stored₃ (e₄ ∙ ap (gates_stored s.args.target.gates o v₃) chains₅-are)
+                (omega (arith, ej, matches s)) (omega (arith, edge-length s)) o₄-is (room s) (fits₀ s).room
+
+-- ---- the answers
+
 pub put_matches-edges-requires : goal.put_matches-edges-requires
 put_matches-edges-requires c =
-    let b₀ : List ℕ =
-    c.args.table.now
-    in
-    let t₀ : ℕ =
-    c.args.source.frame
-    in
-    let d₀ : Drawing =
-    drawing ((c.args.table.now)) ((c.args.source.frame))
-    in
-    let F₀ : Frame =
-    frame_at ((c.args.table.now)) ((c.args.source.frame))
-    in
-    let head : TableHeaded ((c.args.table.now)) =
-    c.requires.sound.headed
-    in
-    let aim : c.args.target ≡ target_of ((c.args.table.now)) =
-    c.requires.target_value.0
-    in
-    let fits₀ : Fits c.args.target c.args.res.now =
-    c.requires.target_value.1
-    in
-    let early : (c.args.source.frame) < frames ((c.args.table.now)) =
-    c.requires.frame_bound.0
-    in
-    let planned : c.args.source ≡ source_of ((c.args.table.now)) ((c.args.source.frame)) (length ((drawing ((c.args.table.now)) ((c.args.source.frame)))).gates) =
-    c.requires.frame_bound.1
-    in
-    let first_is : c.args.source.first ≡ length ((drawing ((c.args.table.now)) ((c.args.source.frame)))).gates =
-    ap (λ (p : Source). p.first) (planned)
-    in
-    let room : c.args.source.first + length (frame_gates ((frame_at ((c.args.table.now)) ((c.args.source.frame))))) ≤ c.args.target.gates =
-    omega (arith, first_is, frame_room ((c.args.table.now)) ((c.args.source.frame)) (early), ap (λ (target : Target). target.gates) (aim))
-    in
-    let matches : length (match_gates ((frame_at ((c.args.table.now)) ((c.args.source.frame))))) ≡ c.args.target.words * c.args.target.inputs =
-    matches-count ((c.args.table.now)) (head) ((c.args.source.frame)) (early) c.args.target (aim) ((drawing ((c.args.table.now)) ((c.args.source.frame)))) c.args.source.first (first_is)
-    in
-    record {
-      fits = fits₀;
-      t_lt_most_frames = (omega (arith, early, (head).sized), omega (arith, room, matches, frame_count (frame_at (c.args.table.now) (c.args.source.frame))));
+    let s = (goal.at.put_matches-edges-requires c).Start in record {
+      fits = fits₀ s;
+      t_lt_most_frames = (omega (arith, early s, (head s).sized), omega (arith, room s, matches s, frame_count (F₀ s)));
     }
 
--- ---- after the edges
 pub put_edges-requires : goal.put_edges-requires
 put_edges-requires c =
-    let b₀ : List ℕ =
-    c.args.table.now
-    in
-    let t₀ : ℕ =
-    c.args.source.frame
-    in
-    let d₀ : Drawing =
-    drawing ((c.args.table.now)) ((c.args.source.frame))
-    in
-    let F₀ : Frame =
-    frame_at ((c.args.table.now)) ((c.args.source.frame))
-    in
-    let head : TableHeaded ((c.args.table.now)) =
-    c.requires.sound.headed
-    in
-    let aim : c.args.target ≡ target_of ((c.args.table.now)) =
-    c.requires.target_value.0
-    in
-    let fits₀ : Fits c.args.target c.args.res.now =
-    c.requires.target_value.1
-    in
-    let early : (c.args.source.frame) < frames ((c.args.table.now)) =
-    c.requires.frame_bound.0
-    in
-    let planned : c.args.source ≡ source_of ((c.args.table.now)) ((c.args.source.frame)) (length ((drawing ((c.args.table.now)) ((c.args.source.frame)))).gates) =
-    c.requires.frame_bound.1
-    in
-    let first_is : c.args.source.first ≡ length ((drawing ((c.args.table.now)) ((c.args.source.frame)))).gates =
-    ap (λ (p : Source). p.first) (planned)
-    in
-    let edges-is : c.args.source.edges ≡ states ((c.args.table.now)) ((c.args.source.frame)) * 2 ^ inputs ((c.args.table.now)) =
-    ap (λ (p : Source). p.edges) (planned)
-    in
-    let room : c.args.source.first + length (frame_gates ((frame_at ((c.args.table.now)) ((c.args.source.frame))))) ≤ c.args.target.gates =
-    omega (arith, first_is, frame_room ((c.args.table.now)) ((c.args.source.frame)) (early), ap (λ (target : Target). target.gates) (aim))
-    in
-    let few : (t : ℕ) → t < frames ((c.args.table.now)) → states ((c.args.table.now)) t ≤ most_drawn_states =
-    λ t h. few_states ((c.args.table.now)) t h (head).sized.inputs_from (omega (arith, (fits₀).gates-to, ap (λ (target : Target). target.gates) (aim)))
-    in
-    let matches : length (match_gates ((frame_at ((c.args.table.now)) ((c.args.source.frame))))) ≡ c.args.target.words * c.args.target.inputs =
-    matches-count ((c.args.table.now)) (head) ((c.args.source.frame)) (early) c.args.target (aim) ((drawing ((c.args.table.now)) ((c.args.source.frame)))) c.args.source.first (first_is)
-    in
-    let edge-length : length (edge_gates ((frame_at ((c.args.table.now)) ((c.args.source.frame))))) ≡ c.args.source.edges =
-    edge_count ((frame_at ((c.args.table.now)) ((c.args.source.frame)))) ∙ frame_edges ((c.args.table.now)) ((c.args.source.frame)) ((drawing ((c.args.table.now)) ((c.args.source.frame)))) ∙ sym (edges-is)
-    in
-    let edges_few : c.args.source.edges ≤ length c.args.states.now * c.args.target.words =
-    let w : c.args.source.edges ≡ states ((c.args.table.now)) ((c.args.source.frame)) * c.args.target.words = edges-is ∙ ap (λ (target : Target). states ((c.args.table.now)) ((c.args.source.frame)) * target.words) (sym (aim)) in
-    let l : states ((c.args.table.now)) ((c.args.source.frame)) ≤ length c.args.states.now = omega (arith, c.requires.states_kept.long, few ((c.args.source.frame)) (early)) in
-    omega (arith, w, mul-le-mul_right c.args.target.words l)
-    in
-    let r₁ : List ℕ =
-    c.put_matches-edges.new.1.1.1.0
-    in
-    let stored₁ : (c.put_matches-edges.new.1.1.1.0) ≡ gates_stored c.args.target.gates c.args.source.first c.args.res.now (match_gates ((frame_at ((c.args.table.now)) ((c.args.source.frame))))) =
-    c.put_matches-edges.ensures.gates
-    ∙ ap (gates_stored c.args.target.gates c.args.source.first c.args.res.now)
-    (matches_are ((c.args.table.now)) (head) ((c.args.source.frame)) (early) c.args.target (aim) ((drawing ((c.args.table.now)) ((c.args.source.frame)))) c.args.source.first (first_is))
-    in
-    let fits₁ : Fits c.args.target ((c.put_matches-edges.new.1.1.1.0)) =
-    fits_still c.args.target c.args.res.now ((c.put_matches-edges.new.1.1.1.0)) c.args.source.first (match_gates ((frame_at ((c.args.table.now)) ((c.args.source.frame))))) (fits₀) (stored₁) (omega (arith, room, frame_count ((frame_at ((c.args.table.now)) ((c.args.source.frame))))))
-    in
-    record {
-      fits = fits₁;
+    let s = (goal.at.put_edges-requires c).Start in
+    let e = c.put_matches-edges.ensures in record {
+      fits = fits₁ s _ _ e.gates e.end;
       matches_le_k = (
-        omega (arith, c.put_matches-edges.ensures.end),
-        omega (arith, c.put_matches-edges.ensures.end, matches, edge-length, frame_count (frame_at (c.args.table.now) (c.args.source.frame)), room),
-        edges_few,
+        omega (arith, e.end),
+        omega (arith, e.end, matches s, edge-length s, frame_count (F₀ s), room s),
+        edges_few s,
       );
     }
 
--- ---- after the next states
 pub entries_from-nexts-requires : goal.entries_from-nexts-requires
-entries_from-nexts-requires c =
-    let b₀ : List ℕ =
-    c.args.table.now
-    in
-    let t₀ : ℕ =
-    c.args.source.frame
-    in
-    let d₀ : Drawing =
-    drawing ((c.args.table.now)) ((c.args.source.frame))
-    in
-    let head : TableHeaded ((c.args.table.now)) =
-    c.requires.sound.headed
-    in
-    let early : (c.args.source.frame) < frames ((c.args.table.now)) =
-    c.requires.frame_bound.0
-    in
-    let planned : c.args.source ≡ source_of ((c.args.table.now)) ((c.args.source.frame)) (length ((drawing ((c.args.table.now)) ((c.args.source.frame)))).gates) =
-    c.requires.frame_bound.1
-    in
-    let entries-stand : (c.args.source.nexts + 2 * c.args.source.edges ≤ length ((c.args.table.now))) × (c.args.source.outputs + 2 * c.args.source.edges ≤ length ((c.args.table.now))) =
-    ((nexts_part ((c.args.table.now)) (head) ((c.args.source.frame)) (early) _ _ (planned)).0, (outputs_part ((c.args.table.now)) (head) ((c.args.source.frame)) (early) _ _ (planned)).0)
-    in
-    omega (arith, entries-stand)
+entries_from-nexts-requires c = omega (arith, entries-stand (goal.at.entries_from-nexts-requires c).Start)
 
 pub overflow_add-edges : goal.overflow_add-edges
 overflow_add-edges c =
-    let b₀ : List ℕ =
-    c.args.table.now
-    in
-    let t₀ : ℕ =
-    c.args.source.frame
-    in
-    let d₀ : Drawing =
-    drawing ((c.args.table.now)) ((c.args.source.frame))
-    in
-    let F₀ : Frame =
-    frame_at ((c.args.table.now)) ((c.args.source.frame))
-    in
-    let head : TableHeaded ((c.args.table.now)) =
-    c.requires.sound.headed
-    in
-    let aim : c.args.target ≡ target_of ((c.args.table.now)) =
-    c.requires.target_value.0
-    in
-    let fits₀ : Fits c.args.target c.args.res.now =
-    c.requires.target_value.1
-    in
-    let early : (c.args.source.frame) < frames ((c.args.table.now)) =
-    c.requires.frame_bound.0
-    in
-    let planned : c.args.source ≡ source_of ((c.args.table.now)) ((c.args.source.frame)) (length ((drawing ((c.args.table.now)) ((c.args.source.frame)))).gates) =
-    c.requires.frame_bound.1
-    in
-    let first_is : c.args.source.first ≡ length ((drawing ((c.args.table.now)) ((c.args.source.frame)))).gates =
-    ap (λ (p : Source). p.first) (planned)
-    in
-    let edges-is : c.args.source.edges ≡ states ((c.args.table.now)) ((c.args.source.frame)) * 2 ^ inputs ((c.args.table.now)) =
-    ap (λ (p : Source). p.edges) (planned)
-    in
-    let room : c.args.source.first + length (frame_gates ((frame_at ((c.args.table.now)) ((c.args.source.frame))))) ≤ c.args.target.gates =
-    omega (arith, first_is, frame_room ((c.args.table.now)) ((c.args.source.frame)) (early), ap (λ (target : Target). target.gates) (aim))
-    in
-    let matches : length (match_gates ((frame_at ((c.args.table.now)) ((c.args.source.frame))))) ≡ c.args.target.words * c.args.target.inputs =
-    matches-count ((c.args.table.now)) (head) ((c.args.source.frame)) (early) c.args.target (aim) ((drawing ((c.args.table.now)) ((c.args.source.frame)))) c.args.source.first (first_is)
-    in
-    let edge-length : length (edge_gates ((frame_at ((c.args.table.now)) ((c.args.source.frame))))) ≡ c.args.source.edges =
-    edge_count ((frame_at ((c.args.table.now)) ((c.args.source.frame)))) ∙ frame_edges ((c.args.table.now)) ((c.args.source.frame)) ((drawing ((c.args.table.now)) ((c.args.source.frame)))) ∙ sym (edges-is)
-    in
-    let r₁ : List ℕ =
-    c.put_matches-edges.new.1.1.1.0
-    in
-    let stored₁ : (c.put_matches-edges.new.1.1.1.0) ≡ gates_stored c.args.target.gates c.args.source.first c.args.res.now (match_gates ((frame_at ((c.args.table.now)) ((c.args.source.frame))))) =
-    c.put_matches-edges.ensures.gates
-    ∙ ap (gates_stored c.args.target.gates c.args.source.first c.args.res.now)
-    (matches_are ((c.args.table.now)) (head) ((c.args.source.frame)) (early) c.args.target (aim) ((drawing ((c.args.table.now)) ((c.args.source.frame)))) c.args.source.first (first_is))
-    in
-    let fits₁ : Fits c.args.target ((c.put_matches-edges.new.1.1.1.0)) =
-    fits_still c.args.target c.args.res.now ((c.put_matches-edges.new.1.1.1.0)) c.args.source.first (match_gates ((frame_at ((c.args.table.now)) ((c.args.source.frame))))) (fits₀) (stored₁) (omega (arith, room, frame_count ((frame_at ((c.args.table.now)) ((c.args.source.frame))))))
-    in
-    let s₂ : tie.Start =
-    c
-    in
-    let j₂ : ℕ =
-    c.put_matches-edges.result
-    in
-    let g₂ : ℕ =
-    (c.put_matches-edges.result) + ((c)).args.source.edges
-    in
-    let r₂ : List ℕ =
-    c.put_edges.new.1.1.1.1.1.0
-    in
-    let stored₂ : (c.put_edges.new.1.1.1.1.1.0) ≡ gates_stored ((c)).args.target.gates ((c.put_matches-edges.result)) ((c.put_matches-edges.new.1.1.1.0)) (edge_gates (F₀ ((c)))) =
-    let s = (c) in
-    c.put_edges.ensures
-    ∙ ap (gates_stored s.args.target.gates ((c.put_matches-edges.result)) ((c.put_matches-edges.new.1.1.1.0)))
-    (edges_are (b₀ s) (head s) (t₀ s) (early s) s.args.target (aim s) (d₀ s) s.args.source.first (first_is s) ((c.put_matches-edges.result)) c.put_matches-edges.ensures.end
-    (head s).sized.inputs_from s.args.states.now (states-count (b₀ s) (head s).one_first (t₀ s) (early s)) s.pre.1.1.1.0.kept _ (edges-is s))
-    in
-    let fits₂ : Fits ((c)).args.target ((c.put_edges.new.1.1.1.1.1.0)) =
-    let s = (c) in
-    fits_still s.args.target ((c.put_matches-edges.new.1.1.1.0)) ((c.put_edges.new.1.1.1.1.1.0)) ((c.put_matches-edges.result)) (edge_gates (F₀ s)) (fits₁) (stored₂) (omega (arith, c.put_matches-edges.ensures.end, matches s, frame_count (F₀ s), room s))
-    in
-    let edges-in : ((c.put_matches-edges.result) + ((c)).args.source.edges) ≤ ((c)).args.target.gates =
-    let s = (c) in omega (arith, c.put_matches-edges.ensures.end, matches s, edge-length s, frame_count (F₀ s), room s)
-    in
-    omega (arith, edges-in, (fits₂).gates-to)
+    let s = (goal.at.overflow_add-edges c).Start in
+    let e = c.put_matches-edges.ensures in
+    omega (arith, edges-in s _ _ e.gates e.end, (fits₀ s).gates-to)
 
 pub slice_bounds-put_gathers-end : goal.slice_bounds-put_gathers-end
-slice_bounds-put_gathers-end c =
-    let b₀ : List ℕ =
-    c.args.table.now
-    in
-    let t₀ : ℕ =
-    c.args.source.frame
-    in
-    let d₀ : Drawing =
-    drawing ((c.args.table.now)) ((c.args.source.frame))
-    in
-    let head : TableHeaded ((c.args.table.now)) =
-    c.requires.sound.headed
-    in
-    let aim : c.args.target ≡ target_of ((c.args.table.now)) =
-    c.requires.target_value.0
-    in
-    let fits₀ : Fits c.args.target c.args.res.now =
-    c.requires.target_value.1
-    in
-    let planned : c.args.source ≡ source_of ((c.args.table.now)) ((c.args.source.frame)) (length ((drawing ((c.args.table.now)) ((c.args.source.frame)))).gates) =
-    c.requires.frame_bound.1
-    in
-    let few : (t : ℕ) → t < frames ((c.args.table.now)) → states ((c.args.table.now)) t ≤ most_drawn_states =
-    λ t h. few_states ((c.args.table.now)) t h (head).sized.inputs_from (omega (arith, (fits₀).gates-to, ap (λ (target : Target). target.gates) (aim)))
-    in
-    let drawn-few : c.args.source.drawn ≤ length c.args.states.now =
-    omega (arith, c.requires.states_kept.long, ap (λ (p : Source). p.drawn) (planned), few_drawn ((c.args.table.now)) (suc ((c.args.source.frame))) (few (suc ((c.args.source.frame)))))
-    in
-    drawn-few
+slice_bounds-put_gathers-end c = drawn-few (goal.at.slice_bounds-put_gathers-end c).Start
 
 pub slice_bounds-put_gathers-end-2 : goal.slice_bounds-put_gathers-end-2
-slice_bounds-put_gathers-end-2 c =
-    let b₀ : List ℕ =
-    c.args.table.now
-    in
-    let t₀ : ℕ =
-    c.args.source.frame
-    in
-    let d₀ : Drawing =
-    drawing ((c.args.table.now)) ((c.args.source.frame))
-    in
-    let head : TableHeaded ((c.args.table.now)) =
-    c.requires.sound.headed
-    in
-    let aim : c.args.target ≡ target_of ((c.args.table.now)) =
-    c.requires.target_value.0
-    in
-    let fits₀ : Fits c.args.target c.args.res.now =
-    c.requires.target_value.1
-    in
-    let planned : c.args.source ≡ source_of ((c.args.table.now)) ((c.args.source.frame)) (length ((drawing ((c.args.table.now)) ((c.args.source.frame)))).gates) =
-    c.requires.frame_bound.1
-    in
-    let few : (t : ℕ) → t < frames ((c.args.table.now)) → states ((c.args.table.now)) t ≤ most_drawn_states =
-    λ t h. few_states ((c.args.table.now)) t h (head).sized.inputs_from (omega (arith, (fits₀).gates-to, ap (λ (target : Target). target.gates) (aim)))
-    in
-    let drawn-few : c.args.source.drawn ≤ length c.args.states.now =
-    omega (arith, c.requires.states_kept.long, ap (λ (p : Source). p.drawn) (planned), few_drawn ((c.args.table.now)) (suc ((c.args.source.frame))) (few (suc ((c.args.source.frame)))))
-    in
-    let s = (c) in sym (length-take-le s.args.source.drawn s.args.states.now (drawn-few s))
+slice_bounds-put_gathers-end-2 c = let s = (goal.at.slice_bounds-put_gathers-end-2 c).Start in sym (length-take-le s.args.source.drawn s.args.states.now (drawn-few s))
 
 pub put_gathers-gathers-requires : goal.put_gathers-gathers-requires
-unfolding table_frame
 put_gathers-gathers-requires c =
-    let b₀ : List ℕ =
-    c.args.table.now
-    in
-    let t₀ : ℕ =
-    c.args.source.frame
-    in
-    let d₀ : Drawing =
-    drawing ((c.args.table.now)) ((c.args.source.frame))
-    in
-    let F₀ : Frame =
-    frame_at ((c.args.table.now)) ((c.args.source.frame))
-    in
-    let head : TableHeaded ((c.args.table.now)) =
-    c.requires.sound.headed
-    in
-    let aim : c.args.target ≡ target_of ((c.args.table.now)) =
-    c.requires.target_value.0
-    in
-    let fits₀ : Fits c.args.target c.args.res.now =
-    c.requires.target_value.1
-    in
-    let early : (c.args.source.frame) < frames ((c.args.table.now)) =
-    c.requires.frame_bound.0
-    in
-    let planned : c.args.source ≡ source_of ((c.args.table.now)) ((c.args.source.frame)) (length ((drawing ((c.args.table.now)) ((c.args.source.frame)))).gates) =
-    c.requires.frame_bound.1
-    in
-    let first_is : c.args.source.first ≡ length ((drawing ((c.args.table.now)) ((c.args.source.frame)))).gates =
-    ap (λ (p : Source). p.first) (planned)
-    in
-    let edges-is : c.args.source.edges ≡ states ((c.args.table.now)) ((c.args.source.frame)) * 2 ^ inputs ((c.args.table.now)) =
-    ap (λ (p : Source). p.edges) (planned)
-    in
-    let drawn-is : c.args.source.drawn ≡ ((frame_at ((c.args.table.now)) ((c.args.source.frame)))).nexts =
-    ap (λ (p : Source). p.drawn) (planned)
-    in
-    let room : c.args.source.first + length (frame_gates ((frame_at ((c.args.table.now)) ((c.args.source.frame))))) ≤ c.args.target.gates =
-    omega (arith, first_is, frame_room ((c.args.table.now)) ((c.args.source.frame)) (early), ap (λ (target : Target). target.gates) (aim))
-    in
-    let few : (t : ℕ) → t < frames ((c.args.table.now)) → states ((c.args.table.now)) t ≤ most_drawn_states =
-    λ t h. few_states ((c.args.table.now)) t h (head).sized.inputs_from (omega (arith, (fits₀).gates-to, ap (λ (target : Target). target.gates) (aim)))
-    in
-    let matches : length (match_gates ((frame_at ((c.args.table.now)) ((c.args.source.frame))))) ≡ c.args.target.words * c.args.target.inputs =
-    matches-count ((c.args.table.now)) (head) ((c.args.source.frame)) (early) c.args.target (aim) ((drawing ((c.args.table.now)) ((c.args.source.frame)))) c.args.source.first (first_is)
-    in
-    let edge-length : length (edge_gates ((frame_at ((c.args.table.now)) ((c.args.source.frame))))) ≡ c.args.source.edges =
-    edge_count ((frame_at ((c.args.table.now)) ((c.args.source.frame)))) ∙ frame_edges ((c.args.table.now)) ((c.args.source.frame)) ((drawing ((c.args.table.now)) ((c.args.source.frame)))) ∙ sym (edges-is)
-    in
-    let r₁ : List ℕ =
-    c.put_matches-edges.new.1.1.1.0
-    in
-    let stored₁ : (c.put_matches-edges.new.1.1.1.0) ≡ gates_stored c.args.target.gates c.args.source.first c.args.res.now (match_gates ((frame_at ((c.args.table.now)) ((c.args.source.frame))))) =
-    c.put_matches-edges.ensures.gates
-    ∙ ap (gates_stored c.args.target.gates c.args.source.first c.args.res.now)
-    (matches_are ((c.args.table.now)) (head) ((c.args.source.frame)) (early) c.args.target (aim) ((drawing ((c.args.table.now)) ((c.args.source.frame)))) c.args.source.first (first_is))
-    in
-    let fits₁ : Fits c.args.target ((c.put_matches-edges.new.1.1.1.0)) =
-    fits_still c.args.target c.args.res.now ((c.put_matches-edges.new.1.1.1.0)) c.args.source.first (match_gates ((frame_at ((c.args.table.now)) ((c.args.source.frame))))) (fits₀) (stored₁) (omega (arith, room, frame_count ((frame_at ((c.args.table.now)) ((c.args.source.frame))))))
-    in
-    let s₂ : tie.Start =
-    c
-    in
-    let j₂ : ℕ =
-    c.put_matches-edges.result
-    in
-    let g₂ : ℕ =
-    (c.put_matches-edges.result) + ((c)).args.source.edges
-    in
-    let g₂-is : ((c.put_matches-edges.result) + ((c)).args.source.edges) ≡ (c.put_matches-edges.result) + states (b₀ ((c))) (t₀ ((c))) * 2 ^ inputs (b₀ ((c))) =
-    ap (λ (c : ℕ). (c.put_matches-edges.result) + c) (edges-is ((c)))
-    in
-    let r₂ : List ℕ =
-    c.put_edges.new.1.1.1.1.1.0
-    in
-    let stored₂ : (c.put_edges.new.1.1.1.1.1.0) ≡ gates_stored ((c)).args.target.gates ((c.put_matches-edges.result)) ((c.put_matches-edges.new.1.1.1.0)) (edge_gates (F₀ ((c)))) =
-    let s = (c) in
-    c.put_edges.ensures
-    ∙ ap (gates_stored s.args.target.gates ((c.put_matches-edges.result)) ((c.put_matches-edges.new.1.1.1.0)))
-    (edges_are (b₀ s) (head s) (t₀ s) (early s) s.args.target (aim s) (d₀ s) s.args.source.first (first_is s) ((c.put_matches-edges.result)) c.put_matches-edges.ensures.end
-    (head s).sized.inputs_from s.args.states.now (states-count (b₀ s) (head s).one_first (t₀ s) (early s)) s.pre.1.1.1.0.kept _ (edges-is s))
-    in
-    let fits₂ : Fits ((c)).args.target ((c.put_edges.new.1.1.1.1.1.0)) =
-    let s = (c) in
-    fits_still s.args.target ((c.put_matches-edges.new.1.1.1.0)) ((c.put_edges.new.1.1.1.1.1.0)) ((c.put_matches-edges.result)) (edge_gates (F₀ s)) (fits₁) (stored₂) (omega (arith, c.put_matches-edges.ensures.end, matches s, frame_count (F₀ s), room s))
-    in
-    let edges-in : ((c.put_matches-edges.result) + ((c)).args.source.edges) ≤ ((c)).args.target.gates =
-    let s = (c) in omega (arith, c.put_matches-edges.ensures.end, matches s, edge-length s, frame_count (F₀ s), room s)
-    in
-    let nexts_in_lem : ((c.put_matches-edges.result) + ((c)).args.source.edges) + length (next_gates (F₀ ((c)))) ≤ ((c)).args.target.gates =
-    let s = (c) in omega (arith, c.put_matches-edges.ensures.end, matches s, edge-length s, frame_count (F₀ s), room s)
-    in
-    let s₃ : tie.Start =
-    (c)
-    in
-    let p₃ : List ℕ =
-    c.entries_from-nexts.result.now
-    in
-    let p₃-is : (c.entries_from-nexts.result.now) ≡ layer_part (b₀ (((c)))) (nexts_at (b₀ (((c))))) (t₀ (((c)))) =
-    let s = ((c)) in c.entries_from-nexts.ensures ∙ (nexts_part (b₀ s) (head s) (t₀ s) (early s) _ _ (planned s)).1
-    in
-    let drawn-few : c.args.source.drawn ≤ length c.args.states.now =
-    omega (arith, c.requires.states_kept.long, ap (λ (p : Source). p.drawn) (planned), few_drawn ((c.args.table.now)) (suc ((c.args.source.frame))) (few (suc ((c.args.source.frame)))))
-    in
-    let count₃ : ℕ =
-    length (take c.args.source.drawn c.args.states.now)
-    in
-    let count₃-is : (length (take c.args.source.drawn c.args.states.now)) ≡ ((frame_at ((c.args.table.now)) ((c.args.source.frame)))).nexts =
-    length-take-le c.args.source.drawn c.args.states.now (drawn-few) ∙ drawn-is
-    in
-    let nexts₃ : Gathering =
-    record { key = NextState; edges = (c.put_matches-edges.result) }
-    in
-    let chains₃-are : gather_gates (((c))).args.target ((record { key = NextState; edges = (c.put_matches-edges.result) })) ((c.entries_from-nexts.result.now)) (((c.put_matches-edges.result) + ((c)).args.source.edges)) (count₃ (((c)))) ≡ next_gates (F₀ (((c)))) =
-    let s = ((c)) in
-    nexts_are (b₀ s) (head s) (t₀ s) (early s) s.args.target (aim s) (d₀ s) s.args.source.first (first_is s) ((c.put_matches-edges.result)) c.put_matches-edges.ensures.end (((c.put_matches-edges.result) + ((c)).args.source.edges)) (g₂-is) ((c.entries_from-nexts.result.now)) (p₃-is)
-    (count₃ s) (count₃-is s)
-    in
-    let entries-in : (p : List ℕ) (start : ℕ) → p ≡ layer_part (b₀ ((c))) start (t₀ ((c))) → start + 2 * entry_count (b₀ ((c))) ≤ length (b₀ ((c)))
-    → (c.put_matches-edges.result) + length p / 2 ≤ ((c)).args.target.gates =
-    λ p start e h. let s = (c) in omega (arith, ap length e, part_length (b₀ s) start (t₀ s) h (early s), edges-is s, edges-in)
-    in
-    let s = (c) in
-    let b : List ℕ = b₀ s in
-    record {
-      fits = fits₂;
+    let s = (goal.at.put_gathers-gathers-requires c).Start in
+    let e = c.put_matches-edges.ensures in
+    let n = c.entries_from-nexts.ensures in record {
+      fits = fits₂ s _ _ e.gates e.end _ c.put_edges.ensures;
       literals_len_bound = (λ e. absurd (next_is_not_output e));
-      entries_bound = entries-in (c.entries_from-nexts.result.now) (nexts_at b) (p₃-is) (nexts_stand b (head s));
-      literals_bound = omega (arith, ap length (chains₃-are), nexts_in_lem);
+      entries_bound = entries-in s _ _ e.gates e.end _ (nexts_at (b₀ s)) (p₃-is s _ _ e.gates e.end _ c.put_edges.ensures _ n) (nexts_stand (b₀ s) (head s));
+      literals_bound = omega (arith, ap length (chains₃-are s _ _ e.gates e.end _ c.put_edges.ensures _ n), nexts_in_lem s _ _ e.gates e.end);
     }
 
 pub entries_from-words-requires : goal.entries_from-words-requires
-entries_from-words-requires c =
-    let b₀ : List ℕ =
-    c.args.table.now
-    in
-    let t₀ : ℕ =
-    c.args.source.frame
-    in
-    let d₀ : Drawing =
-    drawing ((c.args.table.now)) ((c.args.source.frame))
-    in
-    let head : TableHeaded ((c.args.table.now)) =
-    c.requires.sound.headed
-    in
-    let early : (c.args.source.frame) < frames ((c.args.table.now)) =
-    c.requires.frame_bound.0
-    in
-    let planned : c.args.source ≡ source_of ((c.args.table.now)) ((c.args.source.frame)) (length ((drawing ((c.args.table.now)) ((c.args.source.frame)))).gates) =
-    c.requires.frame_bound.1
-    in
-    let entries-stand : (c.args.source.nexts + 2 * c.args.source.edges ≤ length ((c.args.table.now))) × (c.args.source.outputs + 2 * c.args.source.edges ≤ length ((c.args.table.now))) =
-    ((nexts_part ((c.args.table.now)) (head) ((c.args.source.frame)) (early) _ _ (planned)).0, (outputs_part ((c.args.table.now)) (head) ((c.args.source.frame)) (early) _ _ (planned)).0)
-    in
-    omega (arith, entries-stand)
+entries_from-words-requires c = omega (arith, entries-stand (goal.at.entries_from-words-requires c).Start)
 
 pub put_gathers-requires : goal.put_gathers-requires
-unfolding table_frame
 put_gathers-requires c =
-    let b₀ : List ℕ =
-    c.args.table.now
-    in
-    let t₀ : ℕ =
-    c.args.source.frame
-    in
-    let d₀ : Drawing =
-    drawing ((c.args.table.now)) ((c.args.source.frame))
-    in
-    let F₀ : Frame =
-    frame_at ((c.args.table.now)) ((c.args.source.frame))
-    in
-    let head : TableHeaded ((c.args.table.now)) =
-    c.requires.sound.headed
-    in
-    let aim : c.args.target ≡ target_of ((c.args.table.now)) =
-    c.requires.target_value.0
-    in
-    let fits₀ : Fits c.args.target c.args.res.now =
-    c.requires.target_value.1
-    in
-    let early : (c.args.source.frame) < frames ((c.args.table.now)) =
-    c.requires.frame_bound.0
-    in
-    let planned : c.args.source ≡ source_of ((c.args.table.now)) ((c.args.source.frame)) (length ((drawing ((c.args.table.now)) ((c.args.source.frame)))).gates) =
-    c.requires.frame_bound.1
-    in
-    let first_is : c.args.source.first ≡ length ((drawing ((c.args.table.now)) ((c.args.source.frame)))).gates =
-    ap (λ (p : Source). p.first) (planned)
-    in
-    let edges-is : c.args.source.edges ≡ states ((c.args.table.now)) ((c.args.source.frame)) * 2 ^ inputs ((c.args.table.now)) =
-    ap (λ (p : Source). p.edges) (planned)
-    in
-    let drawn-is : c.args.source.drawn ≡ ((frame_at ((c.args.table.now)) ((c.args.source.frame)))).nexts =
-    ap (λ (p : Source). p.drawn) (planned)
-    in
-    let room : c.args.source.first + length (frame_gates ((frame_at ((c.args.table.now)) ((c.args.source.frame))))) ≤ c.args.target.gates =
-    omega (arith, first_is, frame_room ((c.args.table.now)) ((c.args.source.frame)) (early), ap (λ (target : Target). target.gates) (aim))
-    in
-    let few : (t : ℕ) → t < frames ((c.args.table.now)) → states ((c.args.table.now)) t ≤ most_drawn_states =
-    λ t h. few_states ((c.args.table.now)) t h (head).sized.inputs_from (omega (arith, (fits₀).gates-to, ap (λ (target : Target). target.gates) (aim)))
-    in
-    let matches : length (match_gates ((frame_at ((c.args.table.now)) ((c.args.source.frame))))) ≡ c.args.target.words * c.args.target.inputs =
-    matches-count ((c.args.table.now)) (head) ((c.args.source.frame)) (early) c.args.target (aim) ((drawing ((c.args.table.now)) ((c.args.source.frame)))) c.args.source.first (first_is)
-    in
-    let edge-length : length (edge_gates ((frame_at ((c.args.table.now)) ((c.args.source.frame))))) ≡ c.args.source.edges =
-    edge_count ((frame_at ((c.args.table.now)) ((c.args.source.frame)))) ∙ frame_edges ((c.args.table.now)) ((c.args.source.frame)) ((drawing ((c.args.table.now)) ((c.args.source.frame)))) ∙ sym (edges-is)
-    in
-    let r₁ : List ℕ =
-    c.put_matches-edges.new.1.1.1.0
-    in
-    let stored₁ : (c.put_matches-edges.new.1.1.1.0) ≡ gates_stored c.args.target.gates c.args.source.first c.args.res.now (match_gates ((frame_at ((c.args.table.now)) ((c.args.source.frame))))) =
-    c.put_matches-edges.ensures.gates
-    ∙ ap (gates_stored c.args.target.gates c.args.source.first c.args.res.now)
-    (matches_are ((c.args.table.now)) (head) ((c.args.source.frame)) (early) c.args.target (aim) ((drawing ((c.args.table.now)) ((c.args.source.frame)))) c.args.source.first (first_is))
-    in
-    let fits₁ : Fits c.args.target ((c.put_matches-edges.new.1.1.1.0)) =
-    fits_still c.args.target c.args.res.now ((c.put_matches-edges.new.1.1.1.0)) c.args.source.first (match_gates ((frame_at ((c.args.table.now)) ((c.args.source.frame))))) (fits₀) (stored₁) (omega (arith, room, frame_count ((frame_at ((c.args.table.now)) ((c.args.source.frame))))))
-    in
-    let s₂ : tie.Start =
-    c
-    in
-    let j₂ : ℕ =
-    c.put_matches-edges.result
-    in
-    let g₂ : ℕ =
-    (c.put_matches-edges.result) + ((c)).args.source.edges
-    in
-    let g₂-is : ((c.put_matches-edges.result) + ((c)).args.source.edges) ≡ (c.put_matches-edges.result) + states (b₀ ((c))) (t₀ ((c))) * 2 ^ inputs (b₀ ((c))) =
-    ap (λ (c : ℕ). (c.put_matches-edges.result) + c) (edges-is ((c)))
-    in
-    let r₂ : List ℕ =
-    c.put_edges.new.1.1.1.1.1.0
-    in
-    let stored₂ : (c.put_edges.new.1.1.1.1.1.0) ≡ gates_stored ((c)).args.target.gates ((c.put_matches-edges.result)) ((c.put_matches-edges.new.1.1.1.0)) (edge_gates (F₀ ((c)))) =
-    let s = (c) in
-    c.put_edges.ensures
-    ∙ ap (gates_stored s.args.target.gates ((c.put_matches-edges.result)) ((c.put_matches-edges.new.1.1.1.0)))
-    (edges_are (b₀ s) (head s) (t₀ s) (early s) s.args.target (aim s) (d₀ s) s.args.source.first (first_is s) ((c.put_matches-edges.result)) c.put_matches-edges.ensures.end
-    (head s).sized.inputs_from s.args.states.now (states-count (b₀ s) (head s).one_first (t₀ s) (early s)) s.pre.1.1.1.0.kept _ (edges-is s))
-    in
-    let fits₂ : Fits ((c)).args.target ((c.put_edges.new.1.1.1.1.1.0)) =
-    let s = (c) in
-    fits_still s.args.target ((c.put_matches-edges.new.1.1.1.0)) ((c.put_edges.new.1.1.1.1.1.0)) ((c.put_matches-edges.result)) (edge_gates (F₀ s)) (fits₁) (stored₂) (omega (arith, c.put_matches-edges.ensures.end, matches s, frame_count (F₀ s), room s))
-    in
-    let edges-in : ((c.put_matches-edges.result) + ((c)).args.source.edges) ≤ ((c)).args.target.gates =
-    let s = (c) in omega (arith, c.put_matches-edges.ensures.end, matches s, edge-length s, frame_count (F₀ s), room s)
-    in
-    let nexts_in_lem : ((c.put_matches-edges.result) + ((c)).args.source.edges) + length (next_gates (F₀ ((c)))) ≤ ((c)).args.target.gates =
-    let s = (c) in omega (arith, c.put_matches-edges.ensures.end, matches s, edge-length s, frame_count (F₀ s), room s)
-    in
-    let s₃ : tie.Start =
-    (c)
-    in
-    let p₃ : List ℕ =
-    c.entries_from-nexts.result.now
-    in
-    let p₃-is : (c.entries_from-nexts.result.now) ≡ layer_part (b₀ (((c)))) (nexts_at (b₀ (((c))))) (t₀ (((c)))) =
-    let s = ((c)) in c.entries_from-nexts.ensures ∙ (nexts_part (b₀ s) (head s) (t₀ s) (early s) _ _ (planned s)).1
-    in
-    let drawn-few : c.args.source.drawn ≤ length c.args.states.now =
-    omega (arith, c.requires.states_kept.long, ap (λ (p : Source). p.drawn) (planned), few_drawn ((c.args.table.now)) (suc ((c.args.source.frame))) (few (suc ((c.args.source.frame)))))
-    in
-    let count₃ : ℕ =
-    length (take c.args.source.drawn c.args.states.now)
-    in
-    let count₃-is : (length (take c.args.source.drawn c.args.states.now)) ≡ ((frame_at ((c.args.table.now)) ((c.args.source.frame)))).nexts =
-    length-take-le c.args.source.drawn c.args.states.now (drawn-few) ∙ drawn-is
-    in
-    let nexts₃ : Gathering =
-    record { key = NextState; edges = (c.put_matches-edges.result) }
-    in
-    let chains₃-are : gather_gates (((c))).args.target ((record { key = NextState; edges = (c.put_matches-edges.result) })) ((c.entries_from-nexts.result.now)) (((c.put_matches-edges.result) + ((c)).args.source.edges)) (count₃ (((c)))) ≡ next_gates (F₀ (((c)))) =
-    let s = ((c)) in
-    nexts_are (b₀ s) (head s) (t₀ s) (early s) s.args.target (aim s) (d₀ s) s.args.source.first (first_is s) ((c.put_matches-edges.result)) c.put_matches-edges.ensures.end (((c.put_matches-edges.result) + ((c)).args.source.edges)) (g₂-is) ((c.entries_from-nexts.result.now)) (p₃-is)
-    (count₃ s) (count₃-is s)
-    in
-    let entries-in : (p : List ℕ) (start : ℕ) → p ≡ layer_part (b₀ ((c))) start (t₀ ((c))) → start + 2 * entry_count (b₀ ((c))) ≤ length (b₀ ((c)))
-    → (c.put_matches-edges.result) + length p / 2 ≤ ((c)).args.target.gates =
-    λ p start e h. let s = (c) in omega (arith, ap length e, part_length (b₀ s) start (t₀ s) h (early s), edges-is s, edges-in)
-    in
-    let s₄ : tie.Start =
-    ((c))
-    in
-    let r₃ : List ℕ =
-    c.put_gathers-gathers.last.1.1.1.1.1.0
-    in
-    let stored₃ : (c.put_gathers-gathers.last.1.1.1.1.1.0) ≡ gates_stored ((((c)))).args.target.gates (((c.put_matches-edges.result) + ((c)).args.source.edges)) ((c.put_edges.new.1.1.1.1.1.0)) (next_gates (F₀ ((((c)))))) =
-    c.put_gathers-gathers.ensures.gates ∙ ap (gates_stored ((((c)))).args.target.gates (((c.put_matches-edges.result) + ((c)).args.source.edges)) ((c.put_edges.new.1.1.1.1.1.0))) (chains₃-are)
-    in
-    let fits₃ : Fits ((((c)))).args.target ((c.put_gathers-gathers.last.1.1.1.1.1.0)) =
-    let x = c in fits_still ((((c)))).args.target (r₂ x) ((c.put_gathers-gathers.last.1.1.1.1.1.0)) (g₂ x) (next_gates (F₀ ((((c)))))) (fits₂ x) (stored₃) (nexts_in_lem x)
-    in
-    let o₄-is : c.put_gathers-gathers.result ≡ ((c.put_matches-edges.result) + ((c)).args.source.edges) + length (next_gates (F₀ ((((c)))))) =
-    c.put_gathers-gathers.ensures.end ∙ ap (λ (gs : List (ℕ × ℕ)). ((c.put_matches-edges.result) + ((c)).args.source.edges) + length gs) (chains₃-are)
-    in
-    let s₅ : tie.Start =
-    (((c)))
-    in
-    let x₅ : tie.After-put-edges =
-    c
-    in
-    let p₅ : List ℕ =
-    c.entries_from-words.result.now
-    in
-    let p₅-is : (c.entries_from-words.result.now) ≡ layer_part (b₀ (((((c)))))) (outputs_at (b₀ (((((c))))))) (t₀ (((((c)))))) =
-    let s = ((((c)))) in c.entries_from-words.ensures ∙ (outputs_part (b₀ s) (head s) (t₀ s) (early s) _ _ (planned s)).1
-    in
-    let count₅-is : length c.args.outputs.now ≡ ((frame_at ((c.args.table.now)) ((c.args.source.frame)))).outputs =
-    c.requires.outputs_len ∙ outs_count ((c.args.table.now)) (head) ((c.args.source.frame)) (early) c.args.target (aim) ((drawing ((c.args.table.now)) ((c.args.source.frame))))
-    in
-    let outs₅ : Gathering =
-    record { key = OutputBit; edges = j₂ ((c)) }
-    in
-    let chains₅-are : gather_gates (((((c))))).args.target ((record { key = OutputBit; edges = j₂ ((c)) })) ((c.entries_from-words.result.now)) c.put_gathers-gathers.result (length (((((c))))).args.outputs.now) ≡ out_gates (F₀ (((((c)))))) =
-    let s = ((((c)))) in
-    let x = (c) in
-    outs_are (b₀ s) (head s) (t₀ s) (early s) s.args.target (aim s) (d₀ s) s.args.source.first (first_is s) (j₂ x) (m₂ x).put-matches.ensures.1 (g₂ x) (g₂-is x)
-    c.put_gathers-gathers.result (o₄-is) ((c.entries_from-words.result.now)) (p₅-is) _ (count₅-is s)
-    in
-    let outs-end : c.put_gathers-gathers.result + length (out_gates (F₀ ((((c)))))) ≡ ((((c)))).args.source.first + length (frame_gates (F₀ ((((c)))))) =
-    let s = (((c))) in
-    let x = c in
-    omega (arith, o₄-is, (m₂ x).put-matches.ensures.1, matches s, edge-length s, frame_count (F₀ s))
-    in
-    let s = (c) in
-    let b : List ℕ = b₀ s in record {
-      fits = fits₃;
-      literals_len_bound = (λ _. omega (arith, s.pre.1.1.1.1, (fits₀ s).outputs-to));
-      entries_bound = entries-in (c.entries_from-words.result.now) (outputs_at b) (p₅-is) (outputs_stand b (head s));
-      literals_bound = omega (arith, ap length (chains₅-are), outs-end, room s);
+    let s = (goal.at.put_gathers-requires c).Start in
+    let e = c.put_matches-edges.ensures in
+    let n = c.entries_from-nexts.ensures in
+    let g = c.put_gathers-gathers.ensures in
+    let w = c.entries_from-words.ensures in record {
+      fits = fits₃ s _ _ e.gates e.end _ c.put_edges.ensures _ n _ _ _ g.gates g.ends g.end;
+      literals_len_bound = (λ _. omega (arith, s.requires.outputs_len, (fits₀ s).outputs-to));
+      entries_bound = entries-in s _ _ e.gates e.end _ (outputs_at (b₀ s)) (p₅-is s _ _ e.gates e.end _ c.put_edges.ensures _ n _ _ _ g.gates g.ends g.end _ w) (outputs_stand (b₀ s) (head s));
+      literals_bound = outs-in s _ _ e.gates e.end _ c.put_edges.ensures _ n _ _ _ g.gates g.ends g.end _ w;
     }
 
 pub returns : goal.returns
-unfolding table_frame
 returns c =
-    let b₀ : List ℕ =
-    c.args.table.now
-    in
-    let t₀ : ℕ =
-    c.args.source.frame
-    in
-    let d₀ : Drawing =
-    drawing ((c.args.table.now)) ((c.args.source.frame))
-    in
-    let F₀ : Frame =
-    frame_at ((c.args.table.now)) ((c.args.source.frame))
-    in
-    let head : TableHeaded ((c.args.table.now)) =
-    c.requires.sound.headed
-    in
-    let aim : c.args.target ≡ target_of ((c.args.table.now)) =
-    c.requires.target_value.0
-    in
-    let fits₀ : Fits c.args.target c.args.res.now =
-    c.requires.target_value.1
-    in
-    let early : (c.args.source.frame) < frames ((c.args.table.now)) =
-    c.requires.frame_bound.0
-    in
-    let planned : c.args.source ≡ source_of ((c.args.table.now)) ((c.args.source.frame)) (length ((drawing ((c.args.table.now)) ((c.args.source.frame)))).gates) =
-    c.requires.frame_bound.1
-    in
-    let first_is : c.args.source.first ≡ length ((drawing ((c.args.table.now)) ((c.args.source.frame)))).gates =
-    ap (λ (p : Source). p.first) (planned)
-    in
-    let edges-is : c.args.source.edges ≡ states ((c.args.table.now)) ((c.args.source.frame)) * 2 ^ inputs ((c.args.table.now)) =
-    ap (λ (p : Source). p.edges) (planned)
-    in
-    let drawn-is : c.args.source.drawn ≡ ((frame_at ((c.args.table.now)) ((c.args.source.frame)))).nexts =
-    ap (λ (p : Source). p.drawn) (planned)
-    in
-    let room : c.args.source.first + length (frame_gates ((frame_at ((c.args.table.now)) ((c.args.source.frame))))) ≤ c.args.target.gates =
-    omega (arith, first_is, frame_room ((c.args.table.now)) ((c.args.source.frame)) (early), ap (λ (target : Target). target.gates) (aim))
-    in
-    let few : (t : ℕ) → t < frames ((c.args.table.now)) → states ((c.args.table.now)) t ≤ most_drawn_states =
-    λ t h. few_states ((c.args.table.now)) t h (head).sized.inputs_from (omega (arith, (fits₀).gates-to, ap (λ (target : Target). target.gates) (aim)))
-    in
-    let matches : length (match_gates ((frame_at ((c.args.table.now)) ((c.args.source.frame))))) ≡ c.args.target.words * c.args.target.inputs =
-    matches-count ((c.args.table.now)) (head) ((c.args.source.frame)) (early) c.args.target (aim) ((drawing ((c.args.table.now)) ((c.args.source.frame)))) c.args.source.first (first_is)
-    in
-    let edge-length : length (edge_gates ((frame_at ((c.args.table.now)) ((c.args.source.frame))))) ≡ c.args.source.edges =
-    edge_count ((frame_at ((c.args.table.now)) ((c.args.source.frame)))) ∙ frame_edges ((c.args.table.now)) ((c.args.source.frame)) ((drawing ((c.args.table.now)) ((c.args.source.frame)))) ∙ sym (edges-is)
-    in
-    let r₁ : List ℕ =
-    c.put_matches-edges.new.1.1.1.0
-    in
-    let stored₁ : (c.put_matches-edges.new.1.1.1.0) ≡ gates_stored c.args.target.gates c.args.source.first c.args.res.now (match_gates ((frame_at ((c.args.table.now)) ((c.args.source.frame))))) =
-    c.put_matches-edges.ensures.gates
-    ∙ ap (gates_stored c.args.target.gates c.args.source.first c.args.res.now)
-    (matches_are ((c.args.table.now)) (head) ((c.args.source.frame)) (early) c.args.target (aim) ((drawing ((c.args.table.now)) ((c.args.source.frame)))) c.args.source.first (first_is))
-    in
-    let s₂ : tie.Start =
-    c
-    in
-    let j₂ : ℕ =
-    c.put_matches-edges.result
-    in
-    let g₂ : ℕ =
-    (c.put_matches-edges.result) + ((c)).args.source.edges
-    in
-    let g₂-is : ((c.put_matches-edges.result) + ((c)).args.source.edges) ≡ (c.put_matches-edges.result) + states (b₀ ((c))) (t₀ ((c))) * 2 ^ inputs (b₀ ((c))) =
-    ap (λ (c : ℕ). (c.put_matches-edges.result) + c) (edges-is ((c)))
-    in
-    let r₂ : List ℕ =
-    c.put_edges.new.1.1.1.1.1.0
-    in
-    let stored₂ : (c.put_edges.new.1.1.1.1.1.0) ≡ gates_stored ((c)).args.target.gates ((c.put_matches-edges.result)) ((c.put_matches-edges.new.1.1.1.0)) (edge_gates (F₀ ((c)))) =
-    let s = (c) in
-    c.put_edges.ensures
-    ∙ ap (gates_stored s.args.target.gates ((c.put_matches-edges.result)) ((c.put_matches-edges.new.1.1.1.0)))
-    (edges_are (b₀ s) (head s) (t₀ s) (early s) s.args.target (aim s) (d₀ s) s.args.source.first (first_is s) ((c.put_matches-edges.result)) c.put_matches-edges.ensures.end
-    (head s).sized.inputs_from s.args.states.now (states-count (b₀ s) (head s).one_first (t₀ s) (early s)) s.pre.1.1.1.0.kept _ (edges-is s))
-    in
-    let s₃ : tie.Start =
-    (c)
-    in
-    let p₃ : List ℕ =
-    c.entries_from-nexts.result.now
-    in
-    let p₃-is : (c.entries_from-nexts.result.now) ≡ layer_part (b₀ (((c)))) (nexts_at (b₀ (((c))))) (t₀ (((c)))) =
-    let s = ((c)) in c.entries_from-nexts.ensures ∙ (nexts_part (b₀ s) (head s) (t₀ s) (early s) _ _ (planned s)).1
-    in
-    let drawn-few : c.args.source.drawn ≤ length c.args.states.now =
-    omega (arith, c.requires.states_kept.long, ap (λ (p : Source). p.drawn) (planned), few_drawn ((c.args.table.now)) (suc ((c.args.source.frame))) (few (suc ((c.args.source.frame)))))
-    in
-    let count₃ : ℕ =
-    length (take c.args.source.drawn c.args.states.now)
-    in
-    let count₃-is : (length (take c.args.source.drawn c.args.states.now)) ≡ ((frame_at ((c.args.table.now)) ((c.args.source.frame)))).nexts =
-    length-take-le c.args.source.drawn c.args.states.now (drawn-few) ∙ drawn-is
-    in
-    let nexts₃ : Gathering =
-    record { key = NextState; edges = (c.put_matches-edges.result) }
-    in
-    let chains₃-are : gather_gates (((c))).args.target ((record { key = NextState; edges = (c.put_matches-edges.result) })) ((c.entries_from-nexts.result.now)) (((c.put_matches-edges.result) + ((c)).args.source.edges)) (count₃ (((c)))) ≡ next_gates (F₀ (((c)))) =
-    let s = ((c)) in
-    nexts_are (b₀ s) (head s) (t₀ s) (early s) s.args.target (aim s) (d₀ s) s.args.source.first (first_is s) ((c.put_matches-edges.result)) c.put_matches-edges.ensures.end (((c.put_matches-edges.result) + ((c)).args.source.edges)) (g₂-is) ((c.entries_from-nexts.result.now)) (p₃-is)
-    (count₃ s) (count₃-is s)
-    in
-    let kept₃-are : gather_literals (((c))).args.target ((record { key = NextState; edges = (c.put_matches-edges.result) })) ((c.entries_from-nexts.result.now)) (((c.put_matches-edges.result) + ((c)).args.source.edges)) (count₃ (((c)))) ≡ (drawing (b₀ (((c)))) (suc (t₀ (((c)))))).states =
-    let s = ((c)) in
-    next_literals (b₀ s) (head s) (t₀ s) (early s) s.args.target (aim s) (d₀ s) s.args.source.first (first_is s) ((c.put_matches-edges.result)) c.put_matches-edges.ensures.end (((c.put_matches-edges.result) + ((c)).args.source.edges)) (g₂-is) ((c.entries_from-nexts.result.now)) (p₃-is)
-    (count₃ s) (count₃-is s)
-    ∙ sym (states-next (b₀ s) (t₀ s))
-    in
-    let s₄ : tie.Start =
-    ((c))
-    in
-    let r₃ : List ℕ =
-    c.put_gathers-gathers.last.1.1.1.1.1.0
-    in
-    let stored₃ : (c.put_gathers-gathers.last.1.1.1.1.1.0) ≡ gates_stored ((((c)))).args.target.gates (((c.put_matches-edges.result) + ((c)).args.source.edges)) ((c.put_edges.new.1.1.1.1.1.0)) (next_gates (F₀ ((((c)))))) =
-    c.put_gathers-gathers.ensures.gates ∙ ap (gates_stored ((((c)))).args.target.gates (((c.put_matches-edges.result) + ((c)).args.source.edges)) ((c.put_edges.new.1.1.1.1.1.0))) (chains₃-are)
-    in
-    let states₃ : StatesKept (b₀ ((((c))))) (suc (t₀ ((((c)))))) (c.put_gathers-gathers.new.1.1.1.1.0 ++ drop ((((c)))).args.source.drawn ((((c)))).args.states.now) =
-    let s = (((c))) in
-    let e = c.put_gathers-gathers.ensures.ends ∙ kept₃-are in
-    states-left (b₀ s) s.args.states.now _ (t₀ s) s.args.source.drawn e
-    (drawn-is s ∙ sym (ap length (e ∙ states-next (b₀ s) (t₀ s)) ∙ listed-length _ (F₀ s).nexts)) (drawn-few s) s.pre.1.1.1.0.long
-    in
-    let o₄-is : c.put_gathers-gathers.result ≡ ((c.put_matches-edges.result) + ((c)).args.source.edges) + length (next_gates (F₀ ((((c)))))) =
-    c.put_gathers-gathers.ensures.end ∙ ap (λ (gs : List (ℕ × ℕ)). ((c.put_matches-edges.result) + ((c)).args.source.edges) + length gs) (chains₃-are)
-    in
-    let s₅ : tie.Start =
-    (((c)))
-    in
-    let x₅ : tie.After-put-edges =
-    c
-    in
-    let p₅ : List ℕ =
-    c.entries_from-words.result.now
-    in
-    let p₅-is : (c.entries_from-words.result.now) ≡ layer_part (b₀ (((((c)))))) (outputs_at (b₀ (((((c))))))) (t₀ (((((c)))))) =
-    let s = ((((c)))) in c.entries_from-words.ensures ∙ (outputs_part (b₀ s) (head s) (t₀ s) (early s) _ _ (planned s)).1
-    in
-    let count₅-is : length c.args.outputs.now ≡ ((frame_at ((c.args.table.now)) ((c.args.source.frame)))).outputs =
-    c.requires.outputs_len ∙ outs_count ((c.args.table.now)) (head) ((c.args.source.frame)) (early) c.args.target (aim) ((drawing ((c.args.table.now)) ((c.args.source.frame))))
-    in
-    let outs₅ : Gathering =
-    record { key = OutputBit; edges = j₂ ((c)) }
-    in
-    let chains₅-are : gather_gates (((((c))))).args.target ((record { key = OutputBit; edges = j₂ ((c)) })) ((c.entries_from-words.result.now)) c.put_gathers-gathers.result (length (((((c))))).args.outputs.now) ≡ out_gates (F₀ (((((c)))))) =
-    let s = ((((c)))) in
-    let x = (c) in
-    outs_are (b₀ s) (head s) (t₀ s) (early s) s.args.target (aim s) (d₀ s) s.args.source.first (first_is s) (j₂ x) (m₂ x).put-matches.ensures.1 (g₂ x) (g₂-is x)
-    c.put_gathers-gathers.result (o₄-is) ((c.entries_from-words.result.now)) (p₅-is) _ (count₅-is s)
-    in
-    let kept₅-are : gather_literals (((((c))))).args.target ((record { key = OutputBit; edges = j₂ ((c)) })) ((c.entries_from-words.result.now)) c.put_gathers-gathers.result (length (((((c))))).args.outputs.now) ≡ listed [] (out_literal (F₀ (((((c))))))) (((((c))))).args.target.outputs =
-    let s = ((((c)))) in
-    let x = (c) in
-    out_literals (b₀ s) (head s) (t₀ s) (early s) s.args.target (aim s) (d₀ s) s.args.source.first (first_is s) (j₂ x) (m₂ x).put-matches.ensures.1 (g₂ x) (g₂-is x)
-    c.put_gathers-gathers.result (o₄-is) ((c.entries_from-words.result.now)) (p₅-is) _ (count₅-is s)
-    ∙ ap (listed [] (out_literal (F₀ s))) (sym (count₅-is s) ∙ s.pre.1.1.1.1)
-    in
-    let outs-end : c.put_gathers-gathers.result + length (out_gates (F₀ ((((c)))))) ≡ ((((c)))).args.source.first + length (frame_gates (F₀ ((((c)))))) =
-    let s = (((c))) in
-    let x = c in
-    omega (arith, o₄-is, (m₂ x).put-matches.ensures.1, matches s, edge-length s, frame_count (F₀ s))
-    in
-    let s₆ : tie.Start =
-    ((((c))))
-    in
-    let stored₆ : c.put_gathers.new.1.1.1.1.1.0 ≡ gates_stored ((((((c)))))).args.target.gates ((((((c)))))).args.source.first ((((((c)))))).args.res.now (frame_gates (F₀ ((((((c)))))))) =
-    let g = l₅ c in
-    let x = (c) in
-    let m = m₂ x in
-    let s = (((((c))))) in
-    parts_stored s.args.target.gates s.args.source.first s.args.res.now (r₁ m) (r₂ x) (r₃ g) _ (F₀ s) (j₂ x) (g₂ x) g.put-gathers.result
-    (stored₁ m) (stored₂ x) (stored₃ g) (c.put_gathers.ensures.gates ∙ ap (gates_stored s.args.target.gates g.put-gathers.result (r₃ g)) (chains₅-are))
-    (omega (arith, m.put-matches.ensures.1, matches s)) (omega (arith, edge-length s)) (o₄-is g) (room s) (fits₀ s).room
-    in
-    let s = (c) in record {
-      gates = stored₆;
-      states = states₃;
-      outputs = c.put_gathers.ensures.ends ∙ kept₅-are;
-      end = c.put_gathers.ensures.end ∙ ap (λ (gs : List (ℕ × ℕ)). c.put_gathers-gathers.result + length gs) (chains₅-are) ∙ outs-end ∙ omega (arith, first_is s, frame_ends (b₀ s) (t₀ s));
+    let s = (goal.at.returns c).Start in
+    let e = c.put_matches-edges.ensures in
+    let n = c.entries_from-nexts.ensures in
+    let g = c.put_gathers-gathers.ensures in
+    let w = c.entries_from-words.ensures in
+    let o = c.put_gathers.ensures in record {
+      gates = stored₆ s _ _ e.gates e.end _ c.put_edges.ensures _ n _ _ _ g.gates g.ends g.end _ w _ o.gates;
+      states = states₃ s _ _ e.gates e.end _ c.put_edges.ensures _ n _ _ _ g.gates g.ends g.end;
+      outputs = o.ends ∙ kept₅-are s _ _ e.gates e.end _ c.put_edges.ensures _ n _ _ _ g.gates g.ends g.end _ w;
+      end =
+          o.end ∙ ap (λ (gs : List (ℕ × ℕ)). c.put_gathers-gathers.result + length gs) (chains₅-are s _ _ e.gates e.end _ c.put_edges.ensures _ n _ _ _ g.gates g.ends g.end _ w)
+          ∙ outs-end s _ _ e.gates e.end _ c.put_edges.ensures _ n _ _ _ g.gates g.ends g.end ∙ omega (arith, first_is s, frame_ends (b₀ s) (t₀ s));
     }

@@ -1,5 +1,4 @@
 use native.Mathlib.Omega.{arith}
-use borrow.Author.Rules.{rules}
 use Rattle.explore.proofs.Layers.{group_count, grouped_is}
 use Rattle.explore.proofs.at_group.Goals as goal
 

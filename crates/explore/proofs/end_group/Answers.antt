@@ -1,5 +1,4 @@
 use native.Mathlib.Omega.{arith}
-use borrow.Author.Rules.{rules}
 use Rattle.explore.proofs.Ends.{end_rowable, end_placed, end_groupable, group_ends, end_collectable, end_nextable, layer_ends}
 use Rattle.explore.proofs.end_group.Goals as goal
 

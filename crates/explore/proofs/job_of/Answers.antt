@@ -1,5 +1,4 @@
 use native.Mathlib.Omega.{arith}
-use borrow.Author.Rules.{rules}
 use Rattle.explore.proofs.Jobs.{JobSafe, job_safe}
 use Rattle.explore.proofs.job_of.Goals as goal
 

@@ -1,5 +1,4 @@
 use native.Mathlib.Omega.{arith}
-use borrow.Author.Rules.{rules}
 use Rattle.explore.proofs.Begin.{state_turn, states_done, done_states}
 use Rattle.explore.proofs.move_on.Goals as goal
 

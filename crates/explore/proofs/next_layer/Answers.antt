@@ -1,6 +1,5 @@
 use mathlib.Core.Path.{◌∙◌}
 use native.Mathlib.Omega.{arith}
-use borrow.Author.Rules.{rules}
 use Rattle.explore.proofs.Layers.{next_place, next-first, next_groupable, next_is}
 use Rattle.explore.proofs.next_layer.Goals as goal
 

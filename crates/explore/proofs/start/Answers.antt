@@ -1,6 +1,5 @@
 use mathlib.Core.Path.{sym, subst}
 use native.Mathlib.Omega.{arith}
-use borrow.Author.Rules.{rules}
 use Rattle.explore.specs.Explore.{Starts}
 use Rattle.explore.proofs.Layers.{frames-to}
 use Rattle.explore.proofs.Begin.{first_groupable, start_holds}

@@ -19,7 +19,7 @@ overflow_cast-least c =
 pub returns : goal.returns
 unfolding added
 returns c =
-    let v : List ℕ = c.args.result.now in
+    let v : List ℕ = c.args.res.now in
     let least = c.smaller-least.ensures ∙ ap₂ (λ (n k : ℕ). smaller n k c.args.smallest) c.read32-before.ensures.0 c.read32.ensures.0 in
     c.store32-2.ensures
     ∙ ap₂ (λ (r : List ℕ) (n : ℕ). stored 4 r c.args.at ((n + c.args.count) ∷ [])) (c.store32.ensures ∙ ap (λ (x : ℕ). stored 4 v (c.args.at + c.args.gap) (x ∷ [])) least) c.read32-before.ensures.0

@@ -22,23 +22,17 @@ loop-t-init c =
 
 pub read-layer-requires : goal.read-layer-requires
 read-layer-requires c =
-    let b₀ : List ℕ =
-    c.args.table.now
-    in
-    let frames_is : c.args.layout.frames ≡ frames ((c.args.table.now)) =
+    let frames_is : c.args.layout.frames ≡ frames c.args.table.now =
     ap (λ (l : Layout). l.frames) c.requires.layout_value
     in
     record {
-      table_headed = (c.requires.following.sound).headed;
+      table_headed = c.requires.following.sound.headed;
       layout_value = (c.requires.layout_value, omega (arith, c.loop-t-test.true, frames_is));
     }
 
 pub follow_layer-requires : goal.follow_layer-requires
 follow_layer-requires c =
-    let b₀ : List ℕ =
-    c.args.table.now
-    in
-    let frames_is : c.args.layout.frames ≡ frames ((c.args.table.now)) =
+    let frames_is : c.args.layout.frames ≡ frames c.args.table.now =
     ap (λ (l : Layout). l.frames) c.requires.layout_value
     in
     let layer_is : c.read-layer.result.layer ≡ c.loop-t.t =
@@ -46,38 +40,32 @@ follow_layer-requires c =
     in
     let v : List ℕ = c.args.res.now in
     let e = layer_is in record {
-      layer_bound = (omega (arith, e, c.loop-t-test.true, frames_is), c.read-layer.ensures ∙ ap (layer_of (c.args.table.now)) (sym e));
-      following = following (c.args.table.now) (c.requires.following.sound) v c.loop-t.result c.read-layer.result.layer 0 c.requires.following.room (c.loop-t.invariant.1 ∙ ap (λ (t : ℕ). stored 4 v (reach_head (c.args.table.now)) (so_far (c.args.table.now) t 0)) (sym e));
+      layer_bound = (omega (arith, e, c.loop-t-test.true, frames_is), c.read-layer.ensures ∙ ap (layer_of c.args.table.now) (sym e));
+      following = following c.args.table.now c.requires.following.sound v c.loop-t.res c.read-layer.result.layer 0 c.requires.following.room (c.loop-t.invariant.1 ∙ ap (λ (t : ℕ). stored 4 v (reach_head c.args.table.now) (so_far c.args.table.now t 0)) (sym e));
     }
 
 pub overflow_step-t : goal.overflow_step-t
 overflow_step-t c =
-    let b₀ : List ℕ =
-    c.args.table.now
-    in
-    let frames_is : c.args.layout.frames ≡ frames ((c.args.table.now)) =
+    let frames_is : c.args.layout.frames ≡ frames c.args.table.now =
     ap (λ (l : Layout). l.frames) c.requires.layout_value
     in
-    omega (arith, c.loop-t-test.true, frames_is, (c.requires.following.sound).headed.sized)
+    omega (arith, c.loop-t-test.true, frames_is, c.requires.following.sound.headed.sized)
 
 pub loop-t-preserved : goal.loop-t-preserved
 loop-t-preserved c =
     let layer_is : c.read-layer.result.layer ≡ c.loop-t.t =
     ap (λ (l : Layer). l.layer) c.read-layer.ensures
     in
-    let e : suc c.read-layer.result.layer ≡ c.loop-t.t + 1 = ap suc (layer_is) ∙ sym (add-one c.loop-t.t) in (
+    let e : suc c.read-layer.result.layer ≡ c.loop-t.t + 1 = ap suc layer_is ∙ sym (add-one c.loop-t.t) in (
       omega (arith, c.loop-t-test.true),
-      further (c.args.table.now) (c.requires.following.sound) c.args.res.now c.loop-t.result _ c.loop-t.t 0 (c.loop-t.t + 1) 0 c.requires.following.room c.loop-t.invariant.1
-          (c.follow_layer.ensures ∙ ap (λ (t : ℕ). stored 4 c.loop-t.result (reach_head (c.args.table.now)) (so_far (c.args.table.now) t 0)) e),
+      further c.args.table.now c.requires.following.sound c.args.res.now c.loop-t.res _ c.loop-t.t 0 (c.loop-t.t + 1) 0 c.requires.following.room c.loop-t.invariant.1
+          (c.follow_layer.ensures ∙ ap (λ (t : ℕ). stored 4 c.loop-t.res (reach_head c.args.table.now) (so_far c.args.table.now t 0)) e),
     )
 
 pub returns : goal.returns
 returns c =
-    let b₀ : List ℕ =
-    c.args.table.now
-    in
-    let frames_is : c.args.layout.frames ≡ frames ((c.args.table.now)) =
+    let frames_is : c.args.layout.frames ≡ frames c.args.table.now =
     ap (λ (l : Layout). l.frames) c.requires.layout_value
     in
-    let e : c.loop-t.t ≡ frames (c.args.table.now) = omega (arith, c.loop-t.invariant.0, c.loop-t-test.false, frames_is) in
-    c.loop-t.invariant.1 ∙ ap (λ (t : ℕ). stored 4 c.args.res.now (reach_head (c.args.table.now)) (so_far (c.args.table.now) t 0)) e
+    let e : c.loop-t.t ≡ frames c.args.table.now = omega (arith, c.loop-t.invariant.0, c.loop-t-test.false, frames_is) in
+    c.loop-t.invariant.1 ∙ ap (λ (t : ℕ). stored 4 c.args.res.now (reach_head c.args.table.now) (so_far c.args.table.now t 0)) e

@@ -22,256 +22,151 @@ use Rattle.paths.proofs.follow_state.Goals as goal
 pub overflow_mul-at : goal.overflow_mul-at
 unfolding Held
 overflow_mul-at c =
-    let b₀ : List ℕ =
-    c.args.table.now
+    let layer : LayerIs c.args.table.now c.args.layer.layer c.args.layer =
+    layer_is c.args.table.now c.requires.following.sound.headed c.args.layer.layer c.args.layer c.requires.layer_bound.1
     in
-    let t₀ : ℕ =
-    c.args.layer.layer
+    let at_is : c.args.layer.from + 4 * c.args.s ≡ histories_at c.args.table.now c.args.layer.layer c.args.s =
+    omega (arith, layer.from_is, state_at c.args.table.now c.args.layer.layer c.args.s)
     in
-    let K₀ : ℕ =
-    2 ^ inputs ((c.args.table.now))
-    in
-    let v₀ : List ℕ =
-    c.args.res.now
-    in
-    let legal : Sound ((c.args.table.now)) =
-    c.requires.following.sound
-    in
-    let layer : LayerIs ((c.args.table.now)) ((c.args.layer.layer)) c.args.layer =
-    layer_is ((c.args.table.now)) ((c.requires.following.sound)).headed ((c.args.layer.layer)) c.args.layer c.requires.layer_bound.1
-    in
-    let at_is : c.args.layer.from + 4 * c.args.s ≡ histories_at ((c.args.table.now)) ((c.args.layer.layer)) c.args.s =
-    omega (arith, (layer).from_is, state_at ((c.args.table.now)) ((c.args.layer.layer)) c.args.s)
-    in
-    let held : (c.args.res.now) ≡ stored 4 ((c.args.res.now)) (reach_head ((c.args.table.now))) (so_far ((c.args.table.now)) ((c.args.layer.layer)) (c.args.s * (2 ^ inputs ((c.args.table.now))))) =
+    let held : c.args.res.now ≡ stored 4 c.args.res.now (reach_head c.args.table.now) (so_far c.args.table.now c.args.layer.layer (c.args.s * (2 ^ inputs c.args.table.now))) =
     sym c.requires.following.held
     in
-    let inner : (c.args.layer.layer) ≤ frames ((c.args.table.now)) =
+    let inner : c.args.layer.layer ≤ frames c.args.table.now =
     omega (arith, c.requires.layer_bound.0)
     in
-    let there : (histories_at ((c.args.table.now)) ((c.args.layer.layer)) c.args.s + gap ((c.args.table.now)) + 4 ≤ length ((c.args.res.now))) × (4 ≤ gap ((c.args.table.now))) =
-    histories_in ((c.args.table.now)) ((c.requires.following.sound)) ((c.args.layer.layer)) (c.args.s * (2 ^ inputs ((c.args.table.now)))) ((c.args.res.now)) ((c.args.res.now)) c.requires.following.room (held) ((c.args.layer.layer)) c.args.s (inner) c.requires.layer_bound.2
+    let there : (histories_at c.args.table.now c.args.layer.layer c.args.s + gap c.args.table.now + 4 ≤ length c.args.res.now) × (4 ≤ gap c.args.table.now) =
+    histories_in c.args.table.now c.requires.following.sound c.args.layer.layer (c.args.s * (2 ^ inputs c.args.table.now)) c.args.res.now c.args.res.now c.requires.following.room held c.args.layer.layer c.args.s inner c.requires.layer_bound.2
     in
     omega (arith, at_is, there, c.well_formed)
 
 pub overflow_add-at : goal.overflow_add-at
 unfolding Held
 overflow_add-at c =
-    let b₀ : List ℕ =
-    c.args.table.now
+    let layer : LayerIs c.args.table.now c.args.layer.layer c.args.layer =
+    layer_is c.args.table.now c.requires.following.sound.headed c.args.layer.layer c.args.layer c.requires.layer_bound.1
     in
-    let t₀ : ℕ =
-    c.args.layer.layer
+    let at_is : c.args.layer.from + 4 * c.args.s ≡ histories_at c.args.table.now c.args.layer.layer c.args.s =
+    omega (arith, layer.from_is, state_at c.args.table.now c.args.layer.layer c.args.s)
     in
-    let K₀ : ℕ =
-    2 ^ inputs ((c.args.table.now))
-    in
-    let v₀ : List ℕ =
-    c.args.res.now
-    in
-    let legal : Sound ((c.args.table.now)) =
-    c.requires.following.sound
-    in
-    let layer : LayerIs ((c.args.table.now)) ((c.args.layer.layer)) c.args.layer =
-    layer_is ((c.args.table.now)) ((c.requires.following.sound)).headed ((c.args.layer.layer)) c.args.layer c.requires.layer_bound.1
-    in
-    let at_is : c.args.layer.from + 4 * c.args.s ≡ histories_at ((c.args.table.now)) ((c.args.layer.layer)) c.args.s =
-    omega (arith, (layer).from_is, state_at ((c.args.table.now)) ((c.args.layer.layer)) c.args.s)
-    in
-    let held : (c.args.res.now) ≡ stored 4 ((c.args.res.now)) (reach_head ((c.args.table.now))) (so_far ((c.args.table.now)) ((c.args.layer.layer)) (c.args.s * (2 ^ inputs ((c.args.table.now))))) =
+    let held : c.args.res.now ≡ stored 4 c.args.res.now (reach_head c.args.table.now) (so_far c.args.table.now c.args.layer.layer (c.args.s * (2 ^ inputs c.args.table.now))) =
     sym c.requires.following.held
     in
-    let inner : (c.args.layer.layer) ≤ frames ((c.args.table.now)) =
+    let inner : c.args.layer.layer ≤ frames c.args.table.now =
     omega (arith, c.requires.layer_bound.0)
     in
-    let there : (histories_at ((c.args.table.now)) ((c.args.layer.layer)) c.args.s + gap ((c.args.table.now)) + 4 ≤ length ((c.args.res.now))) × (4 ≤ gap ((c.args.table.now))) =
-    histories_in ((c.args.table.now)) ((c.requires.following.sound)) ((c.args.layer.layer)) (c.args.s * (2 ^ inputs ((c.args.table.now)))) ((c.args.res.now)) ((c.args.res.now)) c.requires.following.room (held) ((c.args.layer.layer)) c.args.s (inner) c.requires.layer_bound.2
+    let there : (histories_at c.args.table.now c.args.layer.layer c.args.s + gap c.args.table.now + 4 ≤ length c.args.res.now) × (4 ≤ gap c.args.table.now) =
+    histories_in c.args.table.now c.requires.following.sound c.args.layer.layer (c.args.s * (2 ^ inputs c.args.table.now)) c.args.res.now c.args.res.now c.requires.following.room held c.args.layer.layer c.args.s inner c.requires.layer_bound.2
     in
     omega (arith, at_is, there, c.well_formed)
 
 pub read32-count-requires : goal.read32-count-requires
 unfolding Held
 read32-count-requires c =
-    let b₀ : List ℕ =
-    c.args.table.now
+    let layer : LayerIs c.args.table.now c.args.layer.layer c.args.layer =
+    layer_is c.args.table.now c.requires.following.sound.headed c.args.layer.layer c.args.layer c.requires.layer_bound.1
     in
-    let t₀ : ℕ =
-    c.args.layer.layer
+    let at_is : c.args.layer.from + 4 * c.args.s ≡ histories_at c.args.table.now c.args.layer.layer c.args.s =
+    omega (arith, layer.from_is, state_at c.args.table.now c.args.layer.layer c.args.s)
     in
-    let K₀ : ℕ =
-    2 ^ inputs ((c.args.table.now))
-    in
-    let v₀ : List ℕ =
-    c.args.res.now
-    in
-    let legal : Sound ((c.args.table.now)) =
-    c.requires.following.sound
-    in
-    let layer : LayerIs ((c.args.table.now)) ((c.args.layer.layer)) c.args.layer =
-    layer_is ((c.args.table.now)) ((c.requires.following.sound)).headed ((c.args.layer.layer)) c.args.layer c.requires.layer_bound.1
-    in
-    let at_is : c.args.layer.from + 4 * c.args.s ≡ histories_at ((c.args.table.now)) ((c.args.layer.layer)) c.args.s =
-    omega (arith, (layer).from_is, state_at ((c.args.table.now)) ((c.args.layer.layer)) c.args.s)
-    in
-    let held : (c.args.res.now) ≡ stored 4 ((c.args.res.now)) (reach_head ((c.args.table.now))) (so_far ((c.args.table.now)) ((c.args.layer.layer)) (c.args.s * (2 ^ inputs ((c.args.table.now))))) =
+    let held : c.args.res.now ≡ stored 4 c.args.res.now (reach_head c.args.table.now) (so_far c.args.table.now c.args.layer.layer (c.args.s * (2 ^ inputs c.args.table.now))) =
     sym c.requires.following.held
     in
-    let inner : (c.args.layer.layer) ≤ frames ((c.args.table.now)) =
+    let inner : c.args.layer.layer ≤ frames c.args.table.now =
     omega (arith, c.requires.layer_bound.0)
     in
-    let there : (histories_at ((c.args.table.now)) ((c.args.layer.layer)) c.args.s + gap ((c.args.table.now)) + 4 ≤ length ((c.args.res.now))) × (4 ≤ gap ((c.args.table.now))) =
-    histories_in ((c.args.table.now)) ((c.requires.following.sound)) ((c.args.layer.layer)) (c.args.s * (2 ^ inputs ((c.args.table.now)))) ((c.args.res.now)) ((c.args.res.now)) c.requires.following.room (held) ((c.args.layer.layer)) c.args.s (inner) c.requires.layer_bound.2
+    let there : (histories_at c.args.table.now c.args.layer.layer c.args.s + gap c.args.table.now + 4 ≤ length c.args.res.now) × (4 ≤ gap c.args.table.now) =
+    histories_in c.args.table.now c.requires.following.sound c.args.layer.layer (c.args.s * (2 ^ inputs c.args.table.now)) c.args.res.now c.args.res.now c.requires.following.room held c.args.layer.layer c.args.s inner c.requires.layer_bound.2
     in
     omega (arith, at_is, there)
 
 pub returns-then-count-eq0 : goal.returns-then-count-eq0
 unfolding Held
 returns-then-count-eq0 c =
-    let b₀ : List ℕ =
-    c.args.table.now
+    let layer : LayerIs c.args.table.now c.args.layer.layer c.args.layer =
+    layer_is c.args.table.now c.requires.following.sound.headed c.args.layer.layer c.args.layer c.requires.layer_bound.1
     in
-    let t₀ : ℕ =
-    c.args.layer.layer
+    let at_is : c.args.layer.from + 4 * c.args.s ≡ histories_at c.args.table.now c.args.layer.layer c.args.s =
+    omega (arith, layer.from_is, state_at c.args.table.now c.args.layer.layer c.args.s)
     in
-    let K₀ : ℕ =
-    2 ^ inputs ((c.args.table.now))
-    in
-    let v₀ : List ℕ =
-    c.args.res.now
-    in
-    let legal : Sound ((c.args.table.now)) =
-    c.requires.following.sound
-    in
-    let layer : LayerIs ((c.args.table.now)) ((c.args.layer.layer)) c.args.layer =
-    layer_is ((c.args.table.now)) ((c.requires.following.sound)).headed ((c.args.layer.layer)) c.args.layer c.requires.layer_bound.1
-    in
-    let at_is : c.args.layer.from + 4 * c.args.s ≡ histories_at ((c.args.table.now)) ((c.args.layer.layer)) c.args.s =
-    omega (arith, (layer).from_is, state_at ((c.args.table.now)) ((c.args.layer.layer)) c.args.s)
-    in
-    let held : (c.args.res.now) ≡ stored 4 ((c.args.res.now)) (reach_head ((c.args.table.now))) (so_far ((c.args.table.now)) ((c.args.layer.layer)) (c.args.s * (2 ^ inputs ((c.args.table.now))))) =
+    let held : c.args.res.now ≡ stored 4 c.args.res.now (reach_head c.args.table.now) (so_far c.args.table.now c.args.layer.layer (c.args.s * (2 ^ inputs c.args.table.now))) =
     sym c.requires.following.held
     in
-    let inner : (c.args.layer.layer) ≤ frames ((c.args.table.now)) =
+    let inner : c.args.layer.layer ≤ frames c.args.table.now =
     omega (arith, c.requires.layer_bound.0)
     in
-    let count-there : number_at 4 ((c.args.res.now)) (c.args.layer.from + 4 * c.args.s) ≡ histories ((2 ^ inputs ((c.args.table.now)))) (machine ((c.args.table.now))) ((c.args.layer.layer)) c.args.s =
-    ap (number_at 4 ((c.args.res.now))) (at_is)
-    ∙ histories_there ((c.args.table.now)) ((c.requires.following.sound)) ((c.args.layer.layer)) (c.args.s * (2 ^ inputs ((c.args.table.now)))) ((c.args.res.now)) ((c.args.res.now)) c.requires.following.room (held) ((c.args.layer.layer)) c.args.s (inner) c.requires.layer_bound.2
-    ∙ whole_histories ((2 ^ inputs ((c.args.table.now)))) (machine ((c.args.table.now))) ((c.args.layer.layer)) (c.args.s * (2 ^ inputs ((c.args.table.now)))) ((c.args.layer.layer)) c.args.s (le_refl _)
+    let count-there : number_at 4 c.args.res.now (c.args.layer.from + 4 * c.args.s) ≡ histories (2 ^ inputs c.args.table.now) (machine c.args.table.now) c.args.layer.layer c.args.s =
+    ap (number_at 4 c.args.res.now) at_is
+    ∙ histories_there c.args.table.now c.requires.following.sound c.args.layer.layer (c.args.s * (2 ^ inputs c.args.table.now)) c.args.res.now c.args.res.now c.requires.following.room held c.args.layer.layer c.args.s inner c.requires.layer_bound.2
+    ∙ whole_histories (2 ^ inputs c.args.table.now) (machine c.args.table.now) c.args.layer.layer (c.args.s * (2 ^ inputs c.args.table.now)) c.args.layer.layer c.args.s (le_refl _)
     in
     held
-    ∙ ap (stored 4 (c.args.res.now) (reach_head (c.args.table.now)))
-    (skipped (c.args.table.now) (c.requires.following.sound) (c.args.layer.layer) c.args.s (inner) (sym (count-there) ∙ sym c.read32-count.ensures.0 ∙ c.if-count-eq0.true))
+    ∙ ap (stored 4 c.args.res.now (reach_head c.args.table.now))
+    (skipped c.args.table.now c.requires.following.sound c.args.layer.layer c.args.s inner (sym count-there ∙ sym c.read32-count.ensures.0 ∙ c.if-count-eq0.true))
 
 pub overflow_add-at-2 : goal.overflow_add-at-2
 unfolding Held
 overflow_add-at-2 c =
-    let b₀ : List ℕ =
-    c.args.table.now
+    let layer : LayerIs c.args.table.now c.args.layer.layer c.args.layer =
+    layer_is c.args.table.now c.requires.following.sound.headed c.args.layer.layer c.args.layer c.requires.layer_bound.1
     in
-    let t₀ : ℕ =
-    c.args.layer.layer
+    let at_is : c.args.layer.from + 4 * c.args.s ≡ histories_at c.args.table.now c.args.layer.layer c.args.s =
+    omega (arith, layer.from_is, state_at c.args.table.now c.args.layer.layer c.args.s)
     in
-    let K₀ : ℕ =
-    2 ^ inputs ((c.args.table.now))
-    in
-    let v₀ : List ℕ =
-    c.args.res.now
-    in
-    let legal : Sound ((c.args.table.now)) =
-    c.requires.following.sound
-    in
-    let layer : LayerIs ((c.args.table.now)) ((c.args.layer.layer)) c.args.layer =
-    layer_is ((c.args.table.now)) ((c.requires.following.sound)).headed ((c.args.layer.layer)) c.args.layer c.requires.layer_bound.1
-    in
-    let at_is : c.args.layer.from + 4 * c.args.s ≡ histories_at ((c.args.table.now)) ((c.args.layer.layer)) c.args.s =
-    omega (arith, (layer).from_is, state_at ((c.args.table.now)) ((c.args.layer.layer)) c.args.s)
-    in
-    let held : (c.args.res.now) ≡ stored 4 ((c.args.res.now)) (reach_head ((c.args.table.now))) (so_far ((c.args.table.now)) ((c.args.layer.layer)) (c.args.s * (2 ^ inputs ((c.args.table.now))))) =
+    let held : c.args.res.now ≡ stored 4 c.args.res.now (reach_head c.args.table.now) (so_far c.args.table.now c.args.layer.layer (c.args.s * (2 ^ inputs c.args.table.now))) =
     sym c.requires.following.held
     in
-    let inner : (c.args.layer.layer) ≤ frames ((c.args.table.now)) =
+    let inner : c.args.layer.layer ≤ frames c.args.table.now =
     omega (arith, c.requires.layer_bound.0)
     in
-    let there : (histories_at ((c.args.table.now)) ((c.args.layer.layer)) c.args.s + gap ((c.args.table.now)) + 4 ≤ length ((c.args.res.now))) × (4 ≤ gap ((c.args.table.now))) =
-    histories_in ((c.args.table.now)) ((c.requires.following.sound)) ((c.args.layer.layer)) (c.args.s * (2 ^ inputs ((c.args.table.now)))) ((c.args.res.now)) ((c.args.res.now)) c.requires.following.room (held) ((c.args.layer.layer)) c.args.s (inner) c.requires.layer_bound.2
+    let there : (histories_at c.args.table.now c.args.layer.layer c.args.s + gap c.args.table.now + 4 ≤ length c.args.res.now) × (4 ≤ gap c.args.table.now) =
+    histories_in c.args.table.now c.requires.following.sound c.args.layer.layer (c.args.s * (2 ^ inputs c.args.table.now)) c.args.res.now c.args.res.now c.requires.following.room held c.args.layer.layer c.args.s inner c.requires.layer_bound.2
     in
-    omega (arith, at_is, there, (layer).gap_is, c.well_formed)
+    omega (arith, at_is, there, layer.gap_is, c.well_formed)
 
 pub read32-smallest-requires : goal.read32-smallest-requires
 unfolding Held
 read32-smallest-requires c =
-    let b₀ : List ℕ =
-    c.args.table.now
+    let layer : LayerIs c.args.table.now c.args.layer.layer c.args.layer =
+    layer_is c.args.table.now c.requires.following.sound.headed c.args.layer.layer c.args.layer c.requires.layer_bound.1
     in
-    let t₀ : ℕ =
-    c.args.layer.layer
+    let at_is : c.args.layer.from + 4 * c.args.s ≡ histories_at c.args.table.now c.args.layer.layer c.args.s =
+    omega (arith, layer.from_is, state_at c.args.table.now c.args.layer.layer c.args.s)
     in
-    let K₀ : ℕ =
-    2 ^ inputs ((c.args.table.now))
-    in
-    let v₀ : List ℕ =
-    c.args.res.now
-    in
-    let legal : Sound ((c.args.table.now)) =
-    c.requires.following.sound
-    in
-    let layer : LayerIs ((c.args.table.now)) ((c.args.layer.layer)) c.args.layer =
-    layer_is ((c.args.table.now)) ((c.requires.following.sound)).headed ((c.args.layer.layer)) c.args.layer c.requires.layer_bound.1
-    in
-    let at_is : c.args.layer.from + 4 * c.args.s ≡ histories_at ((c.args.table.now)) ((c.args.layer.layer)) c.args.s =
-    omega (arith, (layer).from_is, state_at ((c.args.table.now)) ((c.args.layer.layer)) c.args.s)
-    in
-    let held : (c.args.res.now) ≡ stored 4 ((c.args.res.now)) (reach_head ((c.args.table.now))) (so_far ((c.args.table.now)) ((c.args.layer.layer)) (c.args.s * (2 ^ inputs ((c.args.table.now))))) =
+    let held : c.args.res.now ≡ stored 4 c.args.res.now (reach_head c.args.table.now) (so_far c.args.table.now c.args.layer.layer (c.args.s * (2 ^ inputs c.args.table.now))) =
     sym c.requires.following.held
     in
-    let inner : (c.args.layer.layer) ≤ frames ((c.args.table.now)) =
+    let inner : c.args.layer.layer ≤ frames c.args.table.now =
     omega (arith, c.requires.layer_bound.0)
     in
-    let there : (histories_at ((c.args.table.now)) ((c.args.layer.layer)) c.args.s + gap ((c.args.table.now)) + 4 ≤ length ((c.args.res.now))) × (4 ≤ gap ((c.args.table.now))) =
-    histories_in ((c.args.table.now)) ((c.requires.following.sound)) ((c.args.layer.layer)) (c.args.s * (2 ^ inputs ((c.args.table.now)))) ((c.args.res.now)) ((c.args.res.now)) c.requires.following.room (held) ((c.args.layer.layer)) c.args.s (inner) c.requires.layer_bound.2
+    let there : (histories_at c.args.table.now c.args.layer.layer c.args.s + gap c.args.table.now + 4 ≤ length c.args.res.now) × (4 ≤ gap c.args.table.now) =
+    histories_in c.args.table.now c.requires.following.sound c.args.layer.layer (c.args.s * (2 ^ inputs c.args.table.now)) c.args.res.now c.args.res.now c.requires.following.room held c.args.layer.layer c.args.s inner c.requires.layer_bound.2
     in
-    omega (arith, at_is, there, (layer).gap_is)
+    omega (arith, at_is, there, layer.gap_is)
 
 pub follow_words-requires : goal.follow_words-requires
 unfolding Held
 follow_words-requires c =
-    let b₀ : List ℕ =
-    c.args.table.now
+    let layer : LayerIs c.args.table.now c.args.layer.layer c.args.layer =
+    layer_is c.args.table.now c.requires.following.sound.headed c.args.layer.layer c.args.layer c.requires.layer_bound.1
     in
-    let t₀ : ℕ =
-    c.args.layer.layer
+    let at_is : c.args.layer.from + 4 * c.args.s ≡ histories_at c.args.table.now c.args.layer.layer c.args.s =
+    omega (arith, layer.from_is, state_at c.args.table.now c.args.layer.layer c.args.s)
     in
-    let K₀ : ℕ =
-    2 ^ inputs ((c.args.table.now))
-    in
-    let v₀ : List ℕ =
-    c.args.res.now
-    in
-    let legal : Sound ((c.args.table.now)) =
-    c.requires.following.sound
-    in
-    let layer : LayerIs ((c.args.table.now)) ((c.args.layer.layer)) c.args.layer =
-    layer_is ((c.args.table.now)) ((c.requires.following.sound)).headed ((c.args.layer.layer)) c.args.layer c.requires.layer_bound.1
-    in
-    let at_is : c.args.layer.from + 4 * c.args.s ≡ histories_at ((c.args.table.now)) ((c.args.layer.layer)) c.args.s =
-    omega (arith, (layer).from_is, state_at ((c.args.table.now)) ((c.args.layer.layer)) c.args.s)
-    in
-    let held : (c.args.res.now) ≡ stored 4 ((c.args.res.now)) (reach_head ((c.args.table.now))) (so_far ((c.args.table.now)) ((c.args.layer.layer)) (c.args.s * (2 ^ inputs ((c.args.table.now))))) =
+    let held : c.args.res.now ≡ stored 4 c.args.res.now (reach_head c.args.table.now) (so_far c.args.table.now c.args.layer.layer (c.args.s * (2 ^ inputs c.args.table.now))) =
     sym c.requires.following.held
     in
-    let inner : (c.args.layer.layer) ≤ frames ((c.args.table.now)) =
+    let inner : c.args.layer.layer ≤ frames c.args.table.now =
     omega (arith, c.requires.layer_bound.0)
     in
-    let count-there : number_at 4 ((c.args.res.now)) (c.args.layer.from + 4 * c.args.s) ≡ histories ((2 ^ inputs ((c.args.table.now)))) (machine ((c.args.table.now))) ((c.args.layer.layer)) c.args.s =
-    ap (number_at 4 ((c.args.res.now))) (at_is)
-    ∙ histories_there ((c.args.table.now)) ((c.requires.following.sound)) ((c.args.layer.layer)) (c.args.s * (2 ^ inputs ((c.args.table.now)))) ((c.args.res.now)) ((c.args.res.now)) c.requires.following.room (held) ((c.args.layer.layer)) c.args.s (inner) c.requires.layer_bound.2
-    ∙ whole_histories ((2 ^ inputs ((c.args.table.now)))) (machine ((c.args.table.now))) ((c.args.layer.layer)) (c.args.s * (2 ^ inputs ((c.args.table.now)))) ((c.args.layer.layer)) c.args.s (le_refl _)
+    let count-there : number_at 4 c.args.res.now (c.args.layer.from + 4 * c.args.s) ≡ histories (2 ^ inputs c.args.table.now) (machine c.args.table.now) c.args.layer.layer c.args.s =
+    ap (number_at 4 c.args.res.now) at_is
+    ∙ histories_there c.args.table.now c.requires.following.sound c.args.layer.layer (c.args.s * (2 ^ inputs c.args.table.now)) c.args.res.now c.args.res.now c.requires.following.room held c.args.layer.layer c.args.s inner c.requires.layer_bound.2
+    ∙ whole_histories (2 ^ inputs c.args.table.now) (machine c.args.table.now) c.args.layer.layer (c.args.s * (2 ^ inputs c.args.table.now)) c.args.layer.layer c.args.s (le_refl _)
     in
-    let first-there : number_at 4 ((c.args.res.now)) (c.args.layer.from + 4 * c.args.s + c.args.layer.gap) ≡ smallest ((2 ^ inputs ((c.args.table.now)))) (machine ((c.args.table.now))) ((c.args.layer.layer)) c.args.s =
-    ap₂ (λ (i g : ℕ). number_at 4 ((c.args.res.now)) (i + g)) (at_is) (layer).gap_is
-    ∙ smallest_there ((c.args.table.now)) ((c.requires.following.sound)) ((c.args.layer.layer)) (c.args.s * (2 ^ inputs ((c.args.table.now)))) ((c.args.res.now)) ((c.args.res.now)) c.requires.following.room (held) ((c.args.layer.layer)) c.args.s (inner) c.requires.layer_bound.2
-    ∙ whole_smallest ((2 ^ inputs ((c.args.table.now)))) (machine ((c.args.table.now))) ((c.args.layer.layer)) (c.args.s * (2 ^ inputs ((c.args.table.now)))) ((c.args.layer.layer)) c.args.s (le_refl _)
+    let first-there : number_at 4 c.args.res.now (c.args.layer.from + 4 * c.args.s + c.args.layer.gap) ≡ smallest (2 ^ inputs c.args.table.now) (machine c.args.table.now) c.args.layer.layer c.args.s =
+    ap₂ (λ (i g : ℕ). number_at 4 c.args.res.now (i + g)) at_is layer.gap_is
+    ∙ smallest_there c.args.table.now c.requires.following.sound c.args.layer.layer (c.args.s * (2 ^ inputs c.args.table.now)) c.args.res.now c.args.res.now c.requires.following.room held c.args.layer.layer c.args.s inner c.requires.layer_bound.2
+    ∙ whole_smallest (2 ^ inputs c.args.table.now) (machine c.args.table.now) c.args.layer.layer (c.args.s * (2 ^ inputs c.args.table.now)) c.args.layer.layer c.args.s (le_refl _)
     in
     record {
       layer_bound = c.requires.layer_bound;

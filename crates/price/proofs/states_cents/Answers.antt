@@ -1,7 +1,6 @@
 -- `price::states_cents` meets its contract. The invariant: what the bands from i on make of the states that are left is what is missing.
 -- Assumes nothing.
 use mathlib.Core.Path.{◌≡◌}
-use mathlib.Core.Logic.{⊎_elim}
 use Prim.Native.Nat.{ℕ, ◌+◌, ◌*◌, ◌-◌, ◌≤◌, ◌<◌, min}
 use native.Mathlib.Omega.{arith}
 use lib.ListN.{length, get_or, drop}
@@ -9,10 +8,14 @@ use Rattle.price.specs.Price.{states_cents}
 use Rattle.price.specs.declared.Band.{Band}
 use Rattle.price.proofs.Bands.{tariff, walked, walk_on, walked_all, cents_most}
 use Rattle.price.proofs.states_cents.Goals as goal
+use Rattle.price.proofs.states_cents.Goals.{then-left-band, else-left-band}
 
-    more : (a b t : ℕ) → b ≤ a → t ≡ b → t ≡ min a b
+-- what the band takes
+less : (a b t : ℕ) → a < b → t ≡ a → t ≡ min a b
+less a b t h e = omega arith
 
-    more a b t h e = omega arith
+more : (a b t : ℕ) → b ≤ a → t ≡ b → t ≡ min a b
+more a b t h e = omega arith
 
 pub loop-i-init : goal.loop-i-init
 loop-i-init c =
@@ -24,65 +27,53 @@ bounds-i-i c =
 
 pub overflow_mul-cents : goal.overflow_mul-cents
 overflow_mul-cents c =
-    let band : Band =
-        get_or tariff c.loop-i.i (record { width = 0; cents = 0 })
-    in
-    let taken_is : c.if-left-band.true ≡ min c.loop-i.left ((get_or tariff c.loop-i.i (record { width = 0; cents = 0 }))).width =
-        ⊎_elim (λ w. less _ _ _ w.0.taken w.1) (λ w. more _ _ _ w.0.left w.1) c.if-left-band.branch
-  where
-    less : (a b t : ℕ) → a < b → t ≡ a → t ≡ min a b
-    less a b t h e = omega arith
+    let taken_is : c.if-left-band.taken ≡ min c.loop-i.left (get_or tariff c.loop-i.i (record { width = 0; cents = 0 })).width =
+    elim c.if-left-band.branch [
+      | then-left-band w ↦ less _ _ _ w.if-left-band.true w.taken-is
+      | else-left-band w ↦ more _ _ _ w.if-left-band.false w.taken-is
+    ]
     in
     let step : walked (drop c.loop-i.i tariff) c.loop-i.left
-    ≡ c.if-left-band.true * ((get_or tariff c.loop-i.i (record { width = 0; cents = 0 }))).cents + walked (drop (c.loop-i.i + 1) tariff) (c.loop-i.left - c.if-left-band.true) =
-        walk_on tariff _ _ _ _ c.loop-i-test.true (taken_is)
+    ≡ c.if-left-band.taken * (get_or tariff c.loop-i.i (record { width = 0; cents = 0 })).cents + walked (drop (c.loop-i.i + 1) tariff) (c.loop-i.left - c.if-left-band.taken) =
+    walk_on tariff _ _ _ _ c.loop-i-test.true taken_is
     in
     omega (arith, step, cents_most c.args.states)
 
 pub overflow_add-cents : goal.overflow_add-cents
 overflow_add-cents c =
-    let band : Band =
-        get_or tariff c.loop-i.i (record { width = 0; cents = 0 })
-    in
-    let taken_is : c.if-left-band.true ≡ min c.loop-i.left ((get_or tariff c.loop-i.i (record { width = 0; cents = 0 }))).width =
-        ⊎_elim (λ w. less _ _ _ w.0.taken w.1) (λ w. more _ _ _ w.0.left w.1) c.if-left-band.branch
-  where
-    less : (a b t : ℕ) → a < b → t ≡ a → t ≡ min a b
-    less a b t h e = omega arith
+    let taken_is : c.if-left-band.taken ≡ min c.loop-i.left (get_or tariff c.loop-i.i (record { width = 0; cents = 0 })).width =
+    elim c.if-left-band.branch [
+      | then-left-band w ↦ less _ _ _ w.if-left-band.true w.taken-is
+      | else-left-band w ↦ more _ _ _ w.if-left-band.false w.taken-is
+    ]
     in
     let step : walked (drop c.loop-i.i tariff) c.loop-i.left
-    ≡ c.if-left-band.true * ((get_or tariff c.loop-i.i (record { width = 0; cents = 0 }))).cents + walked (drop (c.loop-i.i + 1) tariff) (c.loop-i.left - c.if-left-band.true) =
-        walk_on tariff _ _ _ _ c.loop-i-test.true (taken_is)
+    ≡ c.if-left-band.taken * (get_or tariff c.loop-i.i (record { width = 0; cents = 0 })).cents + walked (drop (c.loop-i.i + 1) tariff) (c.loop-i.left - c.if-left-band.taken) =
+    walk_on tariff _ _ _ _ c.loop-i-test.true taken_is
     in
     omega (arith, step, cents_most c.args.states)
 
 pub overflow_sub-left : goal.overflow_sub-left
 overflow_sub-left c =
-    let band : Band =
-        get_or tariff c.loop-i.i (record { width = 0; cents = 0 })
-    in
-    let taken_is : c.if-left-band.true ≡ min c.loop-i.left ((get_or tariff c.loop-i.i (record { width = 0; cents = 0 }))).width =
-        ⊎_elim (λ w. less _ _ _ w.0.taken w.1) (λ w. more _ _ _ w.0.left w.1) c.if-left-band.branch
-  where
-    less : (a b t : ℕ) → a < b → t ≡ a → t ≡ min a b
-    less a b t h e = omega arith
+    let taken_is : c.if-left-band.taken ≡ min c.loop-i.left (get_or tariff c.loop-i.i (record { width = 0; cents = 0 })).width =
+    elim c.if-left-band.branch [
+      | then-left-band w ↦ less _ _ _ w.if-left-band.true w.taken-is
+      | else-left-band w ↦ more _ _ _ w.if-left-band.false w.taken-is
+    ]
     in
     omega (arith, taken_is)
 
 pub loop-i-preserved : goal.loop-i-preserved
 loop-i-preserved c =
-    let band : Band =
-        get_or tariff c.loop-i.i (record { width = 0; cents = 0 })
-    in
-    let taken_is : c.if-left-band.true ≡ min c.loop-i.left ((get_or tariff c.loop-i.i (record { width = 0; cents = 0 }))).width =
-        ⊎_elim (λ w. less _ _ _ w.0.taken w.1) (λ w. more _ _ _ w.0.left w.1) c.if-left-band.branch
-  where
-    less : (a b t : ℕ) → a < b → t ≡ a → t ≡ min a b
-    less a b t h e = omega arith
+    let taken_is : c.if-left-band.taken ≡ min c.loop-i.left (get_or tariff c.loop-i.i (record { width = 0; cents = 0 })).width =
+    elim c.if-left-band.branch [
+      | then-left-band w ↦ less _ _ _ w.if-left-band.true w.taken-is
+      | else-left-band w ↦ more _ _ _ w.if-left-band.false w.taken-is
+    ]
     in
     let step : walked (drop c.loop-i.i tariff) c.loop-i.left
-    ≡ c.if-left-band.true * ((get_or tariff c.loop-i.i (record { width = 0; cents = 0 }))).cents + walked (drop (c.loop-i.i + 1) tariff) (c.loop-i.left - c.if-left-band.true) =
-        walk_on tariff _ _ _ _ c.loop-i-test.true (taken_is)
+    ≡ c.if-left-band.taken * (get_or tariff c.loop-i.i (record { width = 0; cents = 0 })).cents + walked (drop (c.loop-i.i + 1) tariff) (c.loop-i.left - c.if-left-band.taken) =
+    walk_on tariff _ _ _ _ c.loop-i-test.true taken_is
     in
     (omega arith, omega arith, omega (arith, step))
 

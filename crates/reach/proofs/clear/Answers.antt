@@ -26,19 +26,14 @@ overflow_add-from c =
 
 pub store32-requires : goal.store32-requires
 store32-requires c =
-    let len : length c.loop-i.result ≡ length c.args.res.now =
-    let n = tabulate-length c.loop-i.i (λ _. 0) in
-    ap length c.loop-i.invariant.1 ∙ stored-length 4 _ _ (tabulate c.loop-i.i (λ _. 0)) (omega (arith, c.requires, c.loop-i.invariant.0))
+    let len : length c.loop-i.res ≡ length c.args.res.now =
+    ap length c.loop-i.invariant.1 ∙ stored-length 4 _ _ (tabulate c.loop-i.i (λ _. 0)) (omega (arith, c.requires, c.loop-i.invariant.0, tabulate-length c.loop-i.i (λ _. 0)))
     in
     omega (arith, c.requires, len)
 
-pub overflow_step-i : goal.overflow_step-i
-overflow_step-i c =
-    omega (arith, c.requires, c.well_formed)
-
 pub loop-i-preserved : goal.loop-i-preserved
 loop-i-preserved c =
-    (omega arith, c.store32.ensures ∙ tabulated_more 4 c.args.res.now c.loop-i.result c.args.from c.loop-i.i (λ _. 0) _ c.loop-i.invariant.1 refl (omega (arith, c.requires)))
+    (omega arith, c.store32.ensures ∙ tabulated_more 4 c.args.res.now c.loop-i.res c.args.from c.loop-i.i (λ _. 0) _ c.loop-i.invariant.1 refl (omega (arith, c.requires)))
 
 pub returns : goal.returns
 returns c =

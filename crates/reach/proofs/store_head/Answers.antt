@@ -36,87 +36,58 @@ loop-t-init c =
 
 pub overflow_mul-t : goal.overflow_mul-t
 overflow_mul-t c =
-    let start : tie.Start invariant-loop decreases-loop =
-    c
+    let room : 4 + 2 * c.args.last ≤ length c.args.res.now =
+    omega (arith, c.requires.last_value, head_is c.args.table.now)
     in
-    let room : 4 + 2 * ((c)).args.last ≤ length ((c)).args.res.now =
-    let s = (c) in omega (arith, s.pre.1, head_is s.args.table.now)
-    in
-    omega (arith, room, (c).well_formed, c.loop-t-test.true)
+    omega (arith, room, c.well_formed, c.loop-t-test.true)
 
 pub overflow_add-t : goal.overflow_add-t
 overflow_add-t c =
-    let start : tie.Start invariant-loop decreases-loop =
-    c
+    let room : 4 + 2 * c.args.last ≤ length c.args.res.now =
+    omega (arith, c.requires.last_value, head_is c.args.table.now)
     in
-    let room : 4 + 2 * ((c)).args.last ≤ length ((c)).args.res.now =
-    let s = (c) in omega (arith, s.pre.1, head_is s.args.table.now)
-    in
-    omega (arith, room, (c).well_formed, c.loop-t-test.true)
+    omega (arith, room, c.well_formed, c.loop-t-test.true)
 
 pub states_of-requires : goal.states_of-requires
 states_of-requires c =
-    let s = (c) in
-    count_in s.args.table.now s.pre.0 _ (omega (arith, s.pre.1.0, c.loop-t-test.true))
+    count_in c.args.table.now c.requires.table_headed _ (omega (arith, c.requires.last_value.0, c.loop-t-test.true))
 
 pub store-requires-in-loop-t : goal.store-requires-in-loop-t
 store-requires-in-loop-t c =
-    let start : tie.Start invariant-loop decreases-loop =
-    c
+    let room : 4 + 2 * c.args.last ≤ length c.args.res.now =
+    omega (arith, c.requires.last_value, head_is c.args.table.now)
     in
-    let room : 4 + 2 * ((c)).args.last ≤ length ((c)).args.res.now =
-    let s = (c) in omega (arith, s.pre.1, head_is s.args.table.now)
+    let len₁ : length c.store.new.bytes ≡ length c.args.res.now =
+    ap length c.store.ensures ∙ stored-length 2 _ 0 (c.args.last ∷ []) (omega (arith, room))
     in
-    let len₁ : length c.store.new.0 ≡ length ((c)).args.res.now =
-    ap length c.store.ensures ∙ stored-length 2 _ 0 (((c)).args.last ∷ []) (omega (arith, room))
-    in
-    let len : length c.loop-t.result ≡ length ((c)).args.res.now =
-    let n = tabulate-length c.loop-t.t (states ((c)).args.table.now) in
-    ap length c.loop-t.invariant.1 ∙ stored-length 2 _ 2 (tabulate c.loop-t.t (states ((c)).args.table.now)) (omega (arith, room, len₁, c.loop-t.invariant.0)) ∙ len₁
+    let len : length c.loop-t.res ≡ length c.args.res.now =
+    ap length c.loop-t.invariant.1 ∙ stored-length 2 _ 2 (tabulate c.loop-t.t (states c.args.table.now)) (omega (arith, room, len₁, c.loop-t.invariant.0, tabulate-length c.loop-t.t (states c.args.table.now))) ∙ len₁
     in
     omega (arith, room, len, c.loop-t-test.true)
 
-pub overflow_step-t : goal.overflow_step-t
-overflow_step-t c =
-    let start : tie.Start invariant-loop decreases-loop =
-    c
-    in
-    let room : 4 + 2 * ((c)).args.last ≤ length ((c)).args.res.now =
-    let s = (c) in omega (arith, s.pre.1, head_is s.args.table.now)
-    in
-    omega (arith, room, (c).good, c.loop-t-test.true)
-
 pub loop-t-preserved : goal.loop-t-preserved
 loop-t-preserved c =
-    let start : tie.Start invariant-loop decreases-loop =
-    c
+    let room : 4 + 2 * c.args.last ≤ length c.args.res.now =
+    omega (arith, c.requires.last_value, head_is c.args.table.now)
     in
-    let room : 4 + 2 * ((c)).args.last ≤ length ((c)).args.res.now =
-    let s = (c) in omega (arith, s.pre.1, head_is s.args.table.now)
+    let len₁ : length c.store.new.bytes ≡ length c.args.res.now =
+    ap length c.store.ensures ∙ stored-length 2 _ 0 (c.args.last ∷ []) (omega (arith, room))
     in
-    let len₁ : length c.store.new.0 ≡ length ((c)).args.res.now =
-    ap length c.store.ensures ∙ stored-length 2 _ 0 (((c)).args.last ∷ []) (omega (arith, room))
-    in
-    let a = (c) in
-    let S = states a.args.table.now in (
+    let S = states c.args.table.now in (
       omega (arith, c.loop-t-test.true),
       c.store-in-loop-t.ensures
-          ∙ ap (λ (x : ℕ). stored 2 c.loop-t.result (2 + 2 * c.loop-t.t) (x ∷ [])) c.states_of.ensures.0
-          ∙ tabulated_more 2 c.store.new.0 c.loop-t.result 2 c.loop-t.t S _ c.loop-t.invariant.1 refl (omega (arith, room, len₁, c.loop-t-test.true)),
+          ∙ ap (λ (x : ℕ). stored 2 c.loop-t.res (2 + 2 * c.loop-t.t) (x ∷ [])) c.states_of.ensures.0
+          ∙ tabulated_more 2 c.store.new.bytes c.loop-t.res 2 c.loop-t.t S _ c.loop-t.invariant.1 refl (omega (arith, room, len₁, c.loop-t-test.true)),
     )
 
 pub returns : goal.returns
 unfolding head_words
 returns c =
-    let start : tie.Start invariant-loop decreases-loop =
-    c
+    let room : 4 + 2 * c.args.last ≤ length c.args.res.now =
+    omega (arith, c.requires.last_value, head_is c.args.table.now)
     in
-    let room : 4 + 2 * ((c)).args.last ≤ length ((c)).args.res.now =
-    let s = (c) in omega (arith, s.pre.1, head_is s.args.table.now)
-    in
-    let a = (c) in
-    let b : List ℕ = a.args.table.now in
-    let e : c.loop-t.t ≡ suc (frames b) = omega (arith, a.pre.1.0, c.loop-t-test.false) in
+    let b : List ℕ = c.args.table.now in
+    let e : c.loop-t.t ≡ suc (frames b) = omega (arith, c.requires.last_value.0, c.loop-t-test.false) in
     c.loop-t.invariant.1
-    ∙ stored-behind 2 a.args.res.now c.store.new.0 0 (a.args.last ∷ []) (tabulate c.loop-t.t (states b)) 2 c.store.ensures refl (omega (arith, room))
-    ∙ ap₂ (λ (x n : ℕ). stored 2 a.args.res.now 0 (x ∷ tabulate n (states b))) a.pre.1.0 e
+    ∙ stored-behind 2 c.args.res.now c.store.new.bytes 0 (c.args.last ∷ []) (tabulate c.loop-t.t (states b)) 2 c.store.ensures refl (omega (arith, room))
+    ∙ ap₂ (λ (x n : ℕ). stored 2 c.args.res.now 0 (x ∷ tabulate n (states b))) c.requires.last_value.0 e

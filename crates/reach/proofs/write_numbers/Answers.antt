@@ -20,157 +20,111 @@ use Rattle.reach.proofs.write_numbers.Goals as goal
 
 pub head_bytes-head-requires : goal.head_bytes-head-requires
 head_bytes-head-requires c =
-    let b₀ : List ℕ =
-    c.args.table.now
+    let layout : Laid c.args.table.now c.args.layout =
+    laid c.args.table.now c.args.layout c.requires.sound.headed c.requires.layout_value.0
     in
-    let legal : Sound ((c.args.table.now)) =
-    c.requires.sound
-    in
-    let layout : Laid ((c.args.table.now)) c.args.layout =
-    laid ((c.args.table.now)) c.args.layout ((c.requires.sound)).headed c.requires.layout_value.0
-    in
-    (layout).frames-to
+    layout.frames-to
 
 pub store_head-requires : goal.store_head-requires
 store_head-requires c =
-    let b₀ : List ℕ =
-    c.args.table.now
+    let layout : Laid c.args.table.now c.args.layout =
+    laid c.args.table.now c.args.layout c.requires.sound.headed c.requires.layout_value.0
     in
-    let legal : Sound ((c.args.table.now)) =
-    c.requires.sound
-    in
-    let layout : Laid ((c.args.table.now)) c.args.layout =
-    laid ((c.args.table.now)) c.args.layout ((c.requires.sound)).headed c.requires.layout_value.0
-    in
-    let room : reach_head ((c.args.table.now)) + 8 * all_states ((c.args.table.now)) ≤ length c.args.res.now =
+    let room : reach_head c.args.table.now + 8 * all_states c.args.table.now ≤ length c.args.res.now =
     omega (arith, c.requires.layout_value)
     in
     record {
-      table_headed = (c.requires.sound).headed;
-      last_value = ((layout).frames_is, omega (arith, room));
+      table_headed = c.requires.sound.headed;
+      last_value = (layout.frames_is, omega (arith, room));
     }
 
 pub clear-requires : goal.clear-requires
 clear-requires c =
-    let b₀ : List ℕ =
-    c.args.table.now
+    let layout : Laid c.args.table.now c.args.layout =
+    laid c.args.table.now c.args.layout c.requires.sound.headed c.requires.layout_value.0
     in
-    let legal : Sound ((c.args.table.now)) =
-    c.requires.sound
-    in
-    let layout : Laid ((c.args.table.now)) c.args.layout =
-    laid ((c.args.table.now)) c.args.layout ((c.requires.sound)).headed c.requires.layout_value.0
-    in
-    let room : reach_head ((c.args.table.now)) + 8 * all_states ((c.args.table.now)) ≤ length c.args.res.now =
+    let room : reach_head c.args.table.now + 8 * all_states c.args.table.now ≤ length c.args.res.now =
     omega (arith, c.requires.layout_value)
     in
-    let at_is : c.head_bytes-head.result ≡ reach_head ((c.args.table.now)) =
-    omega (arith, c.head_bytes-head.ensures, (layout).frames_is, head_is ((c.args.table.now)))
+    let at_is : c.head_bytes-head.result ≡ reach_head c.args.table.now =
+    omega (arith, c.head_bytes-head.ensures, layout.frames_is, head_is c.args.table.now)
     in
-    let v₁ : List ℕ =
-    c.store_head.new.1.1.0
-    in
-    let room₁ : reach_head ((c.args.table.now)) + 8 * all_states ((c.args.table.now)) ≤ length ((c.store_head.new.1.1.0)) =
-    omega (arith, room, head_kept ((c.args.table.now)) ((c.requires.sound)) c.args.res.now ((c.store_head.new.1.1.0)) (room) c.store_head.ensures)
+    let room₁ : reach_head c.args.table.now + 8 * all_states c.args.table.now ≤ length c.store_head.new.res =
+    omega (arith, room, head_kept c.args.table.now c.requires.sound c.args.res.now c.store_head.new.res room c.store_head.ensures)
     in
     omega (arith, room₁, at_is, c.requires.layout_value.1)
 
 pub store32-requires : goal.store32-requires
 store32-requires c =
-    let b₀ : List ℕ =
-    c.args.table.now
+    let layout : Laid c.args.table.now c.args.layout =
+    laid c.args.table.now c.args.layout c.requires.sound.headed c.requires.layout_value.0
     in
-    let legal : Sound ((c.args.table.now)) =
-    c.requires.sound
-    in
-    let layout : Laid ((c.args.table.now)) c.args.layout =
-    laid ((c.args.table.now)) c.args.layout ((c.requires.sound)).headed c.requires.layout_value.0
-    in
-    let room : reach_head ((c.args.table.now)) + 8 * all_states ((c.args.table.now)) ≤ length c.args.res.now =
+    let room : reach_head c.args.table.now + 8 * all_states c.args.table.now ≤ length c.args.res.now =
     omega (arith, c.requires.layout_value)
     in
-    let at_is : c.head_bytes-head.result ≡ reach_head ((c.args.table.now)) =
-    omega (arith, c.head_bytes-head.ensures, (layout).frames_is, head_is ((c.args.table.now)))
+    let at_is : c.head_bytes-head.result ≡ reach_head c.args.table.now =
+    omega (arith, c.head_bytes-head.ensures, layout.frames_is, head_is c.args.table.now)
     in
-    let v₁ : List ℕ =
-    c.store_head.new.1.1.0
+    let room₁ : reach_head c.args.table.now + 8 * all_states c.args.table.now ≤ length c.store_head.new.res =
+    omega (arith, room, head_kept c.args.table.now c.requires.sound c.args.res.now c.store_head.new.res room c.store_head.ensures)
     in
-    let room₁ : reach_head ((c.args.table.now)) + 8 * all_states ((c.args.table.now)) ≤ length ((c.store_head.new.1.1.0)) =
-    omega (arith, room, head_kept ((c.args.table.now)) ((c.requires.sound)) c.args.res.now ((c.store_head.new.1.1.0)) (room) c.store_head.ensures)
+    let cleared : let b = c.args.table.now in c.clear.new.res ≡ stored 4 c.store_head.new.res (reach_head b) (tabulate (2 * all_states b) (λ _. 0)) =
+    c.clear.ensures ∙ ap₂ (λ (i n : ℕ). stored 4 c.store_head.new.res i (tabulate (2 * n) (λ _. 0))) at_is c.requires.layout_value.1
     in
-    let cleared : let b = (c.args.table.now) in c.clear.new.0 ≡ stored 4 ((c.store_head.new.1.1.0)) (reach_head b) (tabulate (2 * all_states b) (λ _. 0)) =
-    c.clear.ensures ∙ ap₂ (λ (i n : ℕ). stored 4 ((c.store_head.new.1.1.0)) i (tabulate (2 * n) (λ _. 0))) (at_is) c.requires.layout_value.1
-    in
-    let b = (c.args.table.now) in
-    omega (arith, room₁, at_is, zeros_kept b (c.requires.sound) (c.store_head.new.1.1.0) c.clear.new.0 (room₁) (cleared), some_states b (c.requires.sound))
+    let b = c.args.table.now in
+    omega (arith, room₁, at_is, zeros_kept b c.requires.sound c.store_head.new.res c.clear.new.res room₁ cleared, some_states b c.requires.sound)
 
 pub follow_layers-requires : goal.follow_layers-requires
 follow_layers-requires c =
-    let b₀ : List ℕ =
-    c.args.table.now
-    in
-    let legal : Sound ((c.args.table.now)) =
+    let legal : Sound c.args.table.now =
     c.requires.sound
     in
-    let layout : Laid ((c.args.table.now)) c.args.layout =
-    laid ((c.args.table.now)) c.args.layout ((c.requires.sound)).headed c.requires.layout_value.0
+    let layout : Laid c.args.table.now c.args.layout =
+    laid c.args.table.now c.args.layout c.requires.sound.headed c.requires.layout_value.0
     in
-    let room : reach_head ((c.args.table.now)) + 8 * all_states ((c.args.table.now)) ≤ length c.args.res.now =
+    let room : reach_head c.args.table.now + 8 * all_states c.args.table.now ≤ length c.args.res.now =
     omega (arith, c.requires.layout_value)
     in
-    let at_is : c.head_bytes-head.result ≡ reach_head ((c.args.table.now)) =
-    omega (arith, c.head_bytes-head.ensures, (layout).frames_is, head_is ((c.args.table.now)))
+    let at_is : c.head_bytes-head.result ≡ reach_head c.args.table.now =
+    omega (arith, c.head_bytes-head.ensures, layout.frames_is, head_is c.args.table.now)
     in
-    let v₁ : List ℕ =
-    c.store_head.new.1.1.0
+    let room₁ : reach_head c.args.table.now + 8 * all_states c.args.table.now ≤ length c.store_head.new.res =
+    omega (arith, room, head_kept c.args.table.now c.requires.sound c.args.res.now c.store_head.new.res room c.store_head.ensures)
     in
-    let room₁ : reach_head ((c.args.table.now)) + 8 * all_states ((c.args.table.now)) ≤ length ((c.store_head.new.1.1.0)) =
-    omega (arith, room, head_kept ((c.args.table.now)) ((c.requires.sound)) c.args.res.now ((c.store_head.new.1.1.0)) (room) c.store_head.ensures)
+    let cleared : let b = c.args.table.now in c.clear.new.res ≡ stored 4 c.store_head.new.res (reach_head b) (tabulate (2 * all_states b) (λ _. 0)) =
+    c.clear.ensures ∙ ap₂ (λ (i n : ℕ). stored 4 c.store_head.new.res i (tabulate (2 * n) (λ _. 0))) at_is c.requires.layout_value.1
     in
-    let cleared : let b = (c.args.table.now) in c.clear.new.0 ≡ stored 4 ((c.store_head.new.1.1.0)) (reach_head b) (tabulate (2 * all_states b) (λ _. 0)) =
-    c.clear.ensures ∙ ap₂ (λ (i n : ℕ). stored 4 ((c.store_head.new.1.1.0)) i (tabulate (2 * n) (λ _. 0))) (at_is) c.requires.layout_value.1
+    let started : c.store32.new.bytes ≡ stored 4 c.store_head.new.res (reach_head c.args.table.now) (so_far c.args.table.now 0 0) =
+    c.store32.ensures ∙ ap (λ (i : ℕ). stored 4 c.clear.new.res i (1 ∷ [])) at_is ∙ begun c.args.table.now c.requires.sound c.store_head.new.res c.clear.new.res room₁ cleared
     in
-    let started : let h = c in c.store32.new.0 ≡ stored 4 (v₁ h) (reach_head (b₀ (s₁ h))) (so_far (b₀ (s₁ h)) 0 0) =
-    c.store32.ensures ∙ ap (λ (i : ℕ). stored 4 c.clear.last.0 i (1 ∷ [])) (at_is) ∙ begun ((c.args.table.now)) ((c.requires.sound)) ((c.store_head.new.1.1.0)) c.clear.last.0 (room₁) (cleared)
-    in
-    let h = c in
-    let a = s₁ h in
     record {
-      layout_value = a.pre.1.0;
-      following = following (b₀ a) (legal a) (v₁ h) c.store32.new.0 0 0 (room₁ h) (started);
+      layout_value = c.requires.layout_value.0;
+      following = following c.args.table.now legal c.store_head.new.res c.store32.new.bytes 0 0 room₁ started;
     }
 
 pub returns : goal.returns
 returns c =
-    let b₀ : List ℕ =
-    c.args.table.now
-    in
-    let legal : Sound ((c.args.table.now)) =
+    let legal : Sound c.args.table.now =
     c.requires.sound
     in
-    let layout : Laid ((c.args.table.now)) c.args.layout =
-    laid ((c.args.table.now)) c.args.layout ((c.requires.sound)).headed c.requires.layout_value.0
+    let layout : Laid c.args.table.now c.args.layout =
+    laid c.args.table.now c.args.layout c.requires.sound.headed c.requires.layout_value.0
     in
-    let room : reach_head ((c.args.table.now)) + 8 * all_states ((c.args.table.now)) ≤ length c.args.res.now =
+    let room : reach_head c.args.table.now + 8 * all_states c.args.table.now ≤ length c.args.res.now =
     omega (arith, c.requires.layout_value)
     in
-    let at_is : c.head_bytes-head.result ≡ reach_head ((c.args.table.now)) =
-    omega (arith, c.head_bytes-head.ensures, (layout).frames_is, head_is ((c.args.table.now)))
+    let at_is : c.head_bytes-head.result ≡ reach_head c.args.table.now =
+    omega (arith, c.head_bytes-head.ensures, layout.frames_is, head_is c.args.table.now)
     in
-    let v₁ : List ℕ =
-    c.store_head.new.1.1.0
+    let room₁ : reach_head c.args.table.now + 8 * all_states c.args.table.now ≤ length c.store_head.new.res =
+    omega (arith, room, head_kept c.args.table.now c.requires.sound c.args.res.now c.store_head.new.res room c.store_head.ensures)
     in
-    let room₁ : reach_head ((c.args.table.now)) + 8 * all_states ((c.args.table.now)) ≤ length ((c.store_head.new.1.1.0)) =
-    omega (arith, room, head_kept ((c.args.table.now)) ((c.requires.sound)) c.args.res.now ((c.store_head.new.1.1.0)) (room) c.store_head.ensures)
+    let cleared : let b = c.args.table.now in c.clear.new.res ≡ stored 4 c.store_head.new.res (reach_head b) (tabulate (2 * all_states b) (λ _. 0)) =
+    c.clear.ensures ∙ ap₂ (λ (i n : ℕ). stored 4 c.store_head.new.res i (tabulate (2 * n) (λ _. 0))) at_is c.requires.layout_value.1
     in
-    let cleared : let b = (c.args.table.now) in c.clear.new.0 ≡ stored 4 ((c.store_head.new.1.1.0)) (reach_head b) (tabulate (2 * all_states b) (λ _. 0)) =
-    c.clear.ensures ∙ ap₂ (λ (i n : ℕ). stored 4 ((c.store_head.new.1.1.0)) i (tabulate (2 * n) (λ _. 0))) (at_is) c.requires.layout_value.1
+    let started : c.store32.new.bytes ≡ stored 4 c.store_head.new.res (reach_head c.args.table.now) (so_far c.args.table.now 0 0) =
+    c.store32.ensures ∙ ap (λ (i : ℕ). stored 4 c.clear.new.res i (1 ∷ [])) at_is ∙ begun c.args.table.now c.requires.sound c.store_head.new.res c.clear.new.res room₁ cleared
     in
-    let started : let h = c in c.store32.new.0 ≡ stored 4 (v₁ h) (reach_head (b₀ (s₁ h))) (so_far (b₀ (s₁ h)) 0 0) =
-    c.store32.ensures ∙ ap (λ (i : ℕ). stored 4 c.clear.last.0 i (1 ∷ [])) (at_is) ∙ begun ((c.args.table.now)) ((c.requires.sound)) ((c.store_head.new.1.1.0)) c.clear.last.0 (room₁) (cleared)
-    in
-    let h = c in
-    let a = s₁ h in
-    let b = b₀ a in
-    bytes-stored b (legal a) a.args.res.now (v₁ h) _ h.store-head.ensures
-    (further b (legal a) (v₁ h) c.store32.new.0 _ 0 0 (frames b) 0 (room₁ h) (started) c.follow_layers.ensures)
+    let b = c.args.table.now in
+    bytes-stored b legal c.args.res.now c.store_head.new.res _ c.store_head.ensures
+    (further b legal c.store_head.new.res c.store32.new.bytes _ 0 0 (frames b) 0 room₁ started c.follow_layers.ensures)

@@ -1,12 +1,7 @@
 -- `refine::collect` meets its contract. The invariant: the paths of the candidates of the states so far are stored.
 -- Assumes nothing.
-use mathlib.Core.Path.{◌≡◌, sym, ap, ◌∙◌}
-use Prim.Native.Nat.{◌+◌, ◌*◌, ◌/◌, ◌-◌, ◌≤◌}
-use native.Mathlib.Nat.{suc-mul, zero-mul}
-use native.Mathlib.Numerals.{add-one}
-use native.Mathlib.Omega.{arith}
-use Rattle.refine.specs.Collecting.{Collectable, Collecting}
-use Rattle.refine.proofs.Collecting.{collecting_none, collecting_all, collectable_kept, collecting_from, states_in}
+use Prim.Native.Nat.{◌*◌, ◌-◌, ◌≤◌}
+use Rattle.refine.specs.Collecting.{Collecting}
 use Rattle.refine.proofs.collect.Given as goal
 
 abbrev pub invariant-loop-state : goal.invariant-loop-state

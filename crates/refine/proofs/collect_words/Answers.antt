@@ -1,14 +1,13 @@
 -- `refine::collect_words` meets its contract. The invariant: the paths of the candidates so far are stored, and `next` is the next number.
 -- Assumes nothing.
 use mathlib.Core.Path.{◌≡◌, sym, ap, ◌∙◌}
-use mathlib.Core.Logic.{⊎_elim}
-use Prim.Native.Nat.{◌+◌, ◌*◌, ◌^◌, ◌-◌, ◌≤◌, ◌<◌}
+use Prim.Native.Nat.{◌+◌, ◌*◌, ◌^◌, ◌≤◌, ◌<◌}
 use native.Mathlib.Nat.{add-zero}
 use native.Mathlib.Omega.{arith}
 use lib.ListN.{length, get_or}
-use Rattle.refine.specs.Collecting.{Collecting}
 use Rattle.refine.proofs.Collecting.{collect_new, collect_old, word_in, word_short, word_path}
 use Rattle.refine.proofs.collect_words.Goals as goal
+use Rattle.refine.proofs.collect_words.Goals.{then-scratch-first, else-scratch-first}
 
 pub overflow_add-path : goal.overflow_add-path
 overflow_add-path c =
@@ -49,14 +48,14 @@ overflow_add-first-in-loop-w c =
     let inside : c.args.state * c.args.fan + c.loop-w.w < c.args.rows.count =
     word_in c.args.scratch.now c.args.rows c.args.from c.args.fan c.args.bits c.args.state c.loop-w.w c.requires.collectable c.requires.state_bound (omega arith)
     in
-    omega (arith, inside, c.requires.collectable.numbers_in, c.good)
+    omega (arith, inside, c.requires.collectable.numbers_in)
 
 pub offset_bounds-scratch-first : goal.offset_bounds-scratch-first
 offset_bounds-scratch-first c =
     let inside : c.args.state * c.args.fan + c.loop-w.w < c.args.rows.count =
     word_in c.args.scratch.now c.args.rows c.args.from c.args.fan c.args.bits c.args.state c.loop-w.w c.requires.collectable c.requires.state_bound (omega arith)
     in
-    omega (arith, inside, c.requires.collectable.numbers_in, c.good)
+    omega (arith, inside, c.requires.collectable.numbers_in)
 
 pub bounds-scratch-first : goal.bounds-scratch-first
 bounds-scratch-first c =
@@ -77,7 +76,7 @@ overflow_add-at c =
     let room : (c.loop-w.next < c.args.rows.count) × (c.args.rows.copy + c.args.rows.count ≤ length c.loop-w.scratch) =
     (omega (arith, c.loop-w.invariant.1.few, inside), omega (arith, c.loop-w.invariant.1.long, c.requires.collectable.copy_before, c.requires.collectable.numbers_in))
     in
-    omega (arith, room, c.requires.collectable, c.good)
+    omega (arith, room, c.requires.collectable)
 
 pub overflow_shl-scratch : goal.overflow_shl-scratch
 overflow_shl-scratch c =
@@ -105,7 +104,7 @@ offset_bounds-scratch-at c =
     let room : (c.loop-w.next < c.args.rows.count) × (c.args.rows.copy + c.args.rows.count ≤ length c.loop-w.scratch) =
     (omega (arith, c.loop-w.invariant.1.few, inside), omega (arith, c.loop-w.invariant.1.long, c.requires.collectable.copy_before, c.requires.collectable.numbers_in))
     in
-    omega (arith, room, c.requires.collectable, c.good)
+    omega (arith, room, c.requires.collectable)
 
 pub bounds-scratch-at : goal.bounds-scratch-at
 bounds-scratch-at c =
@@ -125,7 +124,7 @@ overflow_add-next c =
     let room : (c.loop-w.next < c.args.rows.count) × (c.args.rows.copy + c.args.rows.count ≤ length c.loop-w.scratch) =
     (omega (arith, c.loop-w.invariant.1.few, inside), omega (arith, c.loop-w.invariant.1.long, c.requires.collectable.copy_before, c.requires.collectable.numbers_in))
     in
-    omega (arith, room, c.requires.collectable, c.good)
+    omega (arith, room, c.requires.collectable)
 
 pub loop-w-preserved : goal.loop-w-preserved
 loop-w-preserved c =
@@ -136,13 +135,13 @@ loop-w-preserved c =
     let e : k + (c.loop-w.w + 1) ≡ k + c.loop-w.w + 1 = omega arith in
     let n : c.args.rows.numbers + (k + c.loop-w.w) ≡ c.args.rows.numbers + k + c.loop-w.w = omega arith in
     let q = ap (λ j. get_or c.loop-w.scratch j 0) n in
-    ⊎_elim
-    (λ t.
-    let p = word_path c.args.scratch.now c.args.rows c.args.from c.args.fan c.args.bits c.args.state c.loop-w.w c.requires.collectable c.requires.state_bound (omega arith) in
-    (omega arith, rw (t.2, t.3) (collect_new c.args.scratch.now c.loop-w.scratch c.args.rows c.args.from c.args.fan c.args.bits (k + c.loop-w.w) c.loop-w.next c.requires.collectable (inside) c.loop-w.invariant.1 (q ∙ t.0.taken) _ _ p e)))
-    (λ t.
-    (omega arith, rw (t.1, t.2) (collect_old c.args.scratch.now c.loop-w.scratch c.args.rows c.args.from c.args.fan c.args.bits (k + c.loop-w.w) c.loop-w.next c.requires.collectable (inside) c.loop-w.invariant.1 _ (λ d. t.0.left (sym q ∙ d)) e)))
-    c.if-scratch-first.branch
+    elim c.if-scratch-first.branch [
+      | then-scratch-first t ↦
+          let p = word_path c.args.scratch.now c.args.rows c.args.from c.args.fan c.args.bits c.args.state c.loop-w.w c.requires.collectable c.requires.state_bound (omega arith) in
+          (omega arith, rw (t.scratch-is, t.next-is) (collect_new c.args.scratch.now c.loop-w.scratch c.args.rows c.args.from c.args.fan c.args.bits (k + c.loop-w.w) c.loop-w.next c.requires.collectable inside c.loop-w.invariant.1 (q ∙ t.if-scratch-first.true) _ _ p e))
+      | else-scratch-first t ↦
+          (omega arith, rw (t.scratch-is, t.next-is) (collect_old c.args.scratch.now c.loop-w.scratch c.args.rows c.args.from c.args.fan c.args.bits (k + c.loop-w.w) c.loop-w.next c.requires.collectable inside c.loop-w.invariant.1 _ (λ d. t.if-scratch-first.false (sym q ∙ d)) e))
+    ]
 
 pub returns : goal.returns
 returns c =

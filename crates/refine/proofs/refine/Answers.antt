@@ -3,15 +3,14 @@
 -- Assumes nothing.
 use mathlib.Core.Path.{◌≡◌, sym, ap, ◌∙◌, subst}
 use mathlib.Core.Bool.{Bool}
-use mathlib.Core.Logic.{⊎_elim}
 use mathlib.Core.List.{List}
-use Prim.Native.Nat.{ℕ, ◌+◌, ◌-◌, ◌≤◌, ◌<◌}
+use Prim.Native.Nat.{ℕ, ◌+◌, ◌≤◌, ◌<◌}
 use native.Mathlib.Omega.{arith}
 use lib.ListN.{length, get_or, set}
 use Rattle.diagrams.specs.Numbering.{first_same}
 use Rattle.refine.specs.Limits.{bucket_count}
-use Rattle.refine.specs.Rows.{number_in, same_row}
-use Rattle.refine.specs.Buckets.{row_hash, old_in, bucket, Linked}
+use Rattle.refine.specs.Rows.{number_in, same_row, Placed}
+use Rattle.refine.specs.Buckets.{row_hash, test_in, hash_in, bucket, Linked}
 use Rattle.refine.specs.declared.Rows.{Rows}
 use Rattle.diagrams.proofs.Numbering.{first_le}
 use Rattle.refine.proofs.Numbers.{count_most}
@@ -19,288 +18,133 @@ use Rattle.refine.proofs.Buckets.{Hashed, Bucketed, bucketed_none, bucketed_late
 use Rattle.refine.proofs.Same.{row_hashed}
 use Rattle.refine.proofs.Refining.{Numbered, numbered-none, numbered-all, placed_same, copied_long, kept, turn_later, turn_new}
 use Rattle.refine.proofs.refine.Goals as goal
+use Rattle.refine.proofs.refine.Goals.{then-g-c, else-g-c}
 
--- the test and the hash by the numbers at the start
-abbrev same : List ℕ → List ℕ → Rows → ℕ → ℕ → Bool
-same s w rows = same_row (number_in s rows) w rows
+module _ (s₀ s w : List ℕ) (rows : Rows) (c fresh : ℕ) (P : Placed s₀ w rows) (N : Numbered s₀ s w rows c fresh) where
+  -- the test and the hash, by the numbers at the start
+  abbrev test : ℕ → ℕ → Bool
+  test = same_row (number_in s₀ rows) w rows
 
-abbrev hash : List ℕ → List ℕ → Rows → ℕ → ℕ
-hash s w rows = row_hash (number_in s rows) w rows
+  abbrev hashes : ℕ → ℕ
+  hashes = row_hash (number_in s₀ rows) w rows
 
-old {ℓ} : (c : tie.In-loop invariant-loop decreases-loop) {A : Type ℓ} (f : (ℕ → ℕ) → A) → let l = c.before in
-    f (old_in (copy l) (rows l) l.loop.c) ≡ f (number_in (entry l).args.scratch.now (rows l))
-old c f = let l = c.before in kept _ _ _ (rows l) l.loop.c l.loop.fresh (entry l).requires (omega arith) l.loop.invariant.1 f
+  hashed : Hashed test hashes
+  hashed = row_hashed (number_in s₀ rows) w rows
+
+  -- `fresh` is small
+  few : fresh ≤ c
+  few = omega (arith, N.counted, count_most test c)
+
+  module _ (b : c < rows.count) where
+    -- the scratch with the copy of a number, which has the numbers that were at the start
+    abbrev copy : List ℕ
+    copy = set s (rows.copy + c) (number_in s rows c)
+
+    placed : Placed copy w rows
+    placed = placed_same s₀ copy w rows (copied_long s₀ s w rows c fresh P b N) P
+
+    -- the candidate that is found
+    sought : (g : ℕ) → g ≡ first_same (test_in copy w rows c) c → g ≡ first_same test c
+    sought g e = subst (λ x. g ≡ x) (kept s₀ s w rows c fresh P b N (λ f. first_same (same_row f w rows) c)) e
+
+    module _ (h : ℕ) (e : h ≡ hash_in copy w rows c c) where
+      -- the hash, and where its bucket starts
+      hash-is : h ≡ hashes c
+      hash-is = subst (λ x. h ≡ x) (kept s₀ s w rows c fresh P b N (λ f. row_hash f w rows c)) e
+
+      hash_small : h < bucket_count
+      hash_small = omega (arith, hash-is, hashed.small c)
+
+      module _ (buckets links : List ℕ) (B : Bucketed test hashes buckets links c) where
+        linked : Linked (test_in copy w rows c) (hash_in copy w rows c) links c
+        linked = subst (λ X. X) (sym (kept s₀ s w rows c fresh P b N (λ f. Linked (same_row f w rows) (row_hash f w rows) links c))) B.linked
+
+        started : get_or buckets h 0 ≡ bucket (test_in copy w rows c) (hash_in copy w rows c) (hash_in copy w rows c c) c
+        started =
+            B.start h hash_small ∙ ap (λ k. bucket test hashes k c) hash-is
+            ∙ sym (kept s₀ s w rows c fresh P b N (λ f. bucket (same_row f w rows) (row_hash f w rows) (row_hash f w rows c) c))
+
+        module _ (room : c < 32768) (g : ℕ) (f : g ≡ first_same (test_in copy w rows c) c) where
+          -- the buckets with one candidate more
+          buckets_later : g < c → Bucketed test hashes buckets links (c + 1)
+          buckets_later l = bucketed_later test hashes hashed buckets links c B room (omega (arith, sought g f))
+
+          buckets_new : c ≤ g → Bucketed test hashes (set buckets h (c + 1)) (set links c (get_or buckets h 0)) (c + 1)
+          buckets_new l = bucketed_new test hashes hashed buckets links c B room h hash-is (omega (arith, sought g f, first_le test c))
 
 pub loop-c-init : goal.loop-c-init
 loop-c-init c =
     (omega arith, numbered-none c.args.scratch.now c.args.work.now c.args.rows, bucketed_none _ _ (row_hashed (number_in c.args.scratch.now c.args.rows) c.args.work.now c.args.rows) c.no_buckets-buckets.result c.no_links-links.result c.no_buckets-buckets.ensures c.no_links-links.ensures)
 
-pub overflow_add-scratch : goal.overflow_add-scratch
-overflow_add-scratch c =
-    omega (arith, c.loop-c.invariant.1.long, c.requires, c.well_formed)
-
-pub offset_bounds-scratch-numbers : goal.offset_bounds-scratch-numbers
-offset_bounds-scratch-numbers c =
-    omega (arith, c.loop-c.invariant.1.long, c.requires, c.well_formed)
-
-pub bounds-scratch-numbers : goal.bounds-scratch-numbers
-bounds-scratch-numbers c =
-    omega (arith, c.loop-c.invariant.1.long, c.requires)
-
-pub overflow_add-scratch-in-loop-c : goal.overflow_add-scratch-in-loop-c
-overflow_add-scratch-in-loop-c c =
-    omega (arith, c.loop-c.invariant.1.long, c.requires, c.well_formed)
-
-pub offset_bounds-scratch-copy : goal.offset_bounds-scratch-copy
-offset_bounds-scratch-copy c =
-    omega (arith, c.loop-c.invariant.1.long, c.requires, c.well_formed)
-
-pub bounds-scratch-copy : goal.bounds-scratch-copy
-bounds-scratch-copy c =
-    omega (arith, c.loop-c.invariant.1.long, c.requires)
-
 pub row_hash-hash-requires : goal.row_hash-hash-requires
-row_hash-hash-requires c =
-    let rows : Rows =
-    c.args.rows
-    in
-    let copy : List ℕ =
-    set c.loop-c.scratch (((c.args.rows)).copy + c.loop-c.c) (number_in c.loop-c.scratch ((c.args.rows)) c.loop-c.c)
-    in
-    let long : length ((set c.loop-c.scratch (((c.args.rows)).copy + c.loop-c.c) (number_in c.loop-c.scratch ((c.args.rows)) c.loop-c.c))) ≡ length c.args.scratch.now =
-    copied_long _ _ _ ((c.args.rows)) c.loop-c.c c.loop-c.fresh c.requires (omega arith) c.loop-c.invariant.1
-    in
-    record {
-      placed = placed_same _ _ _ (c.args.rows) (long) c.requires;
-      c_lt_count = omega arith;
-    }
+row_hash-hash-requires c = record {
+  placed = placed c.args.scratch.now c.loop-c.scratch c.args.work.now c.args.rows c.loop-c.c c.loop-c.fresh c.requires c.loop-c.invariant.1 (omega arith);
+  c_lt_count = omega arith;
+}
 
 pub offset_bounds-buckets-hash : goal.offset_bounds-buckets-hash
 offset_bounds-buckets-hash c =
-    let rows : Rows =
-    c.args.rows
-    in
-    let test : ℕ → ℕ → Bool =
-    same c.args.scratch.now c.args.work.now ((c.args.rows))
-    in
-    let hashes : ℕ → ℕ =
-    hash c.args.scratch.now c.args.work.now ((c.args.rows))
-    in
-    let hashed : Hashed ((same c.args.scratch.now c.args.work.now ((c.args.rows)))) ((hash c.args.scratch.now c.args.work.now ((c.args.rows)))) =
-    row_hashed _ c.args.work.now ((c.args.rows))
-    in
-    let hash-is : c.row_hash-hash.result ≡ (hash c.args.scratch.now c.args.work.now ((c.args.rows))) c.loop-c.c =
-    subst (λ h. c.row_hash-hash.result ≡ h) (old c (λ f. row_hash f c.args.work.now ((c.args.rows)) c.loop-c.c)) c.row_hash-hash.ensures
-    in
-    let hash_small : c.row_hash-hash.result < bucket_count =
-    omega (arith, hash-is, (hashed).small c.loop-c.c)
-    in
-    omega (arith, hash_small)
+    let small : c.row_hash-hash.result < bucket_count = hash_small c.args.scratch.now c.loop-c.scratch c.args.work.now c.args.rows c.loop-c.c c.loop-c.fresh c.requires c.loop-c.invariant.1 (omega arith) c.row_hash-hash.result c.row_hash-hash.ensures in
+    omega (arith, small)
 
 pub bounds-buckets-hash : goal.bounds-buckets-hash
 bounds-buckets-hash c =
-    let rows : Rows =
-    c.args.rows
-    in
-    let test : ℕ → ℕ → Bool =
-    same c.args.scratch.now c.args.work.now ((c.args.rows))
-    in
-    let hashes : ℕ → ℕ =
-    hash c.args.scratch.now c.args.work.now ((c.args.rows))
-    in
-    let hashed : Hashed ((same c.args.scratch.now c.args.work.now ((c.args.rows)))) ((hash c.args.scratch.now c.args.work.now ((c.args.rows)))) =
-    row_hashed _ c.args.work.now ((c.args.rows))
-    in
-    let hash-is : c.row_hash-hash.result ≡ (hash c.args.scratch.now c.args.work.now ((c.args.rows))) c.loop-c.c =
-    subst (λ h. c.row_hash-hash.result ≡ h) (old c (λ f. row_hash f c.args.work.now ((c.args.rows)) c.loop-c.c)) c.row_hash-hash.ensures
-    in
-    let hash_small : c.row_hash-hash.result < bucket_count =
-    omega (arith, hash-is, (hashed).small c.loop-c.c)
-    in
-    hash_small
-
-pub slice_bounds-seek-end : goal.slice_bounds-seek-end
-slice_bounds-seek-end c =
-    sym c.loop-c.invariant.2.long
+    hash_small c.args.scratch.now c.loop-c.scratch c.args.work.now c.args.rows c.loop-c.c c.loop-c.fresh c.requires c.loop-c.invariant.1 (omega arith) c.row_hash-hash.result c.row_hash-hash.ensures
 
 pub seek-g-requires : goal.seek-g-requires
-seek-g-requires c =
-    let rows : Rows =
-    c.args.rows
-    in
-    let test : ℕ → ℕ → Bool =
-    same c.args.scratch.now c.args.work.now ((c.args.rows))
-    in
-    let hashes : ℕ → ℕ =
-    hash c.args.scratch.now c.args.work.now ((c.args.rows))
-    in
-    let hashed : Hashed ((same c.args.scratch.now c.args.work.now ((c.args.rows)))) ((hash c.args.scratch.now c.args.work.now ((c.args.rows)))) =
-    row_hashed _ c.args.work.now ((c.args.rows))
-    in
-    let copy : List ℕ =
-    set c.loop-c.scratch (((c.args.rows)).copy + c.loop-c.c) (number_in c.loop-c.scratch ((c.args.rows)) c.loop-c.c)
-    in
-    let long : length ((set c.loop-c.scratch (((c.args.rows)).copy + c.loop-c.c) (number_in c.loop-c.scratch ((c.args.rows)) c.loop-c.c))) ≡ length c.args.scratch.now =
-    copied_long _ _ _ ((c.args.rows)) c.loop-c.c c.loop-c.fresh c.requires (omega arith) c.loop-c.invariant.1
-    in
-    let hash-is : c.row_hash-hash.result ≡ (hash c.args.scratch.now c.args.work.now ((c.args.rows))) c.loop-c.c =
-    subst (λ h. c.row_hash-hash.result ≡ h) (old c (λ f. row_hash f c.args.work.now ((c.args.rows)) c.loop-c.c)) c.row_hash-hash.ensures
-    in
-    let hash_small : c.row_hash-hash.result < bucket_count =
-    omega (arith, hash-is, (hashed).small c.loop-c.c)
-    in
-    let started : get_or c.loop-c.buckets c.row_hash-hash.result 0 ≡ bucket ((same c.args.scratch.now c.args.work.now ((c.args.rows)))) ((hash c.args.scratch.now c.args.work.now ((c.args.rows)))) ((hash c.args.scratch.now c.args.work.now ((c.args.rows))) c.loop-c.c) c.loop-c.c =
-    c.loop-c.invariant.2.start c.row_hash-hash.result (hash_small) ∙ ap (λ k. bucket ((same c.args.scratch.now c.args.work.now ((c.args.rows)))) ((hash c.args.scratch.now c.args.work.now ((c.args.rows)))) k c.loop-c.c) (hash-is)
-    in
-    record {
-      placed = placed_same _ _ _ (c.args.rows) (long) c.requires;
-      c_lt_count = omega arith;
-      linked = subst (λ X. X) (sym (old c (λ f. Linked (same_row f c.args.work.now (c.args.rows)) (row_hash f c.args.work.now (c.args.rows)) c.loop-c.links c.loop-c.c))) c.loop-c.invariant.2.linked;
-      start_value = started ∙ sym (old c (λ f. bucket (same_row f c.args.work.now (c.args.rows)) (row_hash f c.args.work.now (c.args.rows)) (row_hash f c.args.work.now (c.args.rows) c.loop-c.c) c.loop-c.c));
-    }
-
-pub overflow_add-number : goal.overflow_add-number
-overflow_add-number c =
-    omega (arith, c.loop-c.invariant.1.long, c.requires, c.well_formed)
-
-pub offset_bounds-scratch-numbers-then-g-c : goal.offset_bounds-scratch-numbers-then-g-c
-offset_bounds-scratch-numbers-then-g-c c =
-    omega (arith, c.loop-c.invariant.1.long, c.requires, c.well_formed)
+seek-g-requires c = record {
+  placed = placed c.args.scratch.now c.loop-c.scratch c.args.work.now c.args.rows c.loop-c.c c.loop-c.fresh c.requires c.loop-c.invariant.1 (omega arith);
+  c_lt_count = omega arith;
+  linked = linked c.args.scratch.now c.loop-c.scratch c.args.work.now c.args.rows c.loop-c.c c.loop-c.fresh c.requires c.loop-c.invariant.1 (omega arith) c.row_hash-hash.result c.row_hash-hash.ensures c.loop-c.buckets c.loop-c.links c.loop-c.invariant.2;
+  start_value = started c.args.scratch.now c.loop-c.scratch c.args.work.now c.args.rows c.loop-c.c c.loop-c.fresh c.requires c.loop-c.invariant.1 (omega arith) c.row_hash-hash.result c.row_hash-hash.ensures c.loop-c.buckets c.loop-c.links c.loop-c.invariant.2;
+}
 
 pub bounds-scratch-numbers-then-g-c : goal.bounds-scratch-numbers-then-g-c
 bounds-scratch-numbers-then-g-c c =
-    let rows : Rows =
-    c.args.rows
-    in
-    let copy : List ℕ =
-    set c.loop-c.scratch (((c.args.rows)).copy + c.loop-c.c) (number_in c.loop-c.scratch ((c.args.rows)) c.loop-c.c)
-    in
-    let long : length ((set c.loop-c.scratch (((c.args.rows)).copy + c.loop-c.c) (number_in c.loop-c.scratch ((c.args.rows)) c.loop-c.c))) ≡ length c.args.scratch.now =
-    copied_long _ _ _ ((c.args.rows)) c.loop-c.c c.loop-c.fresh c.requires (omega arith) c.loop-c.invariant.1
-    in
+    let long : length (set c.loop-c.scratch (c.args.rows.copy + c.loop-c.c) (number_in c.loop-c.scratch c.args.rows c.loop-c.c)) ≡ length c.args.scratch.now = copied_long c.args.scratch.now c.loop-c.scratch c.args.work.now c.args.rows c.loop-c.c c.loop-c.fresh c.requires (omega arith) c.loop-c.invariant.1 in
     omega (arith, long, c.requires)
 
 pub overflow_add-fresh : goal.overflow_add-fresh
 overflow_add-fresh c =
-    let rows : Rows =
-    c.args.rows
-    in
-    let test : ℕ → ℕ → Bool =
-    same c.args.scratch.now c.args.work.now ((c.args.rows))
-    in
-    let few : c.loop-c.fresh ≤ c.loop-c.c =
-    omega (arith, c.loop-c.invariant.1.counted, count_most ((same c.args.scratch.now c.args.work.now ((c.args.rows)))) c.loop-c.c)
-    in
-    omega (arith, few, c.requires)
+    let small : c.loop-c.fresh ≤ c.loop-c.c = few c.args.scratch.now c.loop-c.scratch c.args.work.now c.args.rows c.loop-c.c c.loop-c.fresh c.requires c.loop-c.invariant.1 in
+    omega (arith, small, c.requires)
 
 pub offset_bounds-buckets-hash-else-g-c : goal.offset_bounds-buckets-hash-else-g-c
 offset_bounds-buckets-hash-else-g-c c =
-    let rows : Rows =
-    c.args.rows
-    in
-    let test : ℕ → ℕ → Bool =
-    same c.args.scratch.now c.args.work.now ((c.args.rows))
-    in
-    let hashes : ℕ → ℕ =
-    hash c.args.scratch.now c.args.work.now ((c.args.rows))
-    in
-    let hashed : Hashed ((same c.args.scratch.now c.args.work.now ((c.args.rows)))) ((hash c.args.scratch.now c.args.work.now ((c.args.rows)))) =
-    row_hashed _ c.args.work.now ((c.args.rows))
-    in
-    let hash-is : c.row_hash-hash.result ≡ (hash c.args.scratch.now c.args.work.now ((c.args.rows))) c.loop-c.c =
-    subst (λ h. c.row_hash-hash.result ≡ h) (old c (λ f. row_hash f c.args.work.now ((c.args.rows)) c.loop-c.c)) c.row_hash-hash.ensures
-    in
-    let hash_small : c.row_hash-hash.result < bucket_count =
-    omega (arith, hash-is, (hashed).small c.loop-c.c)
-    in
-    omega (arith, hash_small)
+    let small : c.row_hash-hash.result < bucket_count = hash_small c.args.scratch.now c.loop-c.scratch c.args.work.now c.args.rows c.loop-c.c c.loop-c.fresh c.requires c.loop-c.invariant.1 (omega arith) c.row_hash-hash.result c.row_hash-hash.ensures in
+    omega (arith, small)
 
 pub bounds-buckets-hash-else-g-c : goal.bounds-buckets-hash-else-g-c
 bounds-buckets-hash-else-g-c c =
-    let rows : Rows =
-    c.args.rows
-    in
-    let test : ℕ → ℕ → Bool =
-    same c.args.scratch.now c.args.work.now ((c.args.rows))
-    in
-    let hashes : ℕ → ℕ =
-    hash c.args.scratch.now c.args.work.now ((c.args.rows))
-    in
-    let hashed : Hashed ((same c.args.scratch.now c.args.work.now ((c.args.rows)))) ((hash c.args.scratch.now c.args.work.now ((c.args.rows)))) =
-    row_hashed _ c.args.work.now ((c.args.rows))
-    in
-    let hash-is : c.row_hash-hash.result ≡ (hash c.args.scratch.now c.args.work.now ((c.args.rows))) c.loop-c.c =
-    subst (λ h. c.row_hash-hash.result ≡ h) (old c (λ f. row_hash f c.args.work.now ((c.args.rows)) c.loop-c.c)) c.row_hash-hash.ensures
-    in
-    let hash_small : c.row_hash-hash.result < bucket_count =
-    omega (arith, hash-is, (hashed).small c.loop-c.c)
-    in
-    hash_small
-
-pub overflow_add-scratch-in-loop-c-2 : goal.overflow_add-scratch-in-loop-c-2
-overflow_add-scratch-in-loop-c-2 c =
-    omega (arith, c.loop-c.invariant.1.long, c.requires, c.well_formed)
-
-pub offset_bounds-scratch-numbers-in-loop-c : goal.offset_bounds-scratch-numbers-in-loop-c
-offset_bounds-scratch-numbers-in-loop-c c =
-    omega (arith, c.loop-c.invariant.1.long, c.requires, c.well_formed)
+    hash_small c.args.scratch.now c.loop-c.scratch c.args.work.now c.args.rows c.loop-c.c c.loop-c.fresh c.requires c.loop-c.invariant.1 (omega arith) c.row_hash-hash.result c.row_hash-hash.ensures
 
 pub bounds-scratch-numbers-in-loop-c : goal.bounds-scratch-numbers-in-loop-c
 bounds-scratch-numbers-in-loop-c c =
-    let rows : Rows =
-    c.args.rows
-    in
-    let copy : List ℕ =
-    set c.loop-c.scratch (((c.args.rows)).copy + c.loop-c.c) (number_in c.loop-c.scratch ((c.args.rows)) c.loop-c.c)
-    in
-    let long : length ((set c.loop-c.scratch (((c.args.rows)).copy + c.loop-c.c) (number_in c.loop-c.scratch ((c.args.rows)) c.loop-c.c))) ≡ length c.args.scratch.now =
-    copied_long _ _ _ ((c.args.rows)) c.loop-c.c c.loop-c.fresh c.requires (omega arith) c.loop-c.invariant.1
-    in
+    let long : length (set c.loop-c.scratch (c.args.rows.copy + c.loop-c.c) (number_in c.loop-c.scratch c.args.rows c.loop-c.c)) ≡ length c.args.scratch.now = copied_long c.args.scratch.now c.loop-c.scratch c.args.work.now c.args.rows c.loop-c.c c.loop-c.fresh c.requires (omega arith) c.loop-c.invariant.1 in
     omega (arith, long, c.requires)
 
 pub loop-c-preserved : goal.loop-c-preserved
 loop-c-preserved c =
-    let rows : Rows =
-    c.args.rows
+    let inside : c.loop-c.c < c.args.rows.count = omega arith in
+    let room : c.loop-c.c < 32768 = omega (arith, c.requires) in
+    let found : c.seek-g.result ≡ first_same (same_row (number_in c.args.scratch.now c.args.rows) c.args.work.now c.args.rows) c.loop-c.c =
+    sought c.args.scratch.now c.loop-c.scratch c.args.work.now c.args.rows c.loop-c.c c.loop-c.fresh c.requires c.loop-c.invariant.1 inside c.seek-g.result c.seek-g.ensures
     in
-    let test : ℕ → ℕ → Bool =
-    same c.args.scratch.now c.args.work.now ((c.args.rows))
-    in
-    let hashes : ℕ → ℕ =
-    hash c.args.scratch.now c.args.work.now ((c.args.rows))
-    in
-    let hashed : Hashed ((same c.args.scratch.now c.args.work.now ((c.args.rows)))) ((hash c.args.scratch.now c.args.work.now ((c.args.rows)))) =
-    row_hashed _ c.args.work.now ((c.args.rows))
-    in
-    let hash-is : c.row_hash-hash.result ≡ (hash c.args.scratch.now c.args.work.now ((c.args.rows))) c.loop-c.c =
-    subst (λ h. c.row_hash-hash.result ≡ h) (old c (λ f. row_hash f c.args.work.now ((c.args.rows)) c.loop-c.c)) c.row_hash-hash.ensures
-    in
-    let sought : c.seek-g.result ≡ first_same ((same c.args.scratch.now c.args.work.now ((c.args.rows)))) c.loop-c.c =
-    subst (λ g. c.seek-g.result ≡ g) (old c (λ f. first_same (same_row f c.args.work.now ((c.args.rows))) c.loop-c.c)) c.seek-g.ensures
-    in
-    ⊎_elim
-    (λ w.
-    let N = turn_later c.args.scratch.now c.loop-c.scratch c.args.work.now (c.args.rows) c.loop-c.c c.loop-c.fresh c.requires (omega arith) c.loop-c.invariant.1 c.seek-g.result c.if-g-c.number (sought) w.5 w.0.taken in
-    let B = bucketed_later (same c.args.scratch.now c.args.work.now (c.args.rows)) (hash c.args.scratch.now c.args.work.now (c.args.rows)) (hashed) c.loop-c.buckets c.loop-c.links c.loop-c.c c.loop-c.invariant.2 (omega (arith, c.requires)) (omega (arith, sought)) in
-    (omega arith, rw w.4 N, rw (w.2, w.3) B))
-    (λ w.
-    let N = turn_new c.args.scratch.now c.loop-c.scratch c.args.work.now (c.args.rows) c.loop-c.c c.loop-c.fresh c.requires (omega arith) c.loop-c.invariant.1 c.seek-g.result c.if-g-c.number (sought) w.4 w.0.left in
-    let B = bucketed_new (same c.args.scratch.now c.args.work.now (c.args.rows)) (hash c.args.scratch.now c.args.work.now (c.args.rows)) (hashed) c.loop-c.buckets c.loop-c.links c.loop-c.c c.loop-c.invariant.2 (omega (arith, c.requires)) c.row_hash-hash.result (hash-is) (omega (arith, sought, first_le (same c.args.scratch.now c.args.work.now (c.args.rows)) c.loop-c.c)) in
-    (omega arith, rw w.3 N, rw (w.1, w.2) B))
-    c.if-g-c.branch
+    elim c.if-g-c.branch [
+      | then-g-c w ↦
+          let N = turn_later c.args.scratch.now c.loop-c.scratch c.args.work.now c.args.rows c.loop-c.c c.loop-c.fresh c.requires inside c.loop-c.invariant.1 c.seek-g.result c.if-g-c.number found w.number-is w.if-g-c.true in
+          let B = buckets_later c.args.scratch.now c.loop-c.scratch c.args.work.now c.args.rows c.loop-c.c c.loop-c.fresh c.requires c.loop-c.invariant.1 inside c.row_hash-hash.result c.row_hash-hash.ensures c.loop-c.buckets c.loop-c.links c.loop-c.invariant.2 room c.seek-g.result c.seek-g.ensures w.if-g-c.true in
+          (omega arith, rw w.fresh-is N, rw (w.buckets-is, w.links-is) B)
+      | else-g-c w ↦
+          let N = turn_new c.args.scratch.now c.loop-c.scratch c.args.work.now c.args.rows c.loop-c.c c.loop-c.fresh c.requires inside c.loop-c.invariant.1 c.seek-g.result c.if-g-c.number found w.number-is w.if-g-c.false in
+          let B = buckets_new c.args.scratch.now c.loop-c.scratch c.args.work.now c.args.rows c.loop-c.c c.loop-c.fresh c.requires c.loop-c.invariant.1 inside c.row_hash-hash.result c.row_hash-hash.ensures c.loop-c.buckets c.loop-c.links c.loop-c.invariant.2 room c.seek-g.result c.seek-g.ensures w.if-g-c.false in
+          (omega arith, rw w.fresh-is N, rw (w.buckets-is, w.links-is) B)
+    ]
 
 pub overflow_cast-result : goal.overflow_cast-result
 overflow_cast-result c =
-    let rows : Rows =
-    c.args.rows
-    in
-    let test : ℕ → ℕ → Bool =
-    same c.args.scratch.now c.args.work.now ((c.args.rows))
-    in
-    let few : c.loop-c.fresh ≤ c.loop-c.c =
-    omega (arith, c.loop-c.invariant.1.counted, count_most ((same c.args.scratch.now c.args.work.now ((c.args.rows)))) c.loop-c.c)
-    in
-    omega (arith, few, c.requires)
+    let small : c.loop-c.fresh ≤ c.loop-c.c = few c.args.scratch.now c.loop-c.scratch c.args.work.now c.args.rows c.loop-c.c c.loop-c.fresh c.requires c.loop-c.invariant.1 in
+    omega (arith, small, c.requires)
 
 pub returns : goal.returns
 returns c =

@@ -1,23 +1,14 @@
 -- `refine::refine` meets its contract. The invariant: the candidates so far have their numbers, `fresh` is how many there are, and the buckets are
 -- theirs.
 -- Assumes nothing.
-use mathlib.Core.Path.{◌≡◌, sym, ap, ◌∙◌, subst}
 use mathlib.Core.Bool.{Bool}
-use mathlib.Core.Logic.{⊎_elim}
 use mathlib.Core.List.{List}
-use Prim.Native.Nat.{ℕ, ◌+◌, ◌-◌, ◌≤◌, ◌<◌}
-use native.Mathlib.Omega.{arith}
-use lib.ListN.{length, get_or, set}
-use Rattle.diagrams.specs.Numbering.{first_same}
-use Rattle.refine.specs.Limits.{bucket_count}
+use Prim.Native.Nat.{ℕ, ◌-◌, ◌≤◌}
 use Rattle.refine.specs.Rows.{number_in, same_row}
-use Rattle.refine.specs.Buckets.{row_hash, old_in, bucket, Linked}
+use Rattle.refine.specs.Buckets.{row_hash}
 use Rattle.refine.specs.declared.Rows.{Rows}
-use Rattle.diagrams.proofs.Numbering.{first_le}
-use Rattle.refine.proofs.Numbers.{count_most}
-use Rattle.refine.proofs.Buckets.{Hashed, Bucketed, bucketed_none, bucketed_later, bucketed_new}
-use Rattle.refine.proofs.Same.{row_hashed}
-use Rattle.refine.proofs.Refining.{Numbered, numbered-none, numbered-all, placed_same, copied_long, kept, turn_later, turn_new}
+use Rattle.refine.proofs.Buckets.{Bucketed}
+use Rattle.refine.proofs.Refining.{Numbered}
 use Rattle.refine.proofs.refine.Given as goal
 
 -- the test and the hash by the numbers at the start

@@ -1,13 +1,9 @@
 -- `refine::row_hash` meets its contract. The invariant: `hash` is that of the parts so far.
 -- Assumes nothing.
-use mathlib.Core.Path.{◌≡◌, refl}
-use Prim.Native.Nat.{◌+◌, ◌*◌, ◌-◌, ◌≤◌, ◌<◌}
-use native.Mathlib.Omega.{arith}
-use lib.ListN.{length, get_or}
-use Rattle.refine.specs.Limits.{bucket_count}
+use mathlib.Core.Path.{◌≡◌}
+use Prim.Native.Nat.{◌+◌, ◌-◌, ◌≤◌}
+use lib.ListN.{get_or}
 use Rattle.refine.specs.Buckets.{hash_to}
-use Rattle.refine.proofs.Same.{hash_small, hash_more}
-use Rattle.refine.proofs.Refining.{row_fits, hashed}
 use Rattle.refine.proofs.row_hash.Given as goal
 
 abbrev pub invariant-loop-i : goal.invariant-loop-i

@@ -1,15 +1,14 @@
 -- `refine::seek` meets its contract. The invariants: what is passed of the bucket is not the same as c; the parts of g's and c's rows so far are
 -- equal.
 -- Assumes nothing.
-use mathlib.Core.Path.{◌≡◌}
-use Prim.Native.Nat.{ℕ, ◌+◌, ◌*◌, ◌-◌, ◌≤◌, ◌<◌}
+use Prim.Native.Nat.{◌+◌, ◌*◌, ◌-◌, ◌≤◌, ◌<◌}
 use native.Mathlib.Nat.{le_refl}
 use native.Mathlib.Numerals.{add-one}
 use native.Mathlib.Omega.{arith}
 use lib.ListN.{length, get_or}
 use Rattle.layered.proofs.Search.{below_suc}
 use Rattle.refine.specs.Buckets.{test_in, hash_in}
-use Rattle.refine.proofs.Buckets.{Hashed, Walk, walk_from, walk_ended, walk_falls, walk_on, walk_found}
+use Rattle.refine.proofs.Buckets.{Hashed, walk_from, walk_ended, walk_falls, walk_on, walk_found}
 use Rattle.refine.proofs.Same.{row_hashed}
 use Rattle.refine.proofs.Refining.{row_fits, numbers_differ, parts_differ, all_same}
 use Rattle.refine.proofs.seek.Goals as goal
@@ -52,14 +51,14 @@ overflow_add-copy c =
     let below : c.earlier.rest - 1 ≤ c.args.c =
     omega (arith, c.earlier.invariant.below)
     in
-    omega (arith, below, c.requires.placed, c.requires.c_lt_count, c.good)
+    omega (arith, below, c.requires.placed, c.requires.c_lt_count)
 
 pub offset_bounds-scratch-copy : goal.offset_bounds-scratch-copy
 offset_bounds-scratch-copy c =
     let below : c.earlier.rest - 1 ≤ c.args.c =
     omega (arith, c.earlier.invariant.below)
     in
-    omega (arith, below, c.requires.placed, c.requires.c_lt_count, c.good)
+    omega (arith, below, c.requires.placed, c.requires.c_lt_count)
 
 pub bounds-scratch-copy : goal.bounds-scratch-copy
 bounds-scratch-copy c =
@@ -70,11 +69,11 @@ bounds-scratch-copy c =
 
 pub overflow_add-copy-in-earlier : goal.overflow_add-copy-in-earlier
 overflow_add-copy-in-earlier c =
-    omega (arith, c.requires.placed, c.requires.c_lt_count, c.good)
+    omega (arith, c.requires.placed, c.requires.c_lt_count)
 
 pub offset_bounds-scratch-copy-in-earlier : goal.offset_bounds-scratch-copy-in-earlier
 offset_bounds-scratch-copy-in-earlier c =
-    omega (arith, c.requires.placed, c.requires.c_lt_count, c.good)
+    omega (arith, c.requires.placed, c.requires.c_lt_count)
 
 pub bounds-scratch-copy-in-earlier : goal.bounds-scratch-copy-in-earlier
 bounds-scratch-copy-in-earlier c =
@@ -131,7 +130,7 @@ overflow_add-other-in-loop-i c =
     × (c.args.rows.ids + c.args.c * c.args.rows.parts + c.args.rows.parts ≤ length c.args.work.now) =
     (other-in, own_in)
     in
-    omega (arith, rows_in, (entry c).good)
+    omega (arith, rows_in)
 
 pub offset_bounds-work-other : goal.offset_bounds-work-other
 offset_bounds-work-other c =
@@ -145,7 +144,7 @@ offset_bounds-work-other c =
     × (c.args.rows.ids + c.args.c * c.args.rows.parts + c.args.rows.parts ≤ length c.args.work.now) =
     (other-in, own_in)
     in
-    omega (arith, rows_in, (entry c).good)
+    omega (arith, rows_in)
 
 pub bounds-work-other : goal.bounds-work-other
 bounds-work-other c =
@@ -173,7 +172,7 @@ overflow_add-row-in-loop-i c =
     × (c.args.rows.ids + c.args.c * c.args.rows.parts + c.args.rows.parts ≤ length c.args.work.now) =
     (other-in, own_in)
     in
-    omega (arith, rows_in, (entry c).good)
+    omega (arith, rows_in)
 
 pub offset_bounds-work-row : goal.offset_bounds-work-row
 offset_bounds-work-row c =
@@ -187,7 +186,7 @@ offset_bounds-work-row c =
     × (c.args.rows.ids + c.args.c * c.args.rows.parts + c.args.rows.parts ≤ length c.args.work.now) =
     (other-in, own_in)
     in
-    omega (arith, rows_in, (entry c).good)
+    omega (arith, rows_in)
 
 pub bounds-work-row : goal.bounds-work-row
 bounds-work-row c =
@@ -221,7 +220,7 @@ earlier-preserved c =
     let hashed : Hashed (test_in c.args.scratch.now c.args.work.now c.args.rows c.args.c) (hash_in c.args.scratch.now c.args.work.now c.args.rows c.args.c) =
     row_hashed _ c.args.work.now c.args.rows
     in
-    walk_on _ _ (hashed) _ c.args.c _ c.requires.linked c.earlier.invariant c.earlier-test.taken
+    walk_on _ _ (hashed) _ c.args.c _ c.requires.linked c.earlier.invariant c.earlier-test.true
     (parts_differ c.args.scratch.now c.args.work.now c.args.rows (c.earlier.rest - 1) c.args.c (below) c.loop-i.i (omega arith) c.if-work-other.true)
 
 pub loop-i-preserved : goal.loop-i-preserved
@@ -236,7 +235,7 @@ returns-in-earlier c =
     let hashed : Hashed (test_in c.args.scratch.now c.args.work.now c.args.rows c.args.c) (hash_in c.args.scratch.now c.args.work.now c.args.rows c.args.c) =
     row_hashed _ c.args.work.now c.args.rows
     in
-    walk_found _ _ (hashed) _ c.args.c _ c.requires.linked c.earlier.invariant c.earlier-test.taken
+    walk_found _ _ (hashed) _ c.args.c _ c.requires.linked c.earlier.invariant c.earlier-test.true
     (all_same c.args.scratch.now c.args.work.now c.args.rows (c.earlier.rest - 1) c.args.c (below) c.if-scratch-copy.false
     (λ i b. c.loop-i.invariant.1 i (omega arith)))
 

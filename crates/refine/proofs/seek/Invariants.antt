@@ -2,16 +2,10 @@
 -- equal.
 -- Assumes nothing.
 use mathlib.Core.Path.{◌≡◌}
-use Prim.Native.Nat.{ℕ, ◌+◌, ◌*◌, ◌-◌, ◌≤◌, ◌<◌}
-use native.Mathlib.Nat.{le_refl}
-use native.Mathlib.Numerals.{add-one}
-use native.Mathlib.Omega.{arith}
-use lib.ListN.{length, get_or}
-use Rattle.layered.proofs.Search.{below_suc}
+use Prim.Native.Nat.{ℕ, ◌+◌, ◌-◌, ◌≤◌, ◌<◌}
+use lib.ListN.{get_or}
 use Rattle.refine.specs.Buckets.{test_in, hash_in}
-use Rattle.refine.proofs.Buckets.{Hashed, Walk, walk_from, walk_ended, walk_falls, walk_on, walk_found}
-use Rattle.refine.proofs.Same.{row_hashed}
-use Rattle.refine.proofs.Refining.{row_fits, numbers_differ, parts_differ, all_same}
+use Rattle.refine.proofs.Buckets.{Walk}
 use Rattle.refine.proofs.seek.Given as goal
 
 abbrev pub invariant-loop-i : goal.invariant-loop-i

@@ -6,7 +6,6 @@ use mathlib.Core.List.{List, ◌++◌}
 use Prim.Native.Nat.{ℕ, suc, ◌-◌, ◌≤◌, ◌<◌}
 use native.Mathlib.Numerals.{add-one}
 use native.Mathlib.Omega.{arith}
-use borrow.Author.Rules.{rules}
 use lib.Bits.{bit_and}
 use lib.ListN.{length, take, drop, get_or, length-set}
 use Rattle.verdict.specs.Judgements.{answer}
@@ -14,8 +13,9 @@ use Rattle.sizes.specs.Sizes.{inputs, frames as framesOf}
 use Rattle.sizes.specs.Sized.{Fed}
 use Rattle.layered.specs.Machines.{Machine, masked, feed}
 use Rattle.layered.proofs.Lists.{drop_more}
-use Rattle.table.specs.Table.{states, machine}
+use Rattle.table.specs.Table.{states, machine, checked}
 use Rattle.steps.specs.Steps.{moved, stepped, step_figures}
+use Rattle.steps.specs.declared.Stepped.{Stepped}
 use Rattle.run.specs.Run.{shown}
 use Rattle.table.specs.Sound.{Sound}
 use Rattle.table.proofs.Accepted.{sound}
@@ -27,154 +27,36 @@ use Rattle.run.proofs.run_masked.Goals as goal
 abbrev seen : List ℕ → (mask : ℕ) → Machine
 seen table mask = masked (λ _. mask) (machine table)
 
+-- frame t of an accepted table that is fed words: its step is accepted
+module _ (b words : List ℕ) (accepted : checked b ≡ answer 0 0) (fed₀ : Fed (inputs b) (framesOf b) words) (t : ℕ) (h : t < length words) where
+  frame_in : t < framesOf b
+  frame_in = omega (arith, fed₀.as_many)
+
+  step_moves : (layer state : ℕ) (x : Stepped) → step_figures x ≡ stepped b layer state (get_or words t 0) → layer ≡ t → state < states b t → step_figures x ≡ moved b t state (get_or words t 0)
+  step_moves layer state x e l s = e ∙ ap (λ (k : ℕ). stepped b k state (get_or words t 0)) l ∙ moves b 0 accepted t state (get_or words t 0) frame_in s (fed₀.below t frame_in)
+
 pub loop-t-init : goal.loop-t-init
 loop-t-init c =
-    let b₀ : List ℕ =
-    c.args.table.now
-    in
-    let sound₀ : Sound ((c.args.table.now)) =
-    sound ((c.args.table.now)) 0 c.requires.table_value
-    in
-    (omega arith, refl, c.start-position.ensures.0, omega (arith, c.start-position.ensures.1, (sound₀).headed.one_first), ap (λ (q : ℕ). feed (seen (c.args.table.now) c.args.mask) 0 q (c.args.words.now)) (sym c.start-position.ensures.1), refl)
-
-pub offset_bounds-words-t : goal.offset_bounds-words-t
-offset_bounds-words-t c =
-    let b₀ : List ℕ =
-    c.args.table.now
-    in
-    let w₀ : List ℕ =
-    c.args.words.now
-    in
-    let fed₀ : Fed (inputs ((c.args.table.now))) (framesOf ((c.args.table.now))) ((c.args.words.now)) =
-    c.requires.fed
-    in
-    let turn : (c.loop-t.t < length ((c.args.words.now))) × (c.loop-t.t < length c.loop-t.result) × (c.loop-t.t < framesOf ((c.args.table.now))) =
-    (c.loop-t-test.true, omega (arith, c.loop-t-test.true, ((c.requires.fed)).as_many, c.requires.table_in_bounds, c.loop-t.invariant.1), omega (arith, c.loop-t-test.true, ((c.requires.fed)).as_many))
-    in
-    omega (arith, turn)
-
-pub bounds-words-t : goal.bounds-words-t
-bounds-words-t c =
-    let b₀ : List ℕ =
-    c.args.table.now
-    in
-    let w₀ : List ℕ =
-    c.args.words.now
-    in
-    let fed₀ : Fed (inputs ((c.args.table.now))) (framesOf ((c.args.table.now))) ((c.args.words.now)) =
-    c.requires.fed
-    in
-    let turn : (c.loop-t.t < length ((c.args.words.now))) × (c.loop-t.t < length c.loop-t.result) × (c.loop-t.t < framesOf ((c.args.table.now))) =
-    (c.loop-t-test.true, omega (arith, c.loop-t-test.true, ((c.requires.fed)).as_many, c.requires.table_in_bounds, c.loop-t.invariant.1), omega (arith, c.loop-t-test.true, ((c.requires.fed)).as_many))
-    in
-    (turn).0
+    let sound₀ : Sound c.args.table.now = sound c.args.table.now 0 c.requires.table_value in
+    (omega arith, refl, c.start-position.ensures.0, omega (arith, c.start-position.ensures.1, sound₀.headed.one_first), ap (λ (q : ℕ). feed (seen c.args.table.now c.args.mask) 0 q c.args.words.now) (sym c.start-position.ensures.1), refl)
 
 pub returns-in_default : goal.returns-in_default
 returns-in_default c =
-    let b₀ : List ℕ =
-    c.args.table.now
-    in
-    let w₀ : List ℕ =
-    c.args.words.now
-    in
-    let fed₀ : Fed (inputs ((c.args.table.now))) (framesOf ((c.args.table.now))) ((c.args.words.now)) =
-    c.requires.fed
-    in
-    let turn : (c.loop-t.t < length ((c.args.words.now))) × (c.loop-t.t < length c.loop-t.result) × (c.loop-t.t < framesOf ((c.args.table.now))) =
-    (c.loop-t-test.true, omega (arith, c.loop-t-test.true, ((c.requires.fed)).as_many, c.requires.table_in_bounds, c.loop-t.invariant.1), omega (arith, c.loop-t-test.true, ((c.requires.fed)).as_many))
-    in
-    let moves₂ : step_figures c.step-answer.result ≡ moved (b₀ (s₁ c)) c.loop-t.t c.loop-t.position.state (get_or (w₀ (s₁ c)) c.loop-t.t 0) =
-    let w = get_or ((c.args.words.now)) c.loop-t.t 0 in
-    c.step-answer.ensures.answer ∙ ap (λ (t : ℕ). stepped ((c.args.table.now)) t c.loop-t.position.state w) c.loop-t.invariant.2
-    ∙ moves ((c.args.table.now)) 0 c.requires.table_value c.loop-t.t c.loop-t.position.state w (turn).2 c.loop-t.invariant.3 (((c.requires.fed)).below c.loop-t.t (turn).2)
-    in
-    absurd (not_refused _ _ _ _ c.step-answer.result (moves₂) c.in_default.field-0 _ c.in_default.is)
-    -- TODO fields ['verdict', 'outputs']
-
--- TODO no new goal for overflow-mul-result
--- mul-result c =
---     let b₀ : List ℕ =
---         c.args.table.now
---     in
---     let w₀ : List ℕ =
---         c.args.words.now
---     in
---     let fed₀ : Fed (inputs ((c.args.table.now))) (framesOf ((c.args.table.now))) ((c.args.words.now)) =
---         c.requires.fed
---     in
---     let turn : (c.loop-t.t < length ((c.args.words.now))) × (c.loop-t.t < length c.loop-t.result) × (c.loop-t.t < framesOf ((c.args.table.now))) =
---         (c.loop-t-test.true, omega (arith, c.loop-t-test.true, ((c.requires.fed)).as_many, c.requires.table_in_bounds, c.loop-t.invariant.1), omega (arith, c.loop-t-test.true, ((c.requires.fed)).as_many))
---     in
--- omega (arith, turn)
-
--- TODO no new goal for slice-write-result
--- slice-write-result c =
---     let b₀ : List ℕ =
---         c.args.table.now
---     in
---     let w₀ : List ℕ =
---         c.args.words.now
---     in
---     let fed₀ : Fed (inputs ((c.args.table.now))) (framesOf ((c.args.table.now))) ((c.args.words.now)) =
---         c.requires.fed
---     in
---     let turn : (c.loop-t.t < length ((c.args.words.now))) × (c.loop-t.t < length c.loop-t.result) × (c.loop-t.t < framesOf ((c.args.table.now))) =
---         (c.loop-t-test.true, omega (arith, c.loop-t-test.true, ((c.requires.fed)).as_many, c.requires.table_in_bounds, c.loop-t.invariant.1), omega (arith, c.loop-t-test.true, ((c.requires.fed)).as_many))
---     in
--- (turn).1
-
-pub overflow_step-t : goal.overflow_step-t
-overflow_step-t c =
-    let b₀ : List ℕ =
-    c.args.table.now
-    in
-    let w₀ : List ℕ =
-    c.args.words.now
-    in
-    let fed₀ : Fed (inputs ((c.args.table.now))) (framesOf ((c.args.table.now))) ((c.args.words.now)) =
-    c.requires.fed
-    in
-    let turn : (c.loop-t.t < length ((c.args.words.now))) × (c.loop-t.t < length c.loop-t.result) × (c.loop-t.t < framesOf ((c.args.table.now))) =
-    (c.loop-t-test.true, omega (arith, c.loop-t-test.true, ((c.requires.fed)).as_many, c.requires.table_in_bounds, c.loop-t.invariant.1), omega (arith, c.loop-t-test.true, ((c.requires.fed)).as_many))
-    in
-    omega (arith, turn)
-
-pub loop-t-smaller : goal.loop-t-smaller
-loop-t-smaller c =
-    omega (arith, c.loop-t-test.taken)
+    absurd (not_refused _ _ _ _ c.step-answer.result (step_moves c.args.table.now c.args.words.now c.requires.table_value c.requires.fed c.loop-t.t c.loop-t-test.true c.loop-t.position.layer c.loop-t.position.state c.step-answer.result c.step-answer.ensures.answer c.loop-t.invariant.2 c.loop-t.invariant.3) c.in_default.field-0 _ c.in_default.is)
 
 pub loop-t-preserved : goal.loop-t-preserved
 loop-t-preserved c =
-    let b₀ : List ℕ =
-    c.args.table.now
-    in
-    let w₀ : List ℕ =
-    c.args.words.now
-    in
-    let sound₀ : Sound ((c.args.table.now)) =
-    sound ((c.args.table.now)) 0 c.requires.table_value
-    in
-    let fed₀ : Fed (inputs ((c.args.table.now))) (framesOf ((c.args.table.now))) ((c.args.words.now)) =
-    c.requires.fed
-    in
-    let turn : (c.loop-t.t < length ((c.args.words.now))) × (c.loop-t.t < length c.loop-t.result) × (c.loop-t.t < framesOf ((c.args.table.now))) =
-    (c.loop-t-test.true, omega (arith, c.loop-t-test.true, ((c.requires.fed)).as_many, c.requires.table_in_bounds, c.loop-t.invariant.1), omega (arith, c.loop-t-test.true, ((c.requires.fed)).as_many))
-    in
-    let moves₂ : step_figures c.step-answer.result ≡ moved (b₀ (s₁ c)) c.loop-t.t c.loop-t.position.state (get_or (w₀ (s₁ c)) c.loop-t.t 0) =
-    let w = get_or ((c.args.words.now)) c.loop-t.t 0 in
-    c.step-answer.ensures.answer ∙ ap (λ (t : ℕ). stepped ((c.args.table.now)) t c.loop-t.position.state w) c.loop-t.invariant.2
-    ∙ moves ((c.args.table.now)) 0 c.requires.table_value c.loop-t.t c.loop-t.position.state w (turn).2 c.loop-t.invariant.3 (((c.requires.fed)).below c.loop-t.t (turn).2)
-    in
-    let u = turn in
-    let w = get_or (c.args.words.now) c.loop-t.t 0 in
-    let m = moved_is (c.args.table.now) c.loop-t.t c.loop-t.position.state w c.step-answer.result (moves₂) c.in-Moved.output c.in-Moved.next c.in-Moved.is in
+    let f : c.loop-t.t < framesOf c.args.table.now = frame_in c.args.table.now c.args.words.now c.requires.table_value c.requires.fed c.loop-t.t c.loop-t-test.true in
+    let room : c.loop-t.t < length c.loop-t.res = omega (arith, f, c.requires.table_in_bounds, c.loop-t.invariant.1) in
+    let w = get_or c.args.words.now c.loop-t.t 0 in
+    let m = moved_is c.args.table.now c.loop-t.t c.loop-t.position.state w c.step-answer.result (step_moves c.args.table.now c.args.words.now c.requires.table_value c.requires.fed c.loop-t.t c.loop-t-test.true c.loop-t.position.layer c.loop-t.position.state c.step-answer.result c.step-answer.ensures.answer c.loop-t.invariant.2 c.loop-t.invariant.3) c.in-Moved.output c.in-Moved.next c.in-Moved.is in
     let o = bit_and c.in-Moved.output c.args.mask in
-    let n : c.in-Moved.next.state < states (c.args.table.now) (suc c.loop-t.t) = omega (arith, m.2, (sound₀).legal.next_is c.loop-t.t c.loop-t.position.state w u.2 c.loop-t.invariant.3 ((c.requires.fed).below c.loop-t.t u.2)) in (
-      omega (arith, c.loop-t-test.taken),
+    let n : c.in-Moved.next.state < states c.args.table.now (suc c.loop-t.t) = omega (arith, m.2, (sound c.args.table.now 0 c.requires.table_value).legal.next_is c.loop-t.t c.loop-t.position.state w f c.loop-t.invariant.3 (c.requires.fed.below c.loop-t.t f)) in (
+      omega (arith, c.loop-t-test.true),
       simp length-set c.loop-t.invariant.1,
       m.1 ∙ sym (add-one c.loop-t.t),
       rw add-one n,
-      feed-more (seen (c.args.table.now) c.args.mask) (c.args.words.now) c.loop-t.res c.loop-t.t c.loop-t.position.state o c.in-Moved.next.state u.0 u.1 (ap (λ (x : ℕ). bit_and x c.args.mask) m.0) m.2 c.loop-t.invariant.4,
+      feed-more (seen c.args.table.now c.args.mask) c.args.words.now c.loop-t.res c.loop-t.t c.loop-t.position.state o c.in-Moved.next.state c.loop-t-test.true room (ap (λ (x : ℕ). bit_and x c.args.mask) m.0) m.2 c.loop-t.invariant.4,
       drop_more c.loop-t.res c.args.res.now c.loop-t.t o c.loop-t.invariant.5,
     )
 

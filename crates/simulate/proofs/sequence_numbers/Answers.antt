@@ -29,12 +29,8 @@ offset_bounds-words-at c =
     in
     omega (arith, ends)
 
--- TODO no new goal for slice-bounds-sequence-number-end
--- part-sequence-number-end c =
---     let ends : c.loop-k.at + c.args.frames ≤ length c.args.words.now =
---         omega (arith, ends_before c.args.frames c.loop-k.k c.args.count c.loop-k-test.true, c.requires.fed.as_many, c.loop-k.invariant.2)
---     in
--- ends
+pub slice_bounds-sequence_number-end : goal.slice_bounds-sequence_number-end
+slice_bounds-sequence_number-end c = omega (arith, ends_before c.args.frames c.loop-k.k c.args.count c.loop-k-test.true, c.requires.fed.as_many, c.loop-k.invariant.2)
 
 pub sequence_number-requires : goal.sequence_number-requires
 sequence_number-requires c =
@@ -52,14 +48,6 @@ pub bounds-numbers-k : goal.bounds-numbers-k
 bounds-numbers-k c =
     omega (arith, c, c.requires)
 
-pub overflow_step-k : goal.overflow_step-k
-overflow_step-k c =
-    omega (arith, c, c.requires)
-
-pub loop-k-smaller : goal.loop-k-smaller
-loop-k-smaller c =
-    omega (arith, c)
-
 pub loop-k-preserved : goal.loop-k-preserved
 loop-k-preserved c = (
   omega (arith, c),
@@ -70,5 +58,5 @@ loop-k-preserved c = (
 )
 
 pub returns : goal.returns
-returns c =
+returns c k h =
     c.loop-k.invariant.3 k (omega arith)

@@ -13,28 +13,28 @@ use Rattle.simulate.proofs.simulate.Goals as goal
 
 pub returns-in_default : goal.returns-in_default
 returns-in_default c =
-    refused_circuit _ _ _ _ c.check-judged.result c.check-judged.ensures.verdict c.in_default.field-0 c.in_default.is
-    -- TODO fields ['verdict', 'res', 'alone']
+    let o = refused_circuit c.args.circuit.now c.args.count c.args.words.now c.args.res.now c.check-judged.result c.check-judged.ensures.verdict c.in_default.field-0 c.in_default.is in
+    record { verdict = o.0; res = o.1.0; alone = o.1.1 }
 
 pub read-head-requires : goal.read-head-requires
 read-head-requires c =
     let known : Accepted c.args.circuit.now =
     accepted _ c.in-Accepted.field-0 (accepts c.check-judged.result _ c.in-Accepted.field-0 c.check-judged.ensures.verdict c.in-Accepted.is)
     in
-    (known).form.head
+    known.form.head
 
 pub check_sequences-fed-requires : goal.check_sequences-fed-requires
 check_sequences-fed-requires c =
     let known : Accepted c.args.circuit.now =
     accepted _ c.in-Accepted.field-0 (accepts c.check-judged.result _ c.in-Accepted.field-0 c.check-judged.ensures.verdict c.in-Accepted.is)
     in
-    omega (arith, (known).form.sizes, c.read-head.ensures)
+    omega (arith, known.form.sizes, c.read-head.ensures)
 
 pub returns-in_default-fed : goal.returns-in_default-fed
 returns-in_default-fed c =
-    refused_sequences _ _ _ _ c.check-judged.result c.check-judged.ensures.verdict c.in-Accepted.field-0 c.in-Accepted.is c.read-head.result c.read-head.ensures
-    c.check_sequences-fed.result c.check_sequences-fed.ensures c.in_default-fed.field-0 c.in_default-fed.is
-    -- TODO fields ['verdict', 'res', 'alone']
+    let o = refused_sequences c.args.circuit.now c.args.count c.args.words.now c.args.res.now c.check-judged.result c.check-judged.ensures.verdict c.in-Accepted.field-0 c.in-Accepted.is c.read-head.result c.read-head.ensures
+    c.check_sequences-fed.result c.check_sequences-fed.ensures c.in_default-fed.field-0 c.in_default-fed.is in
+    record { verdict = o.0; res = o.1.0; alone = o.1.1 }
 
 pub write_outputs-requires : goal.write_outputs-requires
 write_outputs-requires c =
@@ -48,13 +48,13 @@ write_outputs-requires c =
     in
     let f = fed₁ in
     record {
-      well_formed = well_formed (known).form c.read-head.ensures;
+      well_formed = well_formed known.form c.read-head.ensures;
       count_le_most_sequences = (f.few, f.roomy);
       fed = f.all_words;
     }
 
 pub returns : goal.returns
 returns c =
-    accepted_all _ _ _ _ c.check-judged.result c.check-judged.ensures.verdict c.in-Accepted.field-0 c.in-Accepted.is c.read-head.result c.read-head.ensures
-    c.check_sequences-fed.result c.check_sequences-fed.ensures c.in-Accepted-fed.field-0 c.in-Accepted-fed.is _ c.write_outputs.ensures
-    -- TODO fields ['verdict', 'res', 'alone']
+    let o = accepted_all c.args.circuit.now c.args.count c.args.words.now c.args.res.now c.check-judged.result c.check-judged.ensures.verdict c.in-Accepted.field-0 c.in-Accepted.is c.read-head.result c.read-head.ensures
+    c.check_sequences-fed.result c.check_sequences-fed.ensures c.in-Accepted-fed.field-0 c.in-Accepted-fed.is c.write_outputs.new.res c.write_outputs.ensures in
+    record { verdict = o.0; res = o.1.0; alone = o.1.1 }

@@ -20,40 +20,46 @@ use Rattle.simulate.proofs.write_outputs.Goals as goal
 pub sequence_numbers-sequences-requires : goal.sequence_numbers-sequences-requires
 sequence_numbers-sequences-requires c =
     let inputs-to : c.args.head.inputs * c.args.head.frames ≤ most_bits =
-        rw (c.requires.well_formed.head_is.inputs_is, c.requires.well_formed.head_is.frames_is) c.requires.well_formed.headed.sizes.bits-to
+    rw (c.requires.well_formed.head_is.inputs_is, c.requires.well_formed.head_is.frames_is) c.requires.well_formed.headed.sizes.bits-to
     in
     record {
-        inputs_le_most_bits = (omega (arith, c.requires), inputs-to, omega (arith, c.requires), omega (arith, c.requires));
-        fed = fed_by c.args.circuit.now c.args.head c.requires.well_formed.headed c.requires.well_formed.head_is c.args.count c.args.words.now c.requires.fed;
+      inputs_le_most_bits = (omega (arith, c.requires), inputs-to, omega (arith, c.requires), omega (arith, c.requires));
+      fed = fed_by c.args.circuit.now c.args.head c.requires.well_formed.headed c.requires.well_formed.head_is c.args.count c.args.words.now c.requires.fed;
     }
 
 pub slice_bounds-sequences-end : goal.slice_bounds-sequences-end
 slice_bounds-sequences-end c =
     let numbers_length : length c.sequence_numbers-sequences.result ≡ most_sequences =
-        search rules
+    search rules
     in
     omega (arith, numbers_length, c.requires)
 
 pub slice_bounds-gather-end : goal.slice_bounds-gather-end
 slice_bounds-gather-end c =
+    let numbers_length : length c.sequence_numbers-sequences.result ≡ most_sequences =
+    search rules
+    in
     let gathered : c.args.count ≡ length (take c.args.count c.sequence_numbers-sequences.result) =
-        sym (length-take-le _ _ (array-share-prefix-sequences c))
+    sym (length-take-le _ _ (omega (arith, numbers_length, c.requires)))
     in
     gathered
 
 pub gather-numbers-requires : goal.gather-numbers-requires
 gather-numbers-requires c =
+    let numbers_length : length c.sequence_numbers-sequences.result ≡ most_sequences =
+    search rules
+    in
     let gathered : c.args.count ≡ length (take c.args.count c.sequence_numbers-sequences.result) =
-        sym (length-take-le _ _ (array-share-prefix-sequences c))
+    sym (length-take-le _ _ (omega (arith, numbers_length, c.requires)))
     in
     omega (arith, gathered, c.requires)
 
 pub store_signals-requires : goal.store_signals-requires
 store_signals-requires c =
     record {
-        well_formed = c.requires.well_formed;
-        t_bound = (omega (arith, c.requires), search rules, search rules, search rules);
-        first_uses = (uses_none c.args.circuit.now (1 + most_bits) 0, room_ready c.args.circuit.now _ c.room-lanes.ensures);
+      well_formed = c.requires.well_formed;
+      t_bound = (omega (arith, c.requires), search rules, search rules, search rules);
+      first_uses = (uses_none c.args.circuit.now (1 + most_bits) 0, room_ready c.args.circuit.now _ c.room-lanes.ensures);
     }
 
 pub loop-k-init : goal.loop-k-init
@@ -63,96 +69,75 @@ loop-k-init c =
 pub overflow_mul-at : goal.overflow_mul-at
 overflow_mul-at c =
     let small : c.loop-k.k * c.args.head.frames + c.args.head.frames ≤ 512 =
-        ends_small c.args.head.frames c.loop-k.k c.args.count c.loop-k-test.true c.requires.count_le_most_sequences.0 (omega (arith, c.requires))
+    ends_small c.args.head.frames c.loop-k.k c.args.count c.loop-k-test.true c.requires.count_le_most_sequences.0 (omega (arith, c.requires))
     in
     omega (arith, small)
 
 pub overflow_add-end : goal.overflow_add-end
 overflow_add-end c =
     let small : c.loop-k.k * c.args.head.frames + c.args.head.frames ≤ 512 =
-        ends_small c.args.head.frames c.loop-k.k c.args.count c.loop-k-test.true c.requires.count_le_most_sequences.0 (omega (arith, c.requires))
+    ends_small c.args.head.frames c.loop-k.k c.args.count c.loop-k-test.true c.requires.count_le_most_sequences.0 (omega (arith, c.requires))
     in
     omega (arith, small)
 
 pub slice_bounds-pack_frames-end : goal.slice_bounds-pack_frames-end
 slice_bounds-pack_frames-end c =
-    let lanes-length : length c.store_signals.new.1.1.1.1.1.0 ≡ most_signals =
-        c.store_signals.auto.1.1.1.1.1.0 ∙ room-length c
-  where
-    room-length : (c : tie.After-room invariant-loop decreases-loop) → length c.room-lanes.result ≡ most_signals
-    room-length c = search rules
+    let room-length : length c.room-lanes.result ≡ most_signals =
+    search rules
     in
-    sym (lanes-length)
+    let lanes-length : length c.store_signals.new.lanes ≡ most_signals =
+    c.store_signals.auto.lanes ∙ room-length
+    in
+    sym lanes-length
 
 pub offset_bounds-res-at : goal.offset_bounds-res-at
 offset_bounds-res-at c =
     let small : c.loop-k.k * c.args.head.frames + c.args.head.frames ≤ 512 =
-        ends_small c.args.head.frames c.loop-k.k c.args.count c.loop-k-test.true c.requires.count_le_most_sequences.0 (omega (arith, c.requires))
+    ends_small c.args.head.frames c.loop-k.k c.args.count c.loop-k-test.true c.requires.count_le_most_sequences.0 (omega (arith, c.requires))
     in
     omega (arith, small)
 
--- TODO no new goal for slice-bounds-pack-frames-end
--- part-pack-frames-end c =
---     let b₀ : List ℕ =
---         c.args.circuit.now
---     in
---     let kept_length : length c.loop-k.result ≡ length c.args.res.now =
---         ap length c.loop-k.invariant.1 ∙ outputs-length ((c.args.circuit.now)) c.args.words.now c.args.res.now c.loop-k.k (omega (arith, c.requires, ends_before (framesOf ((c.args.circuit.now))) c.loop-k.k c.args.count c.loop-k-test.true))
---     in
---     let ends : c.loop-k.k * c.args.head.frames + c.args.head.frames ≤ length c.loop-k.result =
---         rw c.requires.well_formed.head_is.frames_is (omega (arith, kept_length, c.requires, ends_before (framesOf ((c.args.circuit.now))) c.loop-k.k c.args.count c.loop-k-test.true))
---     in
--- ends
+pub slice_bounds-pack_frames-end-in-loop-k : goal.slice_bounds-pack_frames-end-in-loop-k
+slice_bounds-pack_frames-end-in-loop-k c =
+    let kept_length : length c.loop-k.res ≡ length c.args.res.now =
+    ap length c.loop-k.invariant.1 ∙ outputs-length c.args.circuit.now c.args.words.now c.args.res.now c.loop-k.k (omega (arith, c.requires, ends_before (framesOf c.args.circuit.now) c.loop-k.k c.args.count c.loop-k-test.true))
+    in
+    rw c.requires.well_formed.head_is.frames_is (omega (arith, kept_length, c.requires, ends_before (framesOf c.args.circuit.now) c.loop-k.k c.args.count c.loop-k-test.true))
 
 pub pack_frames-requires : goal.pack_frames-requires
 pack_frames-requires c =
-    let b₀ : List ℕ =
-        c.args.circuit.now
+    let kept_length : length c.loop-k.res ≡ length c.args.res.now =
+    ap length c.loop-k.invariant.1 ∙ outputs-length c.args.circuit.now c.args.words.now c.args.res.now c.loop-k.k (omega (arith, c.requires, ends_before (framesOf c.args.circuit.now) c.loop-k.k c.args.count c.loop-k-test.true))
     in
-    let kept_length : length c.loop-k.result ≡ length c.args.res.now =
-        ap length c.loop-k.invariant.1 ∙ outputs-length ((c.args.circuit.now)) c.args.words.now c.args.res.now c.loop-k.k (omega (arith, c.requires, ends_before (framesOf ((c.args.circuit.now))) c.loop-k.k c.args.count c.loop-k-test.true))
+    let ends : c.loop-k.k * c.args.head.frames + c.args.head.frames ≤ length c.loop-k.res =
+    rw c.requires.well_formed.head_is.frames_is (omega (arith, kept_length, c.requires, ends_before (framesOf c.args.circuit.now) c.loop-k.k c.args.count c.loop-k-test.true))
     in
-    let ends : c.loop-k.k * c.args.head.frames + c.args.head.frames ≤ length c.loop-k.result =
-        rw c.requires.well_formed.head_is.frames_is (omega (arith, kept_length, c.requires, ends_before (framesOf ((c.args.circuit.now))) c.loop-k.k c.args.count c.loop-k-test.true))
+    let room-length : length c.room-lanes.result ≡ most_signals =
+    search rules
     in
-    let lanes-length : length c.store_signals.new.1.1.1.1.1.0 ≡ most_signals =
-        c.store_signals.auto.1.1.1.1.1.0 ∙ room-length c
-  where
-    room-length : (c : tie.After-room invariant-loop decreases-loop) → length c.room-lanes.result ≡ most_signals
-    room-length c = search rules
+    let lanes-length : length c.store_signals.new.lanes ≡ most_signals =
+    c.store_signals.auto.lanes ∙ room-length
     in
-    let fit = all_fit (c.args.circuit.now) c.args.head c.requires.well_formed.headed c.requires.well_formed.head_is _ (part_length c.args.head.frames c.loop-k.k c.loop-k.result (ends) ∙ c.requires.well_formed.head_is.frames_is) in
+    let fit = all_fit c.args.circuit.now c.args.head c.requires.well_formed.headed c.requires.well_formed.head_is _ (part_length c.args.head.frames c.loop-k.k c.loop-k.res ends ∙ c.requires.well_formed.head_is.frames_is) in
     record {
-        count_le_most_outputs = (omega (arith, c.requires), omega (arith, c, c.requires));
-        words_in_bounds = omega (arith, fit, lanes-length);
+      count_le_most_outputs = (omega (arith, c.requires), omega (arith, c, c.requires));
+      words_in_bounds = omega (arith, fit, lanes-length);
     }
-
-pub overflow_step-k : goal.overflow_step-k
-overflow_step-k c =
-    omega (arith, c, c.requires)
-
-pub loop-k-smaller : goal.loop-k-smaller
-loop-k-smaller c =
-    omega (arith, c)
 
 pub loop-k-preserved : goal.loop-k-preserved
 loop-k-preserved c =
-    let b₀ : List ℕ =
-        c.args.circuit.now
+    let kept_length : length c.loop-k.res ≡ length c.args.res.now =
+    ap length c.loop-k.invariant.1 ∙ outputs-length c.args.circuit.now c.args.words.now c.args.res.now c.loop-k.k (omega (arith, c.requires, ends_before (framesOf c.args.circuit.now) c.loop-k.k c.args.count c.loop-k-test.true))
     in
-    let kept_length : length c.loop-k.result ≡ length c.args.res.now =
-        ap length c.loop-k.invariant.1 ∙ outputs-length ((c.args.circuit.now)) c.args.words.now c.args.res.now c.loop-k.k (omega (arith, c.requires, ends_before (framesOf ((c.args.circuit.now))) c.loop-k.k c.args.count c.loop-k-test.true))
-    in
-    let ends : c.loop-k.k * c.args.head.frames + c.args.head.frames ≤ length c.loop-k.result =
-        rw c.requires.well_formed.head_is.frames_is (omega (arith, kept_length, c.requires, ends_before (framesOf ((c.args.circuit.now))) c.loop-k.k c.args.count c.loop-k-test.true))
-    in
-    (
+    let ends : c.loop-k.k * c.args.head.frames + c.args.head.frames ≤ length c.loop-k.res =
+    rw c.requires.well_formed.head_is.frames_is (omega (arith, kept_length, c.requires, ends_before (framesOf c.args.circuit.now) c.loop-k.k c.args.count c.loop-k-test.true))
+    in (
       omega (arith, c),
-      outputs-more (c.args.circuit.now) c.args.words.now c.loop-k.res c.args.res.now c.pack_frames.new.1.1.1.1.0 c.loop-k.k c.args.head.frames _ _
+      outputs-more c.args.circuit.now c.args.words.now c.loop-k.res c.args.res.now c.pack_frames.new.words c.loop-k.k c.args.head.frames _ _
           c.requires.well_formed.head_is.frames_is refl refl c.loop-k.invariant.1
-          (outputs-at (c.args.circuit.now) c.args.head c.requires.well_formed.headed c.requires.well_formed.head_is c.args.count c.args.words.now c.store_signals.new.1.1.1.1.1.0 _
+          (outputs-at c.args.circuit.now c.args.head c.requires.well_formed.headed c.requires.well_formed.head_is c.args.count c.args.words.now c.store_signals.new.lanes _
           (λ j. get_or (take c.args.count c.sequence_numbers-sequences.result) j 0) c.loop-k.k _ (omega (arith, c.requires)) c.loop-k-test.true
-          (part_length c.args.head.frames c.loop-k.k c.loop-k.res (ends)) c.requires.fed (get_or-take c.args.count _ c.loop-k.k 0 c.loop-k-test.true ∙ c.sequence_numbers-sequences.ensures c.loop-k.k c.loop-k-test.true)
+          (part_length c.args.head.frames c.loop-k.k c.loop-k.res ends) c.requires.fed (get_or-take c.args.count _ c.loop-k.k 0 c.loop-k-test.true ∙ c.sequence_numbers-sequences.ensures c.loop-k.k c.loop-k-test.true)
           (c.store_signals.ensures.signals _ c.gather-numbers.ensures) c.pack_frames.ensures),
     )
 

@@ -1,12 +1,12 @@
 -- `trial::follow` meets its contract.
 -- Assumes nothing.
 use mathlib.Core.Path.{◌≡◌, refl}
-use mathlib.Core.Logic.{⊎_elim}
 use Prim.Native.Nat.{ℕ, ◌+◌, ◌*◌, ◌-◌, ◌/◌, ◌^◌, ◌≤◌, ◌<◌}
 use native.Mathlib.Nat.{div-le_self}
 use native.Mathlib.Omega.{arith}
 use Rattle.trial.proofs.Following.{Along, Turn, shift_small, along_start, along_next, along_end, turn}
 use Rattle.trial.proofs.follow.Goals as goal
+use Rattle.trial.proofs.follow.Goals.{then-used-entry, else-used-entry}
 
 pub overflow_mul-shift : goal.overflow_mul-shift
 overflow_mul-shift c =
@@ -212,13 +212,13 @@ loop-i-preserved c =
     turn _ _ _ c.args.chosen.now c.requires.held c.requires.candidate c.args.t c.args.h c.requires.t_le_frames.0 c.requires.t_le_frames.1 _ _ _ _ _ _ c.loop-i.invariant (omega arith)
     in
     let u : (c.loop-i.used ≤ c.if-used-entry.used) × (((c.loop-i.state * c.args.sought.words + ((c.args.h / 2 ^ (c.loop-i.shift - c.args.sought.inputs)) - c.loop-i.before * c.args.sought.words)) < c.if-used-entry.used) × (c.if-used-entry.used ≤ c.args.sought.entries)) =
-    ⊎_elim
-    (λ w. let e : c.if-used-entry.used ≡ (c.loop-i.state * c.args.sought.words + ((c.args.h / 2 ^ (c.loop-i.shift - c.args.sought.inputs)) - c.loop-i.before * c.args.sought.words)) + 1 = w.1 in (omega (arith, w.0.taken), (omega arith, omega (arith, facts))))
-    (λ w. let e : c.if-used-entry.used ≡ c.loop-i.used = w.1 in (omega arith, (omega (arith, w.0.left), omega (arith, c.loop-i.invariant.used_in))))
-    c.if-used-entry.branch in
+    elim c.if-used-entry.branch [
+      | then-used-entry w ↦ let e : c.if-used-entry.used ≡ (c.loop-i.state * c.args.sought.words + ((c.args.h / 2 ^ (c.loop-i.shift - c.args.sought.inputs)) - c.loop-i.before * c.args.sought.words)) + 1 = w.used-is in (omega (arith, w.if-used-entry.true), (omega arith, omega (arith, facts)))
+      | else-used-entry w ↦ let e : c.if-used-entry.used ≡ c.loop-i.used = w.used-is in (omega arith, (omega (arith, w.if-used-entry.false), omega (arith, c.loop-i.invariant.used_in)))
+    ] in
     along_next _ _ _ _ c.requires.held c.requires.candidate c.args.t c.args.h c.requires.t_le_frames.0 c.requires.t_le_frames.1 _ _ _ _ _ _ c.loop-i.invariant (omega arith) _ _ refl refl _ _ _ _ refl c.read-target.ensures.0 refl u.0 u.1.0 u.1.1
 
 pub returns : goal.returns
 returns c =
-    along_end _ _ _ _ c.requires.held c.requires.candidate c.args.t c.args.h c.requires.t_le_frames.0 c.requires.t_le_frames.1 _ _ _ _ _ _ c.loop-i.invariant (omega arith) _ refl
-    -- TODO fields ['leads', 'bounds']
+    let e = along_end _ _ _ _ c.requires.held c.requires.candidate c.args.t c.args.h c.requires.t_le_frames.0 c.requires.t_le_frames.1 _ _ _ _ _ _ c.loop-i.invariant (omega arith) _ refl in
+    record { leads = e.0; bounds = e.1 }

@@ -20,8 +20,8 @@ walk-spot-requires c =
 
 pub returns-then-sought-spot : goal.returns-then-sought-spot
 returns-then-sought-spot c =
-    let long : length c.walk-spot.new.1.1.1.1.0 ≡ 12 =
-    c.walk-spot.auto.1.1.1.1.0 ∙ ap length c.nothing-ones.ensures ∙ length-replicate {A = ℕ} 12 0
+    let long : length c.walk-spot.new.ones ≡ 12 =
+    c.walk-spot.auto.ones ∙ ap length c.nothing-ones.ensures ∙ length-replicate {A = ℕ} 12 0
     in
     record {
       judged = judged _ _ _ c.args.chosen.now c.requires.held c.requires.candidate _ _ _ c.walk-spot.ensures (λ l. omega arith);
@@ -30,8 +30,8 @@ returns-then-sought-spot c =
 
 pub returns-else-sought-spot : goal.returns-else-sought-spot
 returns-else-sought-spot c =
-    let long : length c.walk-spot.new.1.1.1.1.0 ≡ 12 =
-    c.walk-spot.auto.1.1.1.1.0 ∙ ap length c.nothing-ones.ensures ∙ length-replicate {A = ℕ} 12 0
+    let long : length c.walk-spot.new.ones ≡ 12 =
+    c.walk-spot.auto.ones ∙ ap length c.nothing-ones.ensures ∙ length-replicate {A = ℕ} 12 0
     in
     record {
       judged = refuted (le_refl _) (walk_clashed _ _ _ _ _ _ c.walk-spot.ensures (omega arith));

@@ -47,8 +47,8 @@ loop-t-preserved c =
       omega arith,
       rw (add-one c.loop-t.t) (counted),
       rw (add-one c.loop-t.t) (gathered _ _ _ _ _ _ _ _ c.collect-h.ensures (λ k. absurd (omega arith))),
-      c.collect-h.auto.1.1.1.1.1.1.0 ∙ c.loop-t.invariant.3,
-      c.collect-h.auto.1.1.1.1.1.1.1.0 ∙ c.loop-t.invariant.4,
+      c.collect-h.auto.ones ∙ c.loop-t.invariant.3,
+      c.collect-h.auto.zeros ∙ c.loop-t.invariant.4,
     )
 
 pub returns : goal.returns

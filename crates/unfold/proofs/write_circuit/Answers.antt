@@ -56,9 +56,9 @@ draw-requires c =
     rw c.requires.layout_value.1 c.requires.sound.headed.sized
     in
     let r₁ : List ℕ =
-    c.store_all.new.1.1.0
+    c.store_all.new.bytes
     in
-    let length₁ : length ((c.store_all.new.1.1.0)) ≡ length c.args.res.now =
+    let length₁ : length ((c.store_all.new.bytes)) ≡ length c.args.res.now =
     ap length c.store_all.ensures ∙ stored-length 2 _ 0 _ (omega (arith, c.requires.gates_le_most_gates.1))
     in
     let z = sized in record {
@@ -82,5 +82,5 @@ pub returns : goal.returns
 unfolding gates_needed
 returns c =
     let b = (c.args.table.now) in
-    circuit-stored (inputs b) (outputs b) (frames b) c.args.gates (drawn b) c.args.res.now (c.store_all.new.1.1.0) _
+    circuit-stored (inputs b) (outputs b) (frames b) c.args.gates (drawn b) c.args.res.now (c.store_all.new.bytes) _
     (c.store_all.ensures ∙ (λ i. stored 2 c.args.res.now 0 ((c.requires.layout_value.1 i).inputs ∷ (c.requires.layout_value.1 i).outputs ∷ (c.requires.layout_value.1 i).frames ∷ c.args.gates ∷ []))) c.requires.layout_value.2 c.draw.ensures c.requires.gates_le_most_gates.1

@@ -4,14 +4,14 @@ use mathlib.Core.Path.{◌≡◌, sym, ap, ap₂, ◌∙◌}
 use mathlib.Core.List.{List}
 use Prim.Native.Nat.{ℕ, ◌^◌, ◌≤◌}
 use native.Mathlib.Omega.{arith}
-use borrow.Author.Rules.{rules}
 use lib.Dec.{leb}
 use lib.ListN.{length}
 use Rattle.verdict.specs.Judgements.{answer, figures, refuse, and_then}
 use Rattle.verdict.specs.declared.Figures.{Figures}
+use Rattle.verdict.specs.declared.Verdict.{Verdict}
 use Rattle.verdict.proofs.Laws.{stop, go_on, accepts, both_accept}
 use Rattle.sizes.specs.Sizes.{inputs, outputs, frames as framesOf, sequence_checked}
-use Rattle.sizes.specs.Sized.{Fed}
+use Rattle.sizes.specs.Sized.{Fed, sizes_of}
 use Rattle.sizes.specs.declared.Sizes.{Sizes}
 use Rattle.sizes.proofs.Laws.{fed}
 use Rattle.table.specs.Table.{checked}
@@ -22,169 +22,79 @@ use Rattle.view.specs.View.{mask_checked, viewed}
 use Rattle.view.proofs.Views.{view_kept, view_left, view_shows, view_hides, views_alike}
 use Rattle.view.proofs.view.Goals as goal
 
+-- what is judged behind the table: the mask, then the words and the room
+abbrev rest : (b : List ℕ) (mask : ℕ) (words : List ℕ) (room : ℕ) → Figures
+rest b mask words room = and_then (mask_checked (outputs b) mask) (sequence_checked (inputs b) (framesOf b) words room)
+
+module _ (b : List ℕ) (mask : ℕ) (words : List ℕ) (room : ℕ) where
+  -- by the sizes that are read it is what the code judges
+  rest_is : (s : Sizes) → s ≡ sizes_of b → (limit : ℕ) → limit ≡ 2 ^ s.outputs → (narrow fed seen : Verdict) → figures narrow ≡ refuse (leb limit mask) 17 0 (answer 0 0)
+      → figures fed ≡ sequence_checked s.inputs s.frames words room → figures seen ≡ and_then (figures narrow) (figures fed) → figures seen ≡ rest b mask words room
+  unfolding mask_checked
+  rest_is s es limit el narrow fed seen en ef e =
+      e ∙ ap₂ and_then (en ∙ ap (λ (k : ℕ). refuse (leb k mask) 17 0 (answer 0 0)) (el ∙ ap (λ (s : Sizes). 2 ^ s.outputs) es)) (ef ∙ ap (λ (s : Sizes). sequence_checked s.inputs s.frames words room) es)
+
+  -- where it is accepted, the words are fed and have room
+  rest_fed : (p : ℕ) → rest b mask words room ≡ answer 0 p → Fed (inputs b) (framesOf b) words × (framesOf b ≤ room) × (p ≡ framesOf b)
+  rest_fed p e = fed _ _ words room _ (both_accept (mask_checked (outputs b) mask) _ _ e).2
+
 pub returns-in_default : goal.returns-in_default
 unfolding viewed
 returns-in_default c =
     let e = stop c.check-judged.result _ _ c.in_default.field-0 c.check-judged.ensures.verdict c.in_default.is in
     record {
       verdict = e;
-      outputs = view_kept c.args.table.now c.args.mask c.args.words.now c.args.result.now c.check-judged.result c.in_default.field-0 e c.in_default.is;
+      outputs = view_kept c.args.table.now c.args.mask c.args.words.now c.args.res.now c.check-judged.result c.in_default.field-0 e c.in_default.is;
       shows = view_shows _ _ _ _;
       hides = view_hides _ _;
       alike = views_alike _ _;
     }
 
 pub read-sizes-requires : goal.read-sizes-requires
-read-sizes-requires c =
-    let b₁ : List ℕ =
-    c.args.table.now
-    in
-    let checked₁ : checked ((c.args.table.now)) ≡ answer 0 c.in-Accepted.field-0 =
-    accepts c.check-judged.result _ _ c.check-judged.ensures.verdict c.in-Accepted.is
-    in
-    let sound₁ : Sound ((c.args.table.now)) =
-    sound ((c.args.table.now)) _ (checked₁)
-    in
-    omega (arith, (sound₁).headed.whole, arrays_stand (c.args.table.now))
+read-sizes-requires c = omega (arith, (sound c.args.table.now _ (accepts c.check-judged.result _ _ c.check-judged.ensures.verdict c.in-Accepted.is)).headed.whole, arrays_stand c.args.table.now)
 
 pub power-requires : goal.power-requires
-power-requires c =
-    let b₁ : List ℕ =
-    c.args.table.now
-    in
-    let checked₁ : checked ((c.args.table.now)) ≡ answer 0 c.in-Accepted.field-0 =
-    accepts c.check-judged.result _ _ c.check-judged.ensures.verdict c.in-Accepted.is
-    in
-    let sound₁ : Sound ((c.args.table.now)) =
-    sound ((c.args.table.now)) _ (checked₁)
-    in
-    omega (arith, ap (λ (s : Sizes). s.outputs) c.read-sizes.ensures, (sound₁).headed.sized)
+power-requires c = omega (arith, ap (λ (s : Sizes). s.outputs) c.read-sizes.ensures, (sound c.args.table.now _ (accepts c.check-judged.result _ _ c.check-judged.ensures.verdict c.in-Accepted.is)).headed.sized)
 
 pub check_sequence-fed-requires : goal.check_sequence-fed-requires
-check_sequence-fed-requires c =
-    let b₁ : List ℕ =
-    c.args.table.now
-    in
-    let checked₁ : checked ((c.args.table.now)) ≡ answer 0 c.in-Accepted.field-0 =
-    accepts c.check-judged.result _ _ c.check-judged.ensures.verdict c.in-Accepted.is
-    in
-    let sound₁ : Sound ((c.args.table.now)) =
-    sound ((c.args.table.now)) _ (checked₁)
-    in
-    omega (arith, ap (λ (s : Sizes). s.inputs) c.read-sizes.ensures, (sound₁).headed.sized)
+check_sequence-fed-requires c = omega (arith, ap (λ (s : Sizes). s.inputs) c.read-sizes.ensures, (sound c.args.table.now _ (accepts c.check-judged.result _ _ c.check-judged.ensures.verdict c.in-Accepted.is)).headed.sized)
 
 pub returns-in_default-seen : goal.returns-in_default-seen
-unfolding mask_checked viewed
+unfolding viewed
 returns-in_default-seen c =
-    let b₁ : List ℕ =
-    c.args.table.now
+    let e : figures c.and_then-seen.result ≡ viewed c.args.table.now c.args.mask c.args.words.now (length c.args.res.now) =
+    go_on c.check-judged.result _ _ _ c.in-Accepted.field-0 c.check-judged.ensures.verdict c.in-Accepted.is (rest_is c.args.table.now c.args.mask c.args.words.now (length c.args.res.now) c.read-sizes.result c.read-sizes.ensures c.power.result c.power.ensures c.refuse_if-narrow.result c.check_sequence-fed.result c.and_then-seen.result c.refuse_if-narrow.ensures c.check_sequence-fed.ensures c.and_then-seen.ensures)
     in
-    let w₁ : List ℕ =
-    c.args.words.now
-    in
-    let room₁ : ℕ =
-    length c.args.res.now
-    in
-    let rest₂ : Figures =
-    and_then (mask_checked (outputs ((c.args.table.now))) c.args.mask) (sequence_checked (inputs ((c.args.table.now))) (framesOf ((c.args.table.now))) ((c.args.words.now)) ((length c.args.res.now)))
-    in
-    let rest_is : figures c.and_then-seen.result ≡ (and_then (mask_checked (outputs ((c.args.table.now))) c.args.mask) (sequence_checked (inputs ((c.args.table.now))) (framesOf ((c.args.table.now))) ((c.args.words.now)) ((length c.args.res.now)))) =
-    let limit : c.power.result ≡ 2 ^ outputs ((c.args.table.now)) = c.power.ensures ∙ ap (λ (s : Sizes). 2 ^ s.outputs) c.read-sizes.ensures in
-    let narrow : figures c.refuse_if-narrow.result ≡ mask_checked (outputs ((c.args.table.now))) c.args.mask =
-    c.refuse_if-narrow.ensures ∙ ap (λ (k : ℕ). refuse (leb k c.args.mask) 17 0 (answer 0 0)) limit in
-    let fed : figures c.check_sequence-fed.result ≡ sequence_checked (inputs ((c.args.table.now))) (framesOf ((c.args.table.now))) ((c.args.words.now)) ((length c.args.res.now)) =
-    c.check_sequence-fed.ensures ∙ ap (λ (s : Sizes). sequence_checked s.inputs s.frames ((c.args.words.now)) ((length c.args.res.now))) c.read-sizes.ensures in
-    c.and_then-seen.ensures ∙ ap₂ and_then narrow fed
-    in
-    let viewed₂ : figures c.and_then-seen.result ≡ viewed ((c.args.table.now)) (s₁ c).args.mask ((c.args.words.now)) ((length c.args.res.now)) =
-    go_on c.check-judged.result _ _ _ c.in-Accepted.field-0 c.check-judged.ensures.verdict c.in-Accepted.is (rest_is)
-    in
-    let a = (s₁ c).args in
-    let e = viewed₂ in
     record {
       verdict = e;
-      outputs = view_kept a.table.now a.mask a.words.now a.result.now c.and_then-seen.result c.in_default-seen.field-0 e c.in_default-seen.is;
+      outputs = view_kept c.args.table.now c.args.mask c.args.words.now c.args.res.now c.and_then-seen.result c.in_default-seen.field-0 e c.in_default-seen.is;
       shows = view_shows _ _ _ _;
       hides = view_hides _ _;
       alike = views_alike _ _;
     }
 
 pub run_masked-requires : goal.run_masked-requires
-unfolding mask_checked
 run_masked-requires c =
-    let b₁ : List ℕ =
-    c.args.table.now
-    in
-    let w₁ : List ℕ =
-    c.args.words.now
-    in
-    let room₁ : ℕ =
-    length c.args.res.now
-    in
-    let checked₁ : checked ((c.args.table.now)) ≡ answer 0 c.in-Accepted.field-0 =
-    accepts c.check-judged.result _ _ c.check-judged.ensures.verdict c.in-Accepted.is
-    in
-    let rest₂ : Figures =
-    and_then (mask_checked (outputs ((c.args.table.now))) c.args.mask) (sequence_checked (inputs ((c.args.table.now))) (framesOf ((c.args.table.now))) ((c.args.words.now)) ((length c.args.res.now)))
-    in
-    let rest_is : figures c.and_then-seen.result ≡ (and_then (mask_checked (outputs ((c.args.table.now))) c.args.mask) (sequence_checked (inputs ((c.args.table.now))) (framesOf ((c.args.table.now))) ((c.args.words.now)) ((length c.args.res.now)))) =
-    let limit : c.power.result ≡ 2 ^ outputs ((c.args.table.now)) = c.power.ensures ∙ ap (λ (s : Sizes). 2 ^ s.outputs) c.read-sizes.ensures in
-    let narrow : figures c.refuse_if-narrow.result ≡ mask_checked (outputs ((c.args.table.now))) c.args.mask =
-    c.refuse_if-narrow.ensures ∙ ap (λ (k : ℕ). refuse (leb k c.args.mask) 17 0 (answer 0 0)) limit in
-    let fed : figures c.check_sequence-fed.result ≡ sequence_checked (inputs ((c.args.table.now))) (framesOf ((c.args.table.now))) ((c.args.words.now)) ((length c.args.res.now)) =
-    c.check_sequence-fed.ensures ∙ ap (λ (s : Sizes). sequence_checked s.inputs s.frames ((c.args.words.now)) ((length c.args.res.now))) c.read-sizes.ensures in
-    c.and_then-seen.ensures ∙ ap₂ and_then narrow fed
-    in
-    let fed₃ : Fed (inputs ((c.args.table.now))) (framesOf ((c.args.table.now))) ((c.args.words.now)) × (framesOf ((c.args.table.now)) ≤ (length c.args.res.now)) × (c.in-Accepted-seen.field-0 ≡ framesOf ((c.args.table.now))) =
-    let d = c in
-    let e = accepts c.and_then-seen.result (rest₂ d) _ (rest_is) c.in-Accepted-seen.is in
-    fed _ _ (w₁ d) (room₁ d) _ (both_accept (mask_checked (outputs (b₁ d)) (s₁ d).args.mask) _ _ e).2
-    in
-    let f = fed₃ in
-    let d = c in
+    let f = rest_fed c.args.table.now c.args.mask c.args.words.now (length c.args.res.now) c.in-Accepted-seen.field-0 (accepts c.and_then-seen.result _ _ (rest_is c.args.table.now c.args.mask c.args.words.now (length c.args.res.now) c.read-sizes.result c.read-sizes.ensures c.power.result c.power.ensures c.refuse_if-narrow.result c.check_sequence-fed.result c.and_then-seen.result c.refuse_if-narrow.ensures c.check_sequence-fed.ensures c.and_then-seen.ensures) c.in-Accepted-seen.is) in
     record {
-      table_value = accepted_at (b₁ d) _ (checked₁ d);
+      table_value = accepted_at c.args.table.now _ (accepts c.check-judged.result _ _ c.check-judged.ensures.verdict c.in-Accepted.is);
       fed = f.0;
       table_in_bounds = f.1;
     }
 
 pub returns : goal.returns
-unfolding mask_checked viewed
+unfolding viewed
 returns c =
-    let b₁ : List ℕ =
-    c.args.table.now
+    let f = rest_fed c.args.table.now c.args.mask c.args.words.now (length c.args.res.now) c.in-Accepted-seen.field-0 (accepts c.and_then-seen.result _ _ (rest_is c.args.table.now c.args.mask c.args.words.now (length c.args.res.now) c.read-sizes.result c.read-sizes.ensures c.power.result c.power.ensures c.refuse_if-narrow.result c.check_sequence-fed.result c.and_then-seen.result c.refuse_if-narrow.ensures c.check_sequence-fed.ensures c.and_then-seen.ensures) c.in-Accepted-seen.is) in
+    let e : figures c.and_then-seen.result ≡ viewed c.args.table.now c.args.mask c.args.words.now (length c.args.res.now) =
+    go_on c.check-judged.result _ _ _ c.in-Accepted.field-0 c.check-judged.ensures.verdict c.in-Accepted.is (rest_is c.args.table.now c.args.mask c.args.words.now (length c.args.res.now) c.read-sizes.result c.read-sizes.ensures c.power.result c.power.ensures c.refuse_if-narrow.result c.check_sequence-fed.result c.and_then-seen.result c.refuse_if-narrow.ensures c.check_sequence-fed.ensures c.and_then-seen.ensures)
     in
-    let w₁ : List ℕ =
-    c.args.words.now
+    let v : answer 0 (framesOf c.args.table.now) ≡ viewed c.args.table.now c.args.mask c.args.words.now (length c.args.res.now) =
+    ap (answer 0) (sym f.2) ∙ sym (ap figures c.in-Accepted-seen.is) ∙ e
     in
-    let room₁ : ℕ =
-    length c.args.res.now
-    in
-    let rest₂ : Figures =
-    and_then (mask_checked (outputs ((c.args.table.now))) c.args.mask) (sequence_checked (inputs ((c.args.table.now))) (framesOf ((c.args.table.now))) ((c.args.words.now)) ((length c.args.res.now)))
-    in
-    let rest_is : figures c.and_then-seen.result ≡ (and_then (mask_checked (outputs ((c.args.table.now))) c.args.mask) (sequence_checked (inputs ((c.args.table.now))) (framesOf ((c.args.table.now))) ((c.args.words.now)) ((length c.args.res.now)))) =
-    let limit : c.power.result ≡ 2 ^ outputs ((c.args.table.now)) = c.power.ensures ∙ ap (λ (s : Sizes). 2 ^ s.outputs) c.read-sizes.ensures in
-    let narrow : figures c.refuse_if-narrow.result ≡ mask_checked (outputs ((c.args.table.now))) c.args.mask =
-    c.refuse_if-narrow.ensures ∙ ap (λ (k : ℕ). refuse (leb k c.args.mask) 17 0 (answer 0 0)) limit in
-    let fed : figures c.check_sequence-fed.result ≡ sequence_checked (inputs ((c.args.table.now))) (framesOf ((c.args.table.now))) ((c.args.words.now)) ((length c.args.res.now)) =
-    c.check_sequence-fed.ensures ∙ ap (λ (s : Sizes). sequence_checked s.inputs s.frames ((c.args.words.now)) ((length c.args.res.now))) c.read-sizes.ensures in
-    c.and_then-seen.ensures ∙ ap₂ and_then narrow fed
-    in
-    let viewed₂ : figures c.and_then-seen.result ≡ viewed ((c.args.table.now)) (s₁ c).args.mask ((c.args.words.now)) ((length c.args.res.now)) =
-    go_on c.check-judged.result _ _ _ c.in-Accepted.field-0 c.check-judged.ensures.verdict c.in-Accepted.is (rest_is)
-    in
-    let fed₃ : Fed (inputs ((c.args.table.now))) (framesOf ((c.args.table.now))) ((c.args.words.now)) × (framesOf ((c.args.table.now)) ≤ (length c.args.res.now)) × (c.in-Accepted-seen.field-0 ≡ framesOf ((c.args.table.now))) =
-    let d = c in
-    let e = accepts c.and_then-seen.result (rest₂ d) _ (rest_is) c.in-Accepted-seen.is in
-    fed _ _ (w₁ d) (room₁ d) _ (both_accept (mask_checked (outputs (b₁ d)) (s₁ d).args.mask) _ _ e).2
-    in
-    let a = (s₁ c).args in
-    let v : answer 0 (framesOf a.table.now) ≡ viewed a.table.now a.mask a.words.now (length a.result.now) =
-    ap (answer 0) (sym (fed₃).2) ∙ sym (ap figures c.in-Accepted-seen.is) ∙ viewed₂ in
     record {
       verdict = c.run_masked.ensures.verdict ∙ v;
-      outputs = view_left a.table.now a.mask a.words.now a.result.now _ _ v c.run_masked.ensures.outputs;
+      outputs = view_left c.args.table.now c.args.mask c.args.words.now c.args.res.now _ _ v c.run_masked.ensures.outputs;
       shows = view_shows _ _ _ _;
       hides = view_hides _ _;
       alike = views_alike _ _;

@@ -2,7 +2,6 @@
 -- Assumes nothing.
 use native.Mathlib.Omega.{arith}
 use Prim.Native.Nat.{◌+◌}
-use borrow.Author.Rules.{rules}
 use Rattle.write.proofs.Rows.{RowSafe, row_safe, row_same, row_more}
 use Rattle.write.proofs.next_row.Goals as goal
 

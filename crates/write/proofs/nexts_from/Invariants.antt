@@ -1,15 +1,13 @@
 -- `write::nexts_from` meets its contract. The invariant: the sum of the counts of the layers so far.
 -- Assumes nothing.
-use mathlib.Core.Path.{◌≡◌, refl, ap, ap₂, ◌∙◌}
+use mathlib.Core.Path.{◌≡◌, ap, ap₂, ◌∙◌}
 use mathlib.Core.List.{List}
-use Prim.Native.Nat.{ℕ, ◌+◌, ◌*◌, ◌-◌, ◌≤◌}
+use Prim.Native.Nat.{ℕ, ◌+◌, ◌*◌, ◌≤◌}
 use native.Mathlib.Nat.{mul-le-mul}
 use native.Mathlib.Omega.{arith}
 use lib.ListN.{get_or}
 use Rattle.layered.specs.Search.{total}
-use Rattle.layered.proofs.Lists.{total-next}
 use Rattle.table.specs.Table.{head_length}
-use Rattle.table.proofs.Offsets.{head_length_lem}
 use Rattle.explore.specs.declared.Layout.{Layout}
 use Rattle.explore.specs.Explore.{Laid}
 use Rattle.explore.proofs.Layers.{frames-to, words_few}

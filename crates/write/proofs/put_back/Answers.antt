@@ -3,7 +3,6 @@
 use mathlib.Core.Path.{◌≡◌, sym, ap, ◌∙◌, subst}
 use mathlib.Core.List.{List}
 use Prim.Native.Nat.{ℕ}
-use borrow.Author.Rules.{rules}
 use Rattle.explore.specs.declared.Layout.{Layout}
 use Rattle.write.specs.Write.{NextsFit, NextsPut, nexts_from}
 use Rattle.write.proofs.put_back.Goals as goal

@@ -12,7 +12,6 @@ use Rattle.write.proofs.Heads.{head_stored}
 use Rattle.circuit.specs.WellFormed.{WellFormed}
 use Rattle.source.specs.Source.{head_of, sourced}
 use Rattle.source.proofs.Sources.{well}
-use borrow.Author.Rules.{rules}
 use Rattle.write.proofs.put_head.Goals as goal
 
 -- the sizes are the circuit's

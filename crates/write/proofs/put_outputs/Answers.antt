@@ -1,7 +1,6 @@
 -- `write::put_outputs` meets its contract: each row is followed, stored, and the next one stands behind it.
 -- Assumes nothing.
 use mathlib.Core.Path.{ap, ◌∙◌, subst}
-use Prim.Native.Nat.{◌+◌, ◌*◌, ◌-◌, ◌<◌}
 use native.Mathlib.Omega.{arith}
 use Rattle.descend.specs.Descend.{Traced}
 use Rattle.descend.specs.declared.Job.{Job}

@@ -1,18 +1,12 @@
 -- `write::put_row` meets its contract. The invariant: the words so far are stored.
 -- Assumes nothing.
-use mathlib.Core.Path.{◌≡◌, sym, ap, ◌∙◌}
-use mathlib.Core.List.{List, [], ◌∷◌, ◌++◌}
-use Prim.Native.Nat.{ℕ, ◌+◌, ◌*◌, ◌-◌, ◌≤◌}
-use native.Mathlib.Numerals.{add-one}
-use native.Mathlib.Omega.{arith}
-use lib.ListN.{length}
+use mathlib.Core.Path.{◌≡◌}
+use mathlib.Core.List.{List}
+use Prim.Native.Nat.{ℕ, ◌+◌, ◌*◌, ◌≤◌}
 use Rattle.words.specs.Words.{stored}
-use Rattle.words.proofs.Laws.{stored-none, stored-length, stored-behind}
-use Rattle.layered.specs.Search.{join, tabulate}
-use Rattle.layered.proofs.Lists.{tabulate-length}
+use Rattle.layered.specs.Search.{tabulate}
 use Rattle.explore.specs.declared.Layout.{Layout}
-use Rattle.write.specs.Write.{word_in, row_in}
-use Rattle.write.proofs.Rows.{columns_in}
+use Rattle.write.specs.Write.{word_in}
 use Rattle.write.proofs.put_row.Given as goal
 
 -- the words of the first w entries

@@ -2,7 +2,6 @@
 -- Assumes nothing.
 use Prim.Native.Nat.{◌+◌}
 use native.Mathlib.Omega.{arith}
-use borrow.Author.Rules.{rules}
 use Rattle.write.proofs.Rows.{RowSafe, row_safe}
 use Rattle.write.proofs.row_job.Goals as goal
 

@@ -1,18 +1,14 @@
 -- `write::word_of` meets its contract. The invariant: the word so far is that of the outputs from k on.
 -- Assumes nothing.
-use mathlib.Core.Path.{◌≡◌, refl, sym, ap, ap₂, ◌∙◌}
+use mathlib.Core.Path.{◌≡◌, refl}
 use mathlib.Core.Bool.{Bool, true, false, cond}
 use mathlib.Core.List.{List, []}
-use Prim.Native.Nat.{ℕ, ◌+◌, ◌-◌, ◌≤◌, ◌<◌}
+use Prim.Native.Nat.{ℕ, ◌+◌, ◌-◌, ◌≤◌}
 use native.Mathlib.Omega.{arith}
 use lib.Dec.{eqb}
 use package.mir.Val.{bool_byte}
-use lib.Seq.{take_all}
-use lib.ListN.{get_or, take, drop, length-take}
+use lib.ListN.{get_or, take, drop}
 use Rattle.circuit.specs.Lists.{packed, listed}
-use Rattle.circuit.proofs.Lists.{listed-length, listed_at}
-use Rattle.circuit.proofs.Laws.{packed_below, packed_more}
-use Rattle.write.specs.Write.{word_in}
 use Rattle.write.proofs.word_of.Given as goal
 
 -- the bits of all outputs

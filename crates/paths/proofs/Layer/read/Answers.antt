@@ -11,111 +11,84 @@ use Rattle.paths.proofs.Layer.read.Goals as goal
 
 pub entries_below-entries-requires : goal.entries_below-entries-requires
 entries_below-entries-requires c =
-    let b₀ : List ℕ =
-    c.args.table.now
-    in
-    let layout_of : Laid ((c.args.table.now)) c.args.layout =
-    laid ((c.args.table.now)) c.args.layout c.requires.table_headed c.requires.layout_value.0
+    let layout_of : Laid c.args.table.now c.args.layout =
+    laid c.args.table.now c.args.layout c.requires.table_headed c.requires.layout_value.0
     in
     record {
-      words_value = ((layout_of).words_is, (layout_of).words-to);
-      layer_le_most_frames = (omega (arith, c.requires.layout_value.1, c.requires.table_headed.sized), omega (arith, count_in (c.args.table.now) c.requires.table_headed c.args.t (omega (arith, c.requires.layout_value.1))));
+      words_value = (layout_of.words_is, layout_of.words-to);
+      layer_le_most_frames = (omega (arith, c.requires.layout_value.1, c.requires.table_headed.sized), omega (arith, count_in c.args.table.now c.requires.table_headed c.args.t (omega (arith, c.requires.layout_value.1))));
     }
 
 pub states_below-below-requires : goal.states_below-below-requires
 states_below-below-requires c =
-    (omega (arith, c.requires.layout_value.1, c.requires.table_headed.sized), omega (arith, count_in (c.args.table.now) c.requires.table_headed c.args.t (omega (arith, c.requires.layout_value.1))))
+    (omega (arith, c.requires.layout_value.1, c.requires.table_headed.sized), omega (arith, count_in c.args.table.now c.requires.table_headed c.args.t (omega (arith, c.requires.layout_value.1))))
 
 pub states_of-states-requires : goal.states_of-states-requires
 states_of-states-requires c =
-    count_in (c.args.table.now) c.requires.table_headed c.args.t (omega (arith, c.requires.layout_value.1))
+    count_in c.args.table.now c.requires.table_headed c.args.t (omega (arith, c.requires.layout_value.1))
 
 pub overflow_add-layout : goal.overflow_add-layout
 overflow_add-layout c =
-    let b₀ : List ℕ =
-    c.args.table.now
+    let layout_of : Laid c.args.table.now c.args.layout =
+    laid c.args.table.now c.args.layout c.requires.table_headed c.requires.layout_value.0
     in
-    let layout_of : Laid ((c.args.table.now)) c.args.layout =
-    laid ((c.args.table.now)) c.args.layout c.requires.table_headed c.requires.layout_value.0
-    in
-    omega (arith, (layout_of).frames-to)
+    omega (arith, layout_of.frames-to)
 
 pub states_below-all-requires : goal.states_below-all-requires
 states_below-all-requires c =
-    let b₀ : List ℕ =
-    c.args.table.now
-    in
-    let layout_of : Laid ((c.args.table.now)) c.args.layout =
-    laid ((c.args.table.now)) c.args.layout c.requires.table_headed c.requires.layout_value.0
+    let layout_of : Laid c.args.table.now c.args.layout =
+    laid c.args.table.now c.args.layout c.requires.table_headed c.requires.layout_value.0
     in
     let l = layout_of in
     (omega (arith, l.frames-to), omega (arith, l.end_at, l.nexts-at, l.outputs-at))
 
 pub head_bytes-requires : goal.head_bytes-requires
 head_bytes-requires c =
-    let b₀ : List ℕ =
-    c.args.table.now
+    let layout_of : Laid c.args.table.now c.args.layout =
+    laid c.args.table.now c.args.layout c.requires.table_headed c.requires.layout_value.0
     in
-    let layout_of : Laid ((c.args.table.now)) c.args.layout =
-    laid ((c.args.table.now)) c.args.layout c.requires.table_headed c.requires.layout_value.0
-    in
-    (layout_of).frames-to
+    layout_of.frames-to
 
 pub overflow_add-from : goal.overflow_add-from
 overflow_add-from c =
-    let b₀ : List ℕ =
-    c.args.table.now
-    in
-    let layout_of : Laid ((c.args.table.now)) c.args.layout =
-    laid ((c.args.table.now)) c.args.layout c.requires.table_headed c.requires.layout_value.0
+    let layout_of : Laid c.args.table.now c.args.layout =
+    laid c.args.table.now c.args.layout c.requires.table_headed c.requires.layout_value.0
     in
     let small : c.head_bytes.result + 4 * c.states_below-below.result ≤ 36 + 262144 * 17 =
-    omega (arith, c.head_bytes.ensures, (layout_of).frames-to, c.states_below-below.ensures.1, c.requires.layout_value.1, c.requires.table_headed.sized)
+    omega (arith, c.head_bytes.ensures, layout_of.frames-to, c.states_below-below.ensures.1, c.requires.layout_value.1, c.requires.table_headed.sized)
     in
     omega (arith, small)
 
 pub overflow_add-result : goal.overflow_add-result
 overflow_add-result c =
-    let b₀ : List ℕ =
-    c.args.table.now
+    let layout_of : Laid c.args.table.now c.args.layout =
+    laid c.args.table.now c.args.layout c.requires.table_headed c.requires.layout_value.0
     in
-    let layout_of : Laid ((c.args.table.now)) c.args.layout =
-    laid ((c.args.table.now)) c.args.layout c.requires.table_headed c.requires.layout_value.0
-    in
-    omega (arith, (layout_of).end_at, c.good, c.entries_below-entries.ensures.1)
+    omega (arith, layout_of.end_at, c.well_formed, c.entries_below-entries.ensures.1)
 
 pub overflow_add-result-2 : goal.overflow_add-result-2
 overflow_add-result-2 c =
-    let b₀ : List ℕ =
-    c.args.table.now
-    in
-    let layout_of : Laid ((c.args.table.now)) c.args.layout =
-    laid ((c.args.table.now)) c.args.layout c.requires.table_headed c.requires.layout_value.0
+    let layout_of : Laid c.args.table.now c.args.layout =
+    laid c.args.table.now c.args.layout c.requires.table_headed c.requires.layout_value.0
     in
     let small : c.head_bytes.result + 4 * c.states_below-below.result ≤ 36 + 262144 * 17 =
-    omega (arith, c.head_bytes.ensures, (layout_of).frames-to, c.states_below-below.ensures.1, c.requires.layout_value.1, c.requires.table_headed.sized)
+    omega (arith, c.head_bytes.ensures, layout_of.frames-to, c.states_below-below.ensures.1, c.requires.layout_value.1, c.requires.table_headed.sized)
     in
     omega (arith, small, c.states_of-states.ensures.1)
 
 pub overflow_mul-result-3 : goal.overflow_mul-result-3
 overflow_mul-result-3 c =
-    let b₀ : List ℕ =
-    c.args.table.now
+    let layout_of : Laid c.args.table.now c.args.layout =
+    laid c.args.table.now c.args.layout c.requires.table_headed c.requires.layout_value.0
     in
-    let layout_of : Laid ((c.args.table.now)) c.args.layout =
-    laid ((c.args.table.now)) c.args.layout c.requires.table_headed c.requires.layout_value.0
-    in
-    omega (arith, c.states_below-all.ensures.1, (layout_of).frames-to)
+    omega (arith, c.states_below-all.ensures.1, layout_of.frames-to)
 
 pub returns : goal.returns
 returns c =
-    let b₀ : List ℕ =
-    c.args.table.now
+    let layout_of : Laid c.args.table.now c.args.layout =
+    laid c.args.table.now c.args.layout c.requires.table_headed c.requires.layout_value.0
     in
-    let layout_of : Laid ((c.args.table.now)) c.args.layout =
-    laid ((c.args.table.now)) c.args.layout c.requires.table_headed c.requires.layout_value.0
-    in
-    let b : List ℕ = (c.args.table.now) in
+    let b : List ℕ = c.args.table.now in
     let l = layout_of in
     let from = from_is b c.args.t _ _ _ l.frames_is c.head_bytes.ensures c.states_below-below.ensures.0 in
     let to = to_is b c.args.t _ _ from c.states_of-states.ensures.0 in

@@ -1,6 +1,6 @@
 -- `view::layers::Located::part` meets its contract: a part's end is its case's offset and length, and stands in the table; what is shown after a refusal is empty.
 -- Assumes nothing.
-use mathlib.Core.Path.{ap, subst, sym, ◌∙◌}
+use mathlib.Core.Path.{◌≡◌, ap, subst, sym, ◌∙◌}
 use native.Mathlib.Nat.{zero-add, add-sub_cancel_left}
 use native.Mathlib.Omega.{arith}
 use Prim.Native.Nat.{ℕ, ◌+◌, ◌≤◌}
@@ -8,7 +8,7 @@ use mathlib.Core.List.{List}
 use lib.ListN.{length, take, drop}
 use Rattle.view.specs.Layers.{layer_figures, behind}
 use Rattle.view.specs.declared.layers.Located.{Located}
-use borrow.Author.Rules.{rules}
+use Rattle.view.specs.declared.layers.Located.TheVariants.{Part}
 use Rattle.view.proofs.layers.Located.part.Goals as goal
 
 -- the part of b where a layer stands
@@ -20,18 +20,16 @@ abbrev place : ℕ × ℕ → Located → ℕ × ℕ
 place p s = behind (layer_figures s).offset p
 
 -- the end stands in the table
-inside : (c : lts.After-known-told reads.Pre reads.Post) → c.before.self.given.0.0 + c.before.self.given.0.1.0 ≤ length c.before.before.before.args.table.now
-inside c =
-    let a = c.before.before.before in
-    subst (λ (s : Located). (layer_figures s).offset + (layer_figures s).length ≤ length a.args.table.now) c.before.self.given.1 a.requires
+inside : (s : Located) (from size : ℕ) (b : List ℕ) → (layer_figures s).offset + (layer_figures s).length ≤ length b → s ≡ Part from size → from + size ≤ length b
+inside s from size b h e = subst (λ (s : Located). (layer_figures s).offset + (layer_figures s).length ≤ length b) e h
 
 pub overflow_add-result : goal.overflow_add-result
 overflow_add-result c =
-    omega (arith, inside c)
+    omega (arith, inside c.args.self c.in-Part.offset c.in-Part.length c.args.table.now c.requires c.in-Part.is)
 
--- TODO no new goal for slice-bounds-result-end
--- part-result-end c =
--- inside c
+pub slice_bounds-result-end : goal.slice_bounds-result-end
+slice_bounds-result-end c =
+    inside c.args.self c.in-Part.offset c.in-Part.length c.args.table.now c.requires c.in-Part.is
 
 pub returns-in-Part : goal.returns-in-Part
 returns-in-Part c =
