@@ -1,6 +1,5 @@
 -- The proof of the cycle of calls {append_number}. Where the ways to the last digit meet, one lemma says that it makes the number whole.
 -- Assumes nothing.
-use mathlib.Core.Path.{◌≡◌}
 use mathlib.Core.List.{List}
 use Prim.Native.Nat.{ℕ, ◌+◌, ◌%◌, ◌<◌}
 use native.Mathlib.Omega.{arith}
