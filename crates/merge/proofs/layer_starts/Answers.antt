@@ -106,5 +106,4 @@ loop-t-preserved c =
 pub returns : goal.returns
 returns c =
     let f = (laid _ _ c.requires.0 c.requires.1).frames_is in
-    record { long = omega (arith, c.loop-t.invariant.long, c.requires.0.sized.frames-to); are = λ t h. c.loop-t.invariant.are t (omega (arith, f)) }
-    -- TODO fields ['starts']
+    record { starts = record { long = omega (arith, c.loop-t.invariant.long, c.requires.0.sized.frames-to); are = λ t h. c.loop-t.invariant.are t (omega (arith, f)) } }
