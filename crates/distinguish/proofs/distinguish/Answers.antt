@@ -21,110 +21,70 @@ use Rattle.distinguish.proofs.distinguish.Goals as goal
 
 pub returns-in_default : goal.returns-in_default
 returns-in_default c =
-    table_refused c.args.table.now c.args.layer c.args.first c.args.second c.args.result.now c.check-judged.result c.in_default.field-0 c.check-judged.ensures.verdict c.in_default.is
-    -- TODO fields ['verdict', 'res', 'distinguishes', 'folded']
+    let o = table_refused c.args.table.now c.args.layer c.args.first c.args.second c.args.res.now c.check-judged.result c.in_default.field-0 c.check-judged.ensures.verdict c.in_default.is in
+    record { verdict = o.0; res = o.1.0; distinguishes = o.1.1.0; folded = o.1.1.1 }
 
 pub read-layout-requires : goal.read-layout-requires
 read-layout-requires c =
-    let b₁ : List ℕ =
-    c.args.table.now
+    let legal : Sound c.args.table.now =
+    sound c.args.table.now c.in-Accepted.field-0 (accepts c.check-judged.result _ _ c.check-judged.ensures.verdict c.in-Accepted.is)
     in
-    let legal : Sound ((c.args.table.now)) =
-    sound ((c.args.table.now)) c.in-Accepted.field-0 (accepts c.check-judged.result _ _ c.check-judged.ensures.verdict c.in-Accepted.is)
-    in
-    (legal).headed
+    legal.headed
 
 pub check_pair-placed-requires : goal.check_pair-placed-requires
 check_pair-placed-requires c =
-    let b₁ : List ℕ =
-    c.args.table.now
+    let legal : Sound c.args.table.now =
+    sound c.args.table.now c.in-Accepted.field-0 (accepts c.check-judged.result _ _ c.check-judged.ensures.verdict c.in-Accepted.is)
     in
-    let legal : Sound ((c.args.table.now)) =
-    sound ((c.args.table.now)) c.in-Accepted.field-0 (accepts c.check-judged.result _ _ c.check-judged.ensures.verdict c.in-Accepted.is)
-    in
-    ((legal).headed, c.read-layout.ensures)
+    (legal.headed, c.read-layout.ensures)
 
 pub returns-in_default-placed : goal.returns-in_default-placed
 returns-in_default-placed c =
-    pair_refused c.args.table.now c.args.layer c.args.first c.args.second c.args.result.now c.check-judged.result c.in-Accepted.field-0 c.check-judged.ensures.verdict c.in-Accepted.is c.check_pair-placed.result c.in_default-placed.field-0 c.check_pair-placed.ensures c.in_default-placed.is
-    -- TODO fields ['verdict', 'res', 'distinguishes', 'folded']
+    let o = pair_refused c.args.table.now c.args.layer c.args.first c.args.second c.args.res.now c.check-judged.result c.in-Accepted.field-0 c.check-judged.ensures.verdict c.in-Accepted.is c.check_pair-placed.result c.in_default-placed.field-0 c.check_pair-placed.ensures c.in_default-placed.is in
+    record { verdict = o.0; res = o.1.0; distinguishes = o.1.1.0; folded = o.1.1.1 }
 
 pub overflow_sub-left : goal.overflow_sub-left
 overflow_sub-left c =
-    let b₁ : List ℕ =
-    c.args.table.now
+    let legal : Sound c.args.table.now =
+    sound c.args.table.now c.in-Accepted.field-0 (accepts c.check-judged.result _ _ c.check-judged.ensures.verdict c.in-Accepted.is)
     in
-    let legal : Sound ((c.args.table.now)) =
-    sound ((c.args.table.now)) c.in-Accepted.field-0 (accepts c.check-judged.result _ _ c.check-judged.ensures.verdict c.in-Accepted.is)
+    let stands : Laid c.args.table.now c.read-layout.result =
+    laid c.args.table.now c.read-layout.result legal.headed c.read-layout.ensures
     in
-    let stands : Laid ((c.args.table.now)) c.read-layout.result =
-    laid ((c.args.table.now)) c.read-layout.result (legal).headed c.read-layout.ensures
+    let pair_is : (c.args.layer ≤ frames c.args.table.now) × (c.args.first < states c.args.table.now c.args.layer) × (c.args.second < states c.args.table.now c.args.layer) =
+    pair_in c.args.table.now c.args.layer c.args.first c.args.second c.in-Accepted-placed.field-0 (accepts c.check_pair-placed.result _ _ c.check_pair-placed.ensures c.in-Accepted-placed.is)
     in
-    let d₃ : tie.After-enum-told =
-    c
-    in
-    let s₃ : tie.Start =
-    s₁ ((c))
-    in
-    let pair_is : let s = (s₁ ((c))) in let b = b₁ ((c)) in
-    (s.args.layer ≤ frames b) × (s.args.first < states b s.args.layer) × (s.args.second < states b s.args.layer) =
-    let a = ((s₁ ((c)))).args in
-    pair_in (b₁ ((c))) a.layer a.first a.second c.in-Accepted-placed.field-0 (accepts c.check_pair-placed.result _ _ c.check_pair-placed.ensures c.in-Accepted-placed.is)
-    in
-    omega (arith, (pair_is).0, stands)
+    omega (arith, pair_is.0, stands)
 
 pub returns-then-res-left : goal.returns-then-res-left
 returns-then-res-left c =
-    let b₁ : List ℕ =
-    c.args.table.now
+    let legal : Sound c.args.table.now =
+    sound c.args.table.now c.in-Accepted.field-0 (accepts c.check-judged.result _ _ c.check-judged.ensures.verdict c.in-Accepted.is)
     in
-    let legal : Sound ((c.args.table.now)) =
-    sound ((c.args.table.now)) c.in-Accepted.field-0 (accepts c.check-judged.result _ _ c.check-judged.ensures.verdict c.in-Accepted.is)
+    let stands : Laid c.args.table.now c.read-layout.result =
+    laid c.args.table.now c.read-layout.result legal.headed c.read-layout.ensures
     in
-    let stands : Laid ((c.args.table.now)) c.read-layout.result =
-    laid ((c.args.table.now)) c.read-layout.result (legal).headed c.read-layout.ensures
+    let left_is : c.read-layout.result.frames - c.args.layer ≡ frames c.args.table.now - c.args.layer =
+    ap (λ n. n - c.args.layer) stands.frames_is
     in
-    let d₃ : tie.After-enum-told =
-    c
-    in
-    let s₃ : tie.Start =
-    s₁ ((c))
-    in
-    let left_is : c.read-layout.result.frames - ((s₁ ((c)))).args.layer ≡ frames (b₁ ((c))) - ((s₁ ((c)))).args.layer =
-    ap (λ n. n - ((s₁ ((c)))).args.layer) (stands).frames_is
-    in
-    let d = (c) in
-    let a = (s₁ d).args in
-    let x = d.before.before.check in
-    room_refused a.table.now a.layer a.first a.second a.result.now x.result d.enum_told.given.0.0 x.ensures.0 d.enum_told.given.1 c.check_pair-placed.result c.in-Accepted-placed.field-0 c.check_pair-placed.ensures c.in-Accepted-placed.is
-    (c.read-layout.result.frames - a.layer) (left_is) c.if-res-left.true
-    -- TODO fields ['verdict', 'res', 'distinguishes', 'folded']
+    let o = room_refused c.args.table.now c.args.layer c.args.first c.args.second c.args.res.now c.check-judged.result c.in-Accepted.field-0 c.check-judged.ensures.verdict c.in-Accepted.is c.check_pair-placed.result c.in-Accepted-placed.field-0 c.check_pair-placed.ensures c.in-Accepted-placed.is
+    (c.read-layout.result.frames - c.args.layer) left_is c.if-res-left.true in
+    record { verdict = o.0; res = o.1.0; distinguishes = o.1.1.0; folded = o.1.1.1 }
 
 -- ---- there is room
 pub entries_below-requires : goal.entries_below-requires
 entries_below-requires c =
-    let b₁ : List ℕ =
-    c.args.table.now
+    let legal : Sound c.args.table.now =
+    sound c.args.table.now c.in-Accepted.field-0 (accepts c.check-judged.result _ _ c.check-judged.ensures.verdict c.in-Accepted.is)
     in
-    let legal : Sound ((c.args.table.now)) =
-    sound ((c.args.table.now)) c.in-Accepted.field-0 (accepts c.check-judged.result _ _ c.check-judged.ensures.verdict c.in-Accepted.is)
+    let stands : Laid c.args.table.now c.read-layout.result =
+    laid c.args.table.now c.read-layout.result legal.headed c.read-layout.ensures
     in
-    let stands : Laid ((c.args.table.now)) c.read-layout.result =
-    laid ((c.args.table.now)) c.read-layout.result (legal).headed c.read-layout.ensures
-    in
-    let d₃ : tie.After-enum-told =
-    c
-    in
-    let s₃ : tie.Start =
-    s₁ ((c))
-    in
-    let pair_is : let s = (s₁ ((c))) in let b = b₁ ((c)) in
-    (s.args.layer ≤ frames b) × (s.args.first < states b s.args.layer) × (s.args.second < states b s.args.layer) =
-    let a = ((s₁ ((c)))).args in
-    pair_in (b₁ ((c))) a.layer a.first a.second c.in-Accepted-placed.field-0 (accepts c.check_pair-placed.result _ _ c.check_pair-placed.ensures c.in-Accepted-placed.is)
+    let pair_is : (c.args.layer ≤ frames c.args.table.now) × (c.args.first < states c.args.table.now c.args.layer) × (c.args.second < states c.args.table.now c.args.layer) =
+    pair_in c.args.table.now c.args.layer c.args.first c.args.second c.in-Accepted-placed.field-0 (accepts c.check_pair-placed.result _ _ c.check_pair-placed.ensures c.in-Accepted-placed.is)
     in
     let l = stands in
-    let p = (pair_is).0 in
+    let p = pair_is.0 in
     record {
       words_value = (l.words_is, l.words-to);
       layer_le_most_frames = (omega (arith, p, l.frames_is, l.frames-to), omega (arith, p, l));
@@ -132,78 +92,46 @@ entries_below-requires c =
 
 pub shortest_list-list-requires : goal.shortest_list-list-requires
 shortest_list-list-requires c =
-    let b₁ : List ℕ =
-    c.args.table.now
+    let legal : Sound c.args.table.now =
+    sound c.args.table.now c.in-Accepted.field-0 (accepts c.check-judged.result _ _ c.check-judged.ensures.verdict c.in-Accepted.is)
     in
-    let legal : Sound ((c.args.table.now)) =
-    sound ((c.args.table.now)) c.in-Accepted.field-0 (accepts c.check-judged.result _ _ c.check-judged.ensures.verdict c.in-Accepted.is)
-    in
-    let d₃ : tie.After-enum-told =
-    c
-    in
-    let s₃ : tie.Start =
-    s₁ ((c))
-    in
-    let pair_is : let s = (s₁ ((c))) in let b = b₁ ((c)) in
-    (s.args.layer ≤ frames b) × (s.args.first < states b s.args.layer) × (s.args.second < states b s.args.layer) =
-    let a = ((s₁ ((c)))).args in
-    pair_in (b₁ ((c))) a.layer a.first a.second c.in-Accepted-placed.field-0 (accepts c.check_pair-placed.result _ _ c.check_pair-placed.ensures c.in-Accepted-placed.is)
+    let pair_is : (c.args.layer ≤ frames c.args.table.now) × (c.args.first < states c.args.table.now c.args.layer) × (c.args.second < states c.args.table.now c.args.layer) =
+    pair_in c.args.table.now c.args.layer c.args.first c.args.second c.in-Accepted-placed.field-0 (accepts c.check_pair-placed.result _ _ c.check_pair-placed.ensures c.in-Accepted-placed.is)
     in
     let p = pair_is in
     (legal, c.read-layout.ensures, record { layer_to = p.0; below_is = c.entries_below.ensures.0; first_to = p.1; second_to = p.2 })
 
 pub store_words-requires : goal.store_words-requires
 store_words-requires c =
-    let b₁ : List ℕ =
-    c.args.table.now
+    let legal : Sound c.args.table.now =
+    sound c.args.table.now c.in-Accepted.field-0 (accepts c.check-judged.result _ _ c.check-judged.ensures.verdict c.in-Accepted.is)
     in
-    let legal : Sound ((c.args.table.now)) =
-    sound ((c.args.table.now)) c.in-Accepted.field-0 (accepts c.check-judged.result _ _ c.check-judged.ensures.verdict c.in-Accepted.is)
+    let stands : Laid c.args.table.now c.read-layout.result =
+    laid c.args.table.now c.read-layout.result legal.headed c.read-layout.ensures
     in
-    let stands : Laid ((c.args.table.now)) c.read-layout.result =
-    laid ((c.args.table.now)) c.read-layout.result (legal).headed c.read-layout.ensures
-    in
-    let d₃ : tie.After-enum-told =
-    c
-    in
-    let s₃ : tie.Start =
-    s₁ ((c))
-    in
-    let left_is : c.read-layout.result.frames - ((s₁ ((c)))).args.layer ≡ frames (b₁ ((c))) - ((s₁ ((c)))).args.layer =
-    ap (λ n. n - ((s₁ ((c)))).args.layer) (stands).frames_is
+    let left_is : c.read-layout.result.frames - c.args.layer ≡ frames c.args.table.now - c.args.layer =
+    ap (λ n. n - c.args.layer) stands.frames_is
     in
     let l = stands in
-    (omega (arith, l.words_is, pow_pos (inputs (c.args.table.now))), omega (arith, l.words-to), omega (arith, c.shortest_list-list.ensures.few, left_is, c.if-res-left.false))
+    (omega (arith, l.words_is, pow_pos (inputs c.args.table.now)), omega (arith, l.words-to), omega (arith, c.shortest_list-list.ensures.few, left_is, c.if-res-left.false))
 
 pub returns : goal.returns
 returns c =
-    let b₁ : List ℕ =
-    c.args.table.now
+    let legal : Sound c.args.table.now =
+    sound c.args.table.now c.in-Accepted.field-0 (accepts c.check-judged.result _ _ c.check-judged.ensures.verdict c.in-Accepted.is)
     in
-    let legal : Sound ((c.args.table.now)) =
-    sound ((c.args.table.now)) c.in-Accepted.field-0 (accepts c.check-judged.result _ _ c.check-judged.ensures.verdict c.in-Accepted.is)
+    let stands : Laid c.args.table.now c.read-layout.result =
+    laid c.args.table.now c.read-layout.result legal.headed c.read-layout.ensures
     in
-    let stands : Laid ((c.args.table.now)) c.read-layout.result =
-    laid ((c.args.table.now)) c.read-layout.result (legal).headed c.read-layout.ensures
+    let left_is : c.read-layout.result.frames - c.args.layer ≡ frames c.args.table.now - c.args.layer =
+    ap (λ n. n - c.args.layer) stands.frames_is
     in
-    let d₃ : tie.After-enum-told =
-    c
-    in
-    let s₃ : tie.Start =
-    s₁ ((c))
-    in
-    let left_is : c.read-layout.result.frames - ((s₁ ((c)))).args.layer ≡ frames (b₁ ((c))) - ((s₁ ((c)))).args.layer =
-    ap (λ n. n - ((s₁ ((c)))).args.layer) (stands).frames_is
-    in
-    let d = (c) in
-    let a = (s₁ d).args in
-    let x = d.before.before.check in
-    let K = 2 ^ inputs a.table.now in
-    accepted a.table.now a.layer a.first a.second a.result.now x.result d.enum_told.given.0.0 x.ensures.0 d.enum_told.given.1 c.check_pair-placed.result c.in-Accepted-placed.field-0 c.check_pair-placed.ensures c.in-Accepted-placed.is
+    let K = 2 ^ inputs c.args.table.now in
+    let o = accepted c.args.table.now c.args.layer c.args.first c.args.second c.args.res.now c.check-judged.result c.in-Accepted.field-0 c.check-judged.ensures.verdict c.in-Accepted.is c.check_pair-placed.result c.in-Accepted-placed.field-0 c.check_pair-placed.ensures c.in-Accepted-placed.is
     c.shortest_list-list.result.length _
     (omega (arith, left_is, c.if-res-left.false))
     (sym (history-length K c.shortest_list-list.result.length c.shortest_list-list.result.number) ∙ ap length c.shortest_list-list.ensures.words)
     (c.store_words.ensures
-    ∙ ap (λ n. history_words n c.shortest_list-list.result.length c.shortest_list-list.result.number ++ drop c.shortest_list-list.result.length a.result.now) (stands).words_is
-    ∙ ap (λ l. l ++ drop c.shortest_list-list.result.length a.result.now) c.shortest_list-list.ensures.words)
-    -- TODO fields ['verdict', 'res', 'distinguishes', 'folded']
+    ∙ ap (λ n. history_words n c.shortest_list-list.result.length c.shortest_list-list.result.number ++ drop c.shortest_list-list.result.length c.args.res.now) stands.words_is
+    ∙ ap (λ l. l ++ drop c.shortest_list-list.result.length c.args.res.now) c.shortest_list-list.ensures.words) in
+    record { verdict = o.0; res = o.1.0; distinguishes = o.1.1.0; folded = o.1.1.1 }

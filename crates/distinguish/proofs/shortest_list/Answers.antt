@@ -18,11 +18,8 @@ use Rattle.distinguish.proofs.shortest_list.Goals as goal
 
 pub overflow_sub-left : goal.overflow_sub-left
 overflow_sub-left c =
-    let b₀ : List ℕ =
-    c.args.table.now
-    in
-    let stands : Laid ((c.args.table.now)) c.args.layout =
-    laid ((c.args.table.now)) c.args.layout c.requires.0.headed c.requires.1
+    let stands : Laid c.args.table.now c.args.layout =
+    laid c.args.table.now c.args.layout c.requires.0.headed c.requires.1
     in
     omega (arith, stands, c.requires.2.layer_to)
 
@@ -32,106 +29,79 @@ loop-k-init c =
 
 pub first_list-number-requires : goal.first_list-number-requires
 first_list-number-requires c =
-    let b₀ : List ℕ =
-    c.args.table.now
+    let stands : Laid c.args.table.now c.args.layout =
+    laid c.args.table.now c.args.layout c.requires.0.headed c.requires.1
     in
-    let p₀ : Pair =
-    c.args.pair
-    in
-    let stands : Laid ((c.args.table.now)) c.args.layout =
-    laid ((c.args.table.now)) c.args.layout c.requires.0.headed c.requires.1
-    in
-    let within : c.loop-k.k < frames ((c.args.table.now)) - ((c.args.pair)).layer =
+    let within : c.loop-k.k < frames c.args.table.now - c.args.pair.layer =
     omega (arith, stands)
     in
     let e : c.loop-k.k + 1 - 1 ≡ c.loop-k.k = omega arith in
     record {
       sound = c.requires;
-      le_count = (omega arith, omega (arith, within, c.requires.2.layer_to), c.loop-k.invariant.1 ∙ ap (λ j. (2 ^ inputs (c.args.table.now)) ^ j) (sym e));
+      le_count = (omega arith, omega (arith, within, c.requires.2.layer_to), c.loop-k.invariant.1 ∙ ap (λ j. (2 ^ inputs c.args.table.now) ^ j) (sym e));
     }
 
 pub overflow_mul-rest : goal.overflow_mul-rest
 overflow_mul-rest c =
-    let b₀ : List ℕ =
-    c.args.table.now
+    let stands : Laid c.args.table.now c.args.layout =
+    laid c.args.table.now c.args.layout c.requires.0.headed c.requires.1
     in
-    let p₀ : Pair =
-    c.args.pair
-    in
-    let stands : Laid ((c.args.table.now)) c.args.layout =
-    laid ((c.args.table.now)) c.args.layout c.requires.0.headed c.requires.1
-    in
-    let within : c.loop-k.k < frames ((c.args.table.now)) - ((c.args.pair)).layer =
+    let within : c.loop-k.k < frames c.args.table.now - c.args.pair.layer =
     omega (arith, stands)
     in
-    let lists-are : c.loop-k.rest * c.args.layout.words ≡ (2 ^ inputs ((c.args.table.now))) ^ suc c.loop-k.k =
-    ap₂ ◌*◌ c.loop-k.invariant.1 (stands).words_is ∙ sym (pow-suc (2 ^ inputs ((c.args.table.now))) c.loop-k.k)
+    let lists-are : c.loop-k.rest * c.args.layout.words ≡ (2 ^ inputs c.args.table.now) ^ suc c.loop-k.k =
+    ap₂ ◌*◌ c.loop-k.invariant.1 stands.words_is ∙ sym (pow-suc (2 ^ inputs c.args.table.now) c.loop-k.k)
     in
-    let few : (2 ^ inputs (c.args.table.now)) ^ suc c.loop-k.k ≤ 65536 = lists_few (c.args.table.now) c.requires.0 _ (omega (arith, within)) in
+    let few : (2 ^ inputs c.args.table.now) ^ suc c.loop-k.k ≤ 65536 = lists_few c.args.table.now c.requires.0 _ (omega (arith, within)) in
     omega (arith, lists-are, few)
 
 pub returns-then-number-rest : goal.returns-then-number-rest
 unfolding distinguishing
 returns-then-number-rest c =
-    let b₀ : List ℕ =
-    c.args.table.now
+    let stands : Laid c.args.table.now c.args.layout =
+    laid c.args.table.now c.args.layout c.requires.0.headed c.requires.1
     in
-    let p₀ : Pair =
-    c.args.pair
-    in
-    let stands : Laid ((c.args.table.now)) c.args.layout =
-    laid ((c.args.table.now)) c.args.layout c.requires.0.headed c.requires.1
-    in
-    let within : c.loop-k.k < frames ((c.args.table.now)) - ((c.args.pair)).layer =
+    let within : c.loop-k.k < frames c.args.table.now - c.args.pair.layer =
     omega (arith, stands)
     in
-    let lists-are : c.loop-k.rest * c.args.layout.words ≡ (2 ^ inputs ((c.args.table.now))) ^ suc c.loop-k.k =
-    ap₂ ◌*◌ c.loop-k.invariant.1 (stands).words_is ∙ sym (pow-suc (2 ^ inputs ((c.args.table.now))) c.loop-k.k)
+    let lists-are : c.loop-k.rest * c.args.layout.words ≡ (2 ^ inputs c.args.table.now) ^ suc c.loop-k.k =
+    ap₂ ◌*◌ c.loop-k.invariant.1 stands.words_is ∙ sym (pow-suc (2 ^ inputs c.args.table.now) c.loop-k.k)
     in
-    let number_is : c.first_list-number.result ≡ first_list (2 ^ inputs ((c.args.table.now))) (machine ((c.args.table.now))) ((c.args.pair)).layer ((c.args.pair)).first ((c.args.pair)).second (suc c.loop-k.k) =
-    c.first_list-number.ensures ∙ ap (first_list (2 ^ inputs ((c.args.table.now))) (machine ((c.args.table.now))) ((c.args.pair)).layer ((c.args.pair)).first ((c.args.pair)).second) (add-one c.loop-k.k)
+    let number_is : c.first_list-number.result ≡ first_list (2 ^ inputs c.args.table.now) (machine c.args.table.now) c.args.pair.layer c.args.pair.first c.args.pair.second (suc c.loop-k.k) =
+    c.first_list-number.ensures ∙ ap (first_list (2 ^ inputs c.args.table.now) (machine c.args.table.now) c.args.pair.layer c.args.pair.first c.args.pair.second) (add-one c.loop-k.k)
     in
-    let K = 2 ^ inputs (c.args.table.now) in record {
+    let K = 2 ^ inputs c.args.table.now in record {
       words = ap (λ j. history_words K j c.first_list-number.result) (add-one c.loop-k.k)
-          ∙ shortest_here (machine (c.args.table.now)) K (c.args.pair).layer (c.args.pair).first (c.args.pair).second c.loop-k.k (frames (c.args.table.now) - (c.args.pair).layer) c.first_list-number.result (within) (number_is)
+          ∙ shortest_here (machine c.args.table.now) K c.args.pair.layer c.args.pair.first c.args.pair.second c.loop-k.k (frames c.args.table.now - c.args.pair.layer) c.first_list-number.result within number_is
           (omega (arith, lists-are, c.if-number-rest.true)) c.loop-k.invariant.2;
       few = omega (arith, within);
     }
 
 pub loop-k-preserved : goal.loop-k-preserved
 loop-k-preserved c =
-    let b₀ : List ℕ =
-    c.args.table.now
+    let stands : Laid c.args.table.now c.args.layout =
+    laid c.args.table.now c.args.layout c.requires.0.headed c.requires.1
     in
-    let p₀ : Pair =
-    c.args.pair
+    let lists-are : c.loop-k.rest * c.args.layout.words ≡ (2 ^ inputs c.args.table.now) ^ suc c.loop-k.k =
+    ap₂ ◌*◌ c.loop-k.invariant.1 stands.words_is ∙ sym (pow-suc (2 ^ inputs c.args.table.now) c.loop-k.k)
     in
-    let stands : Laid ((c.args.table.now)) c.args.layout =
-    laid ((c.args.table.now)) c.args.layout c.requires.0.headed c.requires.1
+    let number_is : c.first_list-number.result ≡ first_list (2 ^ inputs c.args.table.now) (machine c.args.table.now) c.args.pair.layer c.args.pair.first c.args.pair.second (suc c.loop-k.k) =
+    c.first_list-number.ensures ∙ ap (first_list (2 ^ inputs c.args.table.now) (machine c.args.table.now) c.args.pair.layer c.args.pair.first c.args.pair.second) (add-one c.loop-k.k)
     in
-    let lists-are : c.loop-k.rest * c.args.layout.words ≡ (2 ^ inputs ((c.args.table.now))) ^ suc c.loop-k.k =
-    ap₂ ◌*◌ c.loop-k.invariant.1 (stands).words_is ∙ sym (pow-suc (2 ^ inputs ((c.args.table.now))) c.loop-k.k)
-    in
-    let number_is : c.first_list-number.result ≡ first_list (2 ^ inputs ((c.args.table.now))) (machine ((c.args.table.now))) ((c.args.pair)).layer ((c.args.pair)).first ((c.args.pair)).second (suc c.loop-k.k) =
-    c.first_list-number.ensures ∙ ap (first_list (2 ^ inputs ((c.args.table.now))) (machine ((c.args.table.now))) ((c.args.pair)).layer ((c.args.pair)).first ((c.args.pair)).second) (add-one c.loop-k.k)
-    in
-    let K = 2 ^ inputs (c.args.table.now) in (
+    let K = 2 ^ inputs c.args.table.now in (
       omega arith,
       lists-are ∙ ap (λ j. K ^ j) (sym (add-one c.loop-k.k)),
-      none_longer (machine (c.args.table.now)) K (c.args.pair).layer (c.args.pair).first (c.args.pair).second c.loop-k.k c.first_list-number.result (number_is) (omega (arith, lists-are, c.if-number-rest.false)) c.loop-k.invariant.2,
+      none_longer (machine c.args.table.now) K c.args.pair.layer c.args.pair.first c.args.pair.second c.loop-k.k c.first_list-number.result number_is (omega (arith, lists-are, c.if-number-rest.false)) c.loop-k.invariant.2,
     )
 
 pub returns : goal.returns
 unfolding distinguishing history_words
 returns c =
-    let b₀ : List ℕ =
-    c.args.table.now
+    let stands : Laid c.args.table.now c.args.layout =
+    laid c.args.table.now c.args.layout c.requires.0.headed c.requires.1
     in
-    let stands : Laid ((c.args.table.now)) c.args.layout =
-    laid ((c.args.table.now)) c.args.layout c.requires.0.headed c.requires.1
-    in
-    let e : c.loop-k.k ≡ frames (c.args.table.now) - (c.args.pair).layer = omega (arith, stands) in record {
-      words = shortest-none (machine (c.args.table.now)) (2 ^ inputs (c.args.table.now)) (c.args.pair).layer (c.args.pair).first (c.args.pair).second (frames (c.args.table.now) - (c.args.pair).layer)
-          (subst (NoneOf (machine (c.args.table.now)) (2 ^ inputs (c.args.table.now)) (c.args.pair).layer (c.args.pair).first (c.args.pair).second) e c.loop-k.invariant.2);
+    let e : c.loop-k.k ≡ frames c.args.table.now - c.args.pair.layer = omega (arith, stands) in record {
+      words = shortest-none (machine c.args.table.now) (2 ^ inputs c.args.table.now) c.args.pair.layer c.args.pair.first c.args.pair.second (frames c.args.table.now - c.args.pair.layer)
+          (subst (NoneOf (machine c.args.table.now) (2 ^ inputs c.args.table.now) c.args.pair.layer c.args.pair.first c.args.pair.second) e c.loop-k.invariant.2);
       few = omega arith;
     }

@@ -3,7 +3,6 @@
 use native.Mathlib.Omega.{arith}
 use lib.ListN.{length-take}
 use Rattle.lent.proofs.Needed.{part_cleared}
-use borrow.Author.Rules.{rules}
 use Rattle.lent.proofs.clear_needed.Goals as goal
 
 pub slice_bounds-clear-end : goal.slice_bounds-clear-end

@@ -4,7 +4,6 @@ use mathlib.Core.Path.{refl}
 use native.Mathlib.Omega.{arith}
 use lib.ListN.{length-take}
 use Rattle.lent.proofs.Needed.{part_cleared, takes_none, takes_all}
-use borrow.Author.Rules.{rules}
 use Rattle.lent.proofs.judge_scratch.Goals as goal
 
 pub returns-then-scratch-needed : goal.returns-then-scratch-needed

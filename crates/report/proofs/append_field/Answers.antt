@@ -18,4 +18,4 @@ bounds-out-end c =
 pub returns : goal.returns
 unfolding field
 returns c =
-    append-then c.append_number-end.ensures (append_byte _ _ _ (slice-write-out c))
+    append-then c.append_number-end.ensures (append_byte _ _ _ (omega (arith, field-length c.args.number c.args.mark)))
