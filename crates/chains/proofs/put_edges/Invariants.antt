@@ -16,7 +16,3 @@ use Rattle.chains.proofs.put_edges.Given as goal
 abbrev pub invariant-loop-e : goal.invariant-loop-e
 invariant-loop-e l =
     (l.e ≤ l.count) × (l.res ≡ gates_stored l.target.gates l.k l.initial.res (listed [] (edge_of l.target.inputs (l.target.base + l.matches) l.states) l.e))
-
-abbrev pub decreases-loop-e : goal.decreases-loop-e
-decreases-loop-e l =
-    l.count - l.e

@@ -16,7 +16,3 @@ use Rattle.chains.proofs.put_match.Given as goal
 abbrev pub invariant-loop-i : goal.invariant-loop-i
 invariant-loop-i l =
     (l.i ≤ l.inputs) × (l.res ≡ gates_stored l.target.gates l.k l.initial.res (chain (l.target.base + l.k) 1 (listed [] (input_literal l.inputs l.t l.w) l.i)))
-
-abbrev pub decreases-loop-i : goal.decreases-loop-i
-decreases-loop-i l =
-    l.inputs - l.i

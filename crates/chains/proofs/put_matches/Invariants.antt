@@ -16,7 +16,3 @@ use Rattle.chains.proofs.put_matches.Given as goal
 abbrev pub invariant-loop-w : goal.invariant-loop-w
 invariant-loop-w l =
     (l.w ≤ l.words) × (l.res ≡ gates_stored l.target.gates l.k l.initial.res (chains_from (l.target.base + l.k) (matching l.target.inputs l.t) l.w))
-
-abbrev pub decreases-loop-w : goal.decreases-loop-w
-decreases-loop-w l =
-    l.words - l.w

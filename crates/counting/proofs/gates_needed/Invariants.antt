@@ -17,7 +17,3 @@ use Rattle.counting.proofs.gates_needed.Given as goal
 abbrev pub invariant-loop-t : goal.invariant-loop-t
 invariant-loop-t l =
     (l.t ≤ l.frames) × (l.gates ≡ total l.t (frame_needs l.table) + l.sizes.outputs * l.frames) × (l.gates ≤ 256 + 536870912 * l.t)
-
-abbrev pub decreases-loop-t : goal.decreases-loop-t
-decreases-loop-t l =
-    l.frames - l.t

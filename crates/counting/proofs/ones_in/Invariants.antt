@@ -13,7 +13,3 @@ use Rattle.counting.proofs.ones_in.Given as goal
 abbrev pub invariant-loop-e : goal.invariant-loop-e
 invariant-loop-e l =
     (l.e ≤ l.entries) × (l.ones ≡ total l.e (λ e'. tally l.count (bit (word_at l.part (2 * e'))))) × (l.ones ≤ 16 * l.e)
-
-abbrev pub decreases-loop-e : goal.decreases-loop-e
-decreases-loop-e l =
-    l.entries - l.e

@@ -12,7 +12,3 @@ use Rattle.counting.proofs.ones_of.Given as goal
 abbrev pub invariant-loop-j : goal.invariant-loop-j
 invariant-loop-j l =
     (l.j ≤ l.count) × (l.ones ≡ tally l.j (bit l.word))
-
-abbrev pub decreases-loop-j : goal.decreases-loop-j
-decreases-loop-j l =
-    l.count - l.j

@@ -28,7 +28,3 @@ abbrev pub invariant-loop-t : goal.invariant-loop-t
 invariant-loop-t l =
     (l.t ≤ l.frames) × (l.k ≡ length (drawing l.table l.t).gates) × (l.res ≡ gates_stored l.target.gates 0 l.initial.res (drawing l.table l.t).gates) × StatesKept l.table l.t l.states
     × (take (l.count * l.t) l.outputs ≡ (drawing l.table l.t).outputs) × (length l.outputs ≡ most_literals)
-
-abbrev pub decreases-loop-t : goal.decreases-loop-t
-decreases-loop-t l =
-    l.frames - l.t

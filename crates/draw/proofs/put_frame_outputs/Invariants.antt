@@ -16,7 +16,3 @@ use Rattle.draw.proofs.put_frame_outputs.Given as goal
 abbrev pub invariant-loop-j : goal.invariant-loop-j
 invariant-loop-j l =
     (l.j ≤ l.count) × (l.res ≡ gates_stored l.target.gates l.k l.initial.res (listed [] (gate_in l.connected l.from l.literals) l.j))
-
-abbrev pub decreases-loop-j : goal.decreases-loop-j
-decreases-loop-j l =
-    l.count - l.j

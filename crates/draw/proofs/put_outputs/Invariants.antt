@@ -19,7 +19,3 @@ use Rattle.draw.proofs.put_outputs.Given as goal
 abbrev pub invariant-loop-t : goal.invariant-loop-t
 invariant-loop-t l =
     (l.t ≤ l.last) × (l.res ≡ gates_stored l.target.gates l.k l.initial.res (listed [] (gate_of l.table l.literals) (outputs l.table * l.t)))
-
-abbrev pub decreases-loop-t : goal.decreases-loop-t
-decreases-loop-t l =
-    l.last - l.t

@@ -18,7 +18,3 @@ abbrev pub invariant-loop-e : goal.invariant-loop-e
 invariant-loop-e l =
     (l.e ≤ l.count) × (l.end ≡ l.k + length (inverted_edges l.edges (belongs l.key l.entries l.i) l.e))
     × (l.res ≡ gates_stored l.target.gates l.k l.initial.res (chain (l.target.base + l.k) 1 (inverted_edges l.edges (belongs l.key l.entries l.i) l.e)))
-
-abbrev pub decreases-loop-e : goal.decreases-loop-e
-decreases-loop-e l =
-    l.count - l.e

@@ -18,7 +18,3 @@ abbrev pub invariant-loop-i : goal.invariant-loop-i
 invariant-loop-i l =
     (l.i ≤ l.count) × (l.end ≡ l.k + length (gather_gates l.target l.gathering l.entries l.k l.i)) × (l.res ≡ gates_stored l.target.gates l.k l.initial.res (gather_gates l.target l.gathering l.entries l.k l.i))
     × (length l.literals ≡ l.count) × (take l.i l.literals ≡ gather_literals l.target l.gathering l.entries l.k l.i)
-
-abbrev pub decreases-loop-i : goal.decreases-loop-i
-decreases-loop-i l =
-    l.count - l.i

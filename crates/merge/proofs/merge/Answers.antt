@@ -1,14 +1,13 @@
 -- `merge::merge` meets its contract: each return is a case of the definition.
 -- Assumes nothing.
 use mathlib.Core.Path.{◌≡◌, sym, ap, subst}
-use mathlib.Core.List.{List}
-use Prim.Native.Nat.{ℕ, ◌+◌, ◌*◌, ◌≤◌, ◌<◌}
+use Prim.Native.Nat.{◌+◌, ◌*◌, ◌≤◌, ◌<◌}
 use native.Mathlib.Nat.{mul-le-mul_right}
 use native.Mathlib.Omega.{arith}
 use lib.ListN.{length}
 use lib.Pow.{pow_mono}
 use Rattle.verdict.proofs.Laws.{accepts}
-use Rattle.sizes.specs.Sizes.{inputs, outputs}
+use Rattle.sizes.specs.Sizes.{inputs}
 use Rattle.sizes.specs.declared.Sizes.{Sizes}
 use Rattle.table.specs.Sound.{Sound, layout_of}
 use Rattle.table.specs.declared.Layout.{Layout}
@@ -20,7 +19,6 @@ use Rattle.merge.specs.Found.{FewestOf}
 use Rattle.merge.specs.declared.Fewest.{Fewest}
 use Rattle.merge.proofs.Bytes.{bytes-length, words-found, words_left}
 use Rattle.merge.proofs.Outcomes.{narrow_few, narrow_refused, table_refused, unmatched, short, accepted}
-use borrow.Author.Rules.{rules}
 use Rattle.merge.proofs.merge.Goals as goal
 use Rattle.merge.proofs.merge.Goals.{In-Accepted-judged}
 

@@ -4,7 +4,7 @@ use mathlib.Core.Path.{◌≡◌, refl}
 use Prim.Native.Nat.{ℕ, ◌+◌, ◌*◌, ◌-◌, ◌/◌, ◌^◌, ◌≤◌, ◌<◌}
 use native.Mathlib.Nat.{div-le_self}
 use native.Mathlib.Omega.{arith}
-use Rattle.trial.proofs.Following.{Along, Turn, shift_small, along_start, along_next, along_end, turn}
+use Rattle.trial.proofs.Following.{Turn, shift_small, along_start, along_next, along_end, turn}
 use Rattle.trial.proofs.follow.Goals as goal
 use Rattle.trial.proofs.follow.Goals.{then-used-entry, else-used-entry}
 
