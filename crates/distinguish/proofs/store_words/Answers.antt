@@ -24,10 +24,6 @@ pub loop-left-init : goal.loop-left-init
 loop-left-init c =
     (omega arith, refl, refl)
 
--- TODO no new goal for overflow-cast-result
--- cast-result c =
--- omega (arith, mod-lt c.loop-left.number c.requires.0)
-
 pub loop-left-preserved : goal.loop-left-preserved
 loop-left-preserved c =
     let e : suc (c.loop-left.left - 1) ≡ c.loop-left.left = omega arith in (
