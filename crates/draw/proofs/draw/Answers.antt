@@ -3,7 +3,7 @@
 -- Assumes nothing.
 use mathlib.Core.Path.{◌≡◌, refl, sym, ap, ap₂, subst, ◌∙◌}
 use mathlib.Core.List.{List, []}
-use Prim.Native.Nat.{ℕ, suc, ◌+◌, ◌*◌, ◌-◌, ◌≤◌, ◌<◌}
+use Prim.Native.Nat.{ℕ, suc, ◌+◌, ◌*◌, ◌≤◌, ◌<◌}
 use native.Mathlib.Nat.{mul-zero, mul-suc, mul-le-mul, le_trans}
 use native.Mathlib.Numerals.{add-one}
 use native.Mathlib.Omega.{arith}
@@ -17,7 +17,7 @@ use Rattle.unfolded.specs.Unfolded.{out_literal, frame_gates, drawing, drawn, ga
 use Rattle.unfolded.proofs.Drawings.{drawn-length}
 use Rattle.chains.specs.Chains.{Fits, target_of, gates_stored}
 use Rattle.chains.specs.declared.Target.{Target}
-use Rattle.chains.proofs.Stored.{gates-none, gates-length, fits_still}
+use Rattle.chains.proofs.Stored.{gates-none, fits_still}
 use Rattle.draw.specs.Limits.{most_literals}
 use Rattle.draw.specs.Draw.{frame_at, StatesKept}
 use Rattle.draw.specs.declared.Source.{Source}

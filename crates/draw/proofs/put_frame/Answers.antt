@@ -17,7 +17,7 @@ use Rattle.unfolded.specs.Unfolded.{chains_from, matching, Frame, match_gates, e
 use Rattle.unfolded.proofs.Counts.{edge_count, frame_count}
 use Rattle.chains.specs.Chains.{Fits, target_of, gates_stored, edge_of}
 use Rattle.chains.specs.declared.Target.{Target}
-use Rattle.chains.proofs.Stored.{gates-length, fits_still}
+use Rattle.chains.proofs.Stored.{fits_still}
 use Rattle.gathers.specs.Gathers.{gather_gates, gather_literals}
 use Rattle.gathers.specs.declared.Key.TheVariants.{NextState, OutputBit}
 use Rattle.gathers.specs.declared.Gathering.{Gathering}

@@ -2,7 +2,7 @@
 -- Assumes nothing.
 use mathlib.Core.Path.{◌≡◌, sym, ap, ◌∙◌}
 use mathlib.Core.List.{List, []}
-use Prim.Native.Nat.{ℕ, ◌+◌, ◌*◌, ◌-◌, ◌≤◌, ◌<◌}
+use Prim.Native.Nat.{ℕ, ◌+◌, ◌*◌, ◌≤◌, ◌<◌}
 use native.Mathlib.Nat.{mul-suc, mul-zero, mul-le-mul_left}
 use native.Mathlib.Omega.{arith}
 use lib.ListN.{length}
@@ -12,7 +12,7 @@ use Rattle.circuit.proofs.Lists.{listed-length}
 use Rattle.table.proofs.Offsets.{Laid, laid, head_length_lem}
 use Rattle.chains.specs.Chains.{gates_stored}
 use Rattle.chains.specs.declared.Target.{Target}
-use Rattle.chains.proofs.Stored.{gates-none, gates-length, fits_still}
+use Rattle.chains.proofs.Stored.{gates-none, fits_still}
 use Rattle.draw.proofs.Outputs.{gate_of, frame_stored}
 use Rattle.draw.proofs.put_outputs.Goals as goal
 

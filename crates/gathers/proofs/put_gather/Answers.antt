@@ -3,13 +3,13 @@
 use mathlib.Core.Path.{◌≡◌, refl, sym, ap, ◌∙◌}
 use mathlib.Core.Bool.{Bool, true}
 use mathlib.Core.List.{List}
-use Prim.Native.Nat.{ℕ, ◌+◌, ◌*◌, ◌-◌, ◌/◌, ◌≤◌}
+use Prim.Native.Nat.{ℕ, ◌+◌, ◌*◌, ◌/◌, ◌≤◌}
 use native.Mathlib.Omega.{arith}
 use lib.ListN.{length}
 use Rattle.unfolded.specs.Unfolded.{chain, inverted_edges}
 use Rattle.unfolded.proofs.Gates.{chain_length}
 use Rattle.chains.specs.Chains.{gates_stored}
-use Rattle.chains.proofs.Stored.{gates-none, gates-length, fits_still, chain_more}
+use Rattle.chains.proofs.Stored.{gates-none, fits_still, chain_more}
 use Rattle.gathers.specs.Gathers.{chosen, gather_edges}
 use Rattle.gathers.proofs.Edges.{belongs, edge_taken, edge_passed, taken_length, edges_most, edge_room, all_edges}
 use Rattle.gathers.proofs.put_gather.Goals as goal

@@ -2,16 +2,16 @@
 -- Assumes nothing.
 use mathlib.Core.Path.{◌≡◌, refl, sym, ap, ◌∙◌}
 use mathlib.Core.List.{List, []}
-use Prim.Native.Nat.{ℕ, ◌+◌, ◌-◌, ◌≤◌, ◌<◌}
+use Prim.Native.Nat.{ℕ, ◌+◌, ◌≤◌, ◌<◌}
 use native.Mathlib.Omega.{arith}
-use lib.ListN.{length, take, length-set}
+use lib.ListN.{length, length-set}
 use lib.Seq.{take_all}
 use Rattle.circuit.specs.Lists.{grown, listed}
 use Rattle.circuit.proofs.Laws.{fill_grown}
 use Rattle.unfolded.specs.Unfolded.{inverted, chains_from, ending}
 use Rattle.chains.specs.Chains.{gates_stored}
-use Rattle.chains.proofs.Stored.{gates-none, gates-length, fits_still, chains_next, chains_longer, chains_room, chains_most, ending_is}
-use Rattle.gathers.specs.Gathers.{gather_edges, gather_gates, gather_literals}
+use Rattle.chains.proofs.Stored.{gates-none, fits_still, chains_next, chains_longer, chains_room, chains_most, ending_is}
+use Rattle.gathers.specs.Gathers.{gather_edges}
 use Rattle.gathers.proofs.put_gathers.Goals as goal
 
 pub loop-i-init : goal.loop-i-init
