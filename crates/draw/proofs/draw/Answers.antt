@@ -104,25 +104,6 @@ offset_bounds-outputs-from c =
     in
     omega (arith, places)
 
--- TODO no new goal for slice-bounds-outputs-end
--- part-outputs-end c =
---     let b₀ : List ℕ =
---         c.args.table.now
---     in
---     let fit : Fits c.args.target c.args.res.now =
---         c.requires.target_value.1
---     in
---     let frames_are : c.args.layout.frames ≡ framesOf ((c.args.table.now)) =
---         (laid ((c.args.table.now)) c.args.layout c.requires.sound.headed c.requires.layout_value).frames_is
---     in
---     let early : c.loop-t.t < framesOf ((c.args.table.now)) =
---         omega (arith, c.loop-t-test.true, frames_are)
---     in
---     let places : c.args.target.outputs * c.loop-t.t + c.args.target.outputs ≤ most_literals =
---         omega (arith, mul-suc c.args.target.outputs c.loop-t.t, mul-le-mul (fit).outputs-to (le_trans (early) c.requires.sound.headed.sized.frames-to))
---     in
--- omega (arith, places, c.loop-t.invariant.5)
-
 pub put_frame-k-requires : goal.put_frame-k-requires
 unfolding gates_needed
 put_frame-k-requires c =
