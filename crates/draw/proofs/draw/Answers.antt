@@ -38,9 +38,6 @@ loop-t-init c =
 
 pub read-source-requires : goal.read-source-requires
 read-source-requires c =
-    let b₀ : List ℕ =
-    c.args.table.now
-    in
     let frames_are : c.args.layout.frames ≡ framesOf ((c.args.table.now)) =
     (laid ((c.args.table.now)) c.args.layout c.requires.sound.headed c.requires.layout_value).frames_is
     in
@@ -54,9 +51,6 @@ read-source-requires c =
 
 pub overflow_mul-from : goal.overflow_mul-from
 overflow_mul-from c =
-    let b₀ : List ℕ =
-    c.args.table.now
-    in
     let fit : Fits c.args.target c.args.res.now =
     c.requires.target_value.1
     in
@@ -73,9 +67,6 @@ overflow_mul-from c =
 
 pub overflow_add-to : goal.overflow_add-to
 overflow_add-to c =
-    let b₀ : List ℕ =
-    c.args.table.now
-    in
     let fit : Fits c.args.target c.args.res.now =
     c.requires.target_value.1
     in
@@ -116,9 +107,6 @@ offset_bounds-outputs-from c =
 pub put_frame-k-requires : goal.put_frame-k-requires
 unfolding gates_needed
 put_frame-k-requires c =
-    let b₀ : List ℕ =
-    c.args.table.now
-    in
     let aim : c.args.target ≡ target_of ((c.args.table.now)) =
     c.requires.target_value.0
     in
@@ -159,9 +147,6 @@ put_frame-k-requires c =
 
 pub overflow_step-t : goal.overflow_step-t
 overflow_step-t c =
-    let b₀ : List ℕ =
-    c.args.table.now
-    in
     let frames_are : c.args.layout.frames ≡ framesOf ((c.args.table.now)) =
     (laid ((c.args.table.now)) c.args.layout c.requires.sound.headed c.requires.layout_value).frames_is
     in
@@ -173,9 +158,6 @@ overflow_step-t c =
 pub loop-t-preserved : goal.loop-t-preserved
 unfolding gates_needed
 loop-t-preserved c =
-    let b₀ : List ℕ =
-    c.args.table.now
-    in
     let aim : c.args.target ≡ target_of ((c.args.table.now)) =
     c.requires.target_value.0
     in
@@ -229,9 +211,6 @@ slice_bounds-put_outputs-end c =
 pub put_outputs-requires : goal.put_outputs-requires
 unfolding gates_needed
 put_outputs-requires c =
-    let b₀ : List ℕ =
-    c.args.table.now
-    in
     let aim : c.args.target ≡ target_of ((c.args.table.now)) =
     c.requires.target_value.0
     in
@@ -278,9 +257,6 @@ put_outputs-requires c =
 pub returns : goal.returns
 unfolding gates_needed
 returns c =
-    let b₀ : List ℕ =
-    c.args.table.now
-    in
     let aim : c.args.target ≡ target_of ((c.args.table.now)) =
     c.requires.target_value.0
     in
