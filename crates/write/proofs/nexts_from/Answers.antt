@@ -48,6 +48,10 @@ pub returns : goal.returns
 returns c =
     summed _ _ _ _ c.loop-t.t c.head_length.ensures (omega (arith, c.loop-t.invariant.0)) c.loop-t.invariant.1
 
+pub overflow_mul-result : goal.overflow_mul-result
+overflow_mul-result c =
+    omega (arith, entries_few _ c.requires.0 _ _ c.loop-t.invariant.0 c.loop-t.invariant.2)
+
 pub overflow_mul-result-2 : goal.overflow_mul-result-2
 overflow_mul-result-2 c =
     omega (arith, entries_few _ c.requires.0 _ _ c.loop-t.invariant.0 c.loop-t.invariant.2)
