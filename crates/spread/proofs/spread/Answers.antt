@@ -1,6 +1,6 @@
 -- `spread::spread` meets its contract: what the judgement refuses, and else what the fold of the network's source answers and leaves, by proofs/Ended.
 -- Assumes nothing.
-use mathlib.Core.Path.{◌≡◌, refl, sym, subst, ◌∙◌}
+use mathlib.Core.Path.{◌≡◌, sym, subst, ◌∙◌}
 use mathlib.Core.Bool.{Bool, true, false}
 use mathlib.Core.List.{List}
 use Prim.Native.Nat.{ℕ}
