@@ -1,8 +1,8 @@
 /* Folds a circuit, read from standard input, and prints for each two states of a layer the words that tell them
  * apart: fed from either state, they give the same outputs but at the last word.
  *
- *   rt staticlib tff
- *   cc -Iinclude examples/distinguish.c -Ltarget/staticlib -ltff -o target/distinguish
+ *   (cd crates/tff && rt lib) && mkdir -p target
+ *   cc -Iinclude examples/distinguish.c -Lcrates/tff/out -ltff -o target/distinguish
  *   target/distinguish < examples/s27.circuit
  */
 #include <stdio.h>

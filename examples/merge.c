@@ -1,8 +1,8 @@
 /* Folds a circuit, read from standard input, merges its frames into one machine, and prints the machine's entries: an
  * output word and a next state for each state and input word, the same in every frame. The adder takes two states:
  *
- *   rt staticlib tff
- *   cc -Iinclude examples/merge.c -Ltarget/staticlib -ltff -o target/merge
+ *   (cd crates/tff && rt lib) && mkdir -p target
+ *   cc -Iinclude examples/merge.c -Lcrates/tff/out -ltff -o target/merge
  *   target/merge < examples/unconnected_adder.circuit
  */
 #include <stdio.h>

@@ -1,8 +1,8 @@
 /* Asks for parity's plan, folds as planned, reads the table aloud, prices it, counts the histories that reach its
  * states, steps it, and draws gates from it. docs/EXAMPLE.md walks through it.
  *
- *   rt staticlib tff
- *   cc -Iinclude examples/parity.c -Ltarget/staticlib -ltff -o target/parity && target/parity
+ *   (cd crates/tff && rt lib) && mkdir -p target
+ *   cc -Iinclude examples/parity.c -Lcrates/tff/out -ltff -o target/parity && target/parity
  */
 #include <stdio.h>
 

@@ -1,8 +1,8 @@
 /* A board through a night: a table that counts modulo 4 is stepped every hour from Sunday evening on. In quiet hours
  * its output is 0, and it counts on.
  *
- *   rt staticlib tff
- *   cc -Iinclude examples/quiet.c -Ltarget/staticlib -ltff -o target/quiet && target/quiet
+ *   (cd crates/tff && rt lib) && mkdir -p target
+ *   cc -Iinclude examples/quiet.c -Lcrates/tff/out -ltff -o target/quiet && target/quiet
  */
 #include <stdio.h>
 

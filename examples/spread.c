@@ -2,8 +2,8 @@
  * folds to. The arguments are n, m and T, then the places of its inputs and those of its outputs. With the lists of
  * example 4.2 in source document 001, the adder is fed one bit of both numbers a frame:
  *
- *   rt staticlib tff
- *   cc -Iinclude examples/spread.c -Ltarget/staticlib -ltff -o target/spread
+ *   (cd crates/tff && rt lib) && mkdir -p target
+ *   cc -Iinclude examples/spread.c -Lcrates/tff/out -ltff -o target/spread
  *   target/spread 2 2 3 0,2,4,1,3,5 0,2,4,5 < examples/plain_adder.circuit
  */
 #include <stdio.h>

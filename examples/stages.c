@@ -1,8 +1,8 @@
 /* Folds the first frames of a circuit, read from standard input: one frame, two, and so on up to all. Prints the states of
  * each layer and what the table costs. Fewer frames have at no layer more states, and never cost more:
  *
- *   rt staticlib tff
- *   cc -Iinclude examples/stages.c -Ltarget/staticlib -ltff -o target/stages
+ *   (cd crates/tff && rt lib) && mkdir -p target
+ *   cc -Iinclude examples/stages.c -Lcrates/tff/out -ltff -o target/stages
  *   target/stages < examples/s27.circuit
  */
 #include <stdio.h>

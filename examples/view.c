@@ -2,8 +2,8 @@
  * 1, 0. Through a mask without the lock only the lamp is seen; and the output words of each layer are read where they
  * stand in the table.
  *
- *   rt staticlib tff
- *   cc -Iinclude examples/view.c -Ltarget/staticlib -ltff -o target/view && target/view
+ *   (cd crates/tff && rt lib) && mkdir -p target
+ *   cc -Iinclude examples/view.c -Lcrates/tff/out -ltff -o target/view && target/view
  */
 #include <stdio.h>
 

@@ -1,3 +1,3 @@
--- The proofs of `ask`: laws by subject, lowest first, then a module for each callee, and a call of it.
+-- The proofs of `ask`: laws by subject, lowest first.
 pub mod Plans
 pub mod Answered

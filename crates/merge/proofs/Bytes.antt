@@ -99,6 +99,6 @@ module _ (b : List ℕ) (r : Fewest) (F : FewestOf b r) (few : r.states ≤ most
 pub words_left : (b before after ws : List ℕ) (bytes : ℕ) → after ≡ stored 2 before 0 ws → ws ≡ machine_words b (first_machine (target b)) → bytes ≡ length (merge_bytes b)
     → after ≡ merge_bytes b ++ drop bytes before
 unfolding merge_bytes word_bytes
-words_left b before after ws bytes e w n =
+words_left b before after ws _ e w n =
     let m = machine_words b (first_machine (target b)) in
     e ∙ ap (stored 2 before 0) w ∙ stored_front 2 before m ∙ ap (λ k. all_bytes 2 m ++ drop k before) (sym (all_bytes-length 2 m) ∙ sym n)

@@ -1,7 +1,7 @@
 -- The statements of specs/Theorems. Assumes nothing.
-use mathlib.Core.Path.{◌≡◌, sym, ◌∙◌, subst, subst⁻¹, subst₂, subst₃}
+use mathlib.Core.Path.{◌≡◌, sym, ◌∙◌, subst, subst₂, subst₃}
 use mathlib.Core.List.{List}
-use Prim.Native.Nat.{ℕ, ◌^◌, ◌≤◌, ◌<◌}
+use Prim.Native.Nat.{ℕ, ◌^◌, ◌<◌}
 use native.Mathlib.Omega.{arith}
 use lib.ListN.{take}
 use lib.Pow.{pow_pos}
@@ -15,7 +15,7 @@ use Rattle.folded.specs.Theorems.{Folding, Canonical, Foldings}
 use Rattle.folded.proofs.Theorems.{foldings}
 use Rattle.price.proofs.Theorems.{costs_no_less}
 use Rattle.prefix.specs.FirstFrames.{FirstFrames}
-use Rattle.prefix.specs.Theorems.{Stage, Stages, FoldedStages, OneTable}
+use Rattle.prefix.specs.Theorems.{Stages, FoldedStages, OneTable}
 use Rattle.prefix.proofs.Classes.{first-outputs, one_state, unions, no_more_states}
 
 pub stages : Stages

@@ -18,7 +18,7 @@ pub struct Sizes {
     pub frames: usize,
 }
 
-// The limits on them: of n, of m, of T, and of typeof.n.T.
+// The limits on them: of n, of m, of T, and of n·T.
 #[derive(Drop)]
 pub struct Limits;
 

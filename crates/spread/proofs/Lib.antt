@@ -1,2 +1,2 @@
--- The proofs of `spread`: laws by subject, lowest first, and a module for each callee.
+-- The proofs of `spread`: laws of what it answers and leaves.
 pub mod Ended

@@ -19,7 +19,6 @@ use Rattle.conjoin.specs.declared.Shape.{Shape}
 use Rattle.build.specs.Build.{Signals, Buildable, Building}
 use Rattle.build.proofs.Turn.{same_built}
 use Rattle.explore.specs.Explore.{Explored, CountsTo, Explorable, Ended, Ends}
-use Rattle.explore.proofs.Begin.{zeros}
 use Rattle.explore.specs.declared.Layout.{Layout}
 use Rattle.explore.specs.declared.Cursor.{Cursor}
 use Rattle.survey.specs.Survey.{most_records, ShapeOf, LayoutOf, subject_of, Surveyable, Known, Surveyed}

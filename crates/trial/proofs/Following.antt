@@ -7,7 +7,7 @@ use native.Mathlib.Omega.{arith}
 use lib.ListN.{length, get_or}
 use Rattle.words.specs.Words.{word_at}
 use Rattle.layered.proofs.Rows.{pow-mul}
-use Rattle.table.specs.Table.{states, machine}
+use Rattle.table.specs.Table.{states}
 use Rattle.merged.specs.Merged.{Target}
 use Rattle.merged.specs.Demands.{target_after, state_after, Within}
 use Rattle.merged.proofs.Histories.{word_below, before_below, target_more, state_more, within_more, within_longer}

@@ -1,6 +1,6 @@
 -- Lists of literals below a bound.
 use mathlib.Core.List.{List, [], ◌∷◌, ◌++◌}
-use Prim.Native.Nat.{ℕ, zero, suc, ◌+◌, ◌≤◌, ◌<◌}
+use Prim.Native.Nat.{ℕ, zero, suc, ◌≤◌, ◌<◌}
 use native.Mathlib.Nat.{le-suc, le_trans, le_refl}
 use native.Mathlib.Omega.{arith}
 use lib.ListN.{length, get_or}

@@ -103,7 +103,7 @@ pub struct LayerOutputs<'a> {
 pub fn layer_outputs<'a>(table: &'a [u8], layer: usize) -> LayerOutputs<'a>
     ensures verdict { figures result.verdict ≡ layer_checked table.now layer }
     ensures part { result.part.now ≡ layer_outputs table.now layer }
-    ensures own { result.part.ptr ≡ behind (located table.now layer).offset table.entry.ref_ptr }
+    ensures own { result.part.ref_ptr ≡ behind (located table.now layer).offset table.entry.ref_ptr }
     ensures tells { LayerTells table.now layer }
     ensures joins { LayersJoin table.now }
 {

@@ -1,5 +1,4 @@
 use Rattle.ask.proofs.Answered.{accepted_not, refused_as}
-use borrow.Author.Rules.{rules}
 use Rattle.ask.proofs.refused.Goals as goal
 
 pub returns-in-Accepted : goal.returns-in-Accepted

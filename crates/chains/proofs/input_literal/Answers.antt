@@ -2,7 +2,6 @@
 -- Assumes nothing.
 use mathlib.Core.Path.{sym, ◌∙◌}
 use native.Mathlib.Omega.{arith}
-use borrow.Author.Rules.{rules}
 use Rattle.chains.proofs.Laws.{few_inputs, plain_input, inverted_input}
 use Rattle.chains.proofs.input_literal.Goals as goal
 

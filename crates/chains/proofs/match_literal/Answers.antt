@@ -1,7 +1,6 @@
 -- `chains::match_literal` meets its contract.
 -- Assumes nothing.
 use native.Mathlib.Omega.{arith}
-use borrow.Author.Rules.{rules}
 use Rattle.chains.specs.Chains.{match_of}
 use Rattle.chains.proofs.Laws.{few_matches}
 use Rattle.chains.proofs.match_literal.Goals as goal

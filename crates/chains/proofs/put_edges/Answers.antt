@@ -2,7 +2,7 @@
 -- Assumes nothing.
 use mathlib.Core.Path.{◌≡◌, sym, ap, ◌∙◌}
 use mathlib.Core.List.{[]}
-use Prim.Native.Nat.{ℕ, ◌+◌, ◌-◌, ◌/◌, ◌≤◌}
+use Prim.Native.Nat.{ℕ, ◌+◌, ◌/◌, ◌≤◌}
 use native.Mathlib.Nat.{mod-lt, div-le_self, div-lt_iff_lt-mul}
 use native.Mathlib.Omega.{arith}
 use lib.ListN.{length}
@@ -10,7 +10,7 @@ use Rattle.circuit.specs.Lists.{grown, listed}
 use Rattle.circuit.proofs.Lists.{listed-length}
 use Rattle.chains.specs.Chains.{gates_stored, edge_of}
 use Rattle.chains.proofs.Laws.{words_from, words-to, edge_is}
-use Rattle.chains.proofs.Stored.{gates-none, gates-length, fits_still, each_more}
+use Rattle.chains.proofs.Stored.{gates-none, fits_still, each_more}
 use Rattle.chains.proofs.put_edges.Goals as goal
 
 pub loop-e-init : goal.loop-e-init
@@ -65,9 +65,6 @@ overflow_add-k c =
 
 pub put_gate-requires : goal.put_gate-requires
 put_gate-requires c =
-    let edges : ℕ → ℕ × ℕ =
-    edge_of c.args.target.inputs (c.args.target.base + c.args.matches) c.args.states.now
-    in
     let within : c.args.k + length (listed [] ((edge_of c.args.target.inputs (c.args.target.base + c.args.matches) c.args.states.now)) c.loop-e.e) ≤ c.args.target.gates =
     omega (arith, listed-length ((edge_of c.args.target.inputs (c.args.target.base + c.args.matches) c.args.states.now)) c.loop-e.e, c.loop-e.invariant.0, c.requires.matches_le_k)
     in

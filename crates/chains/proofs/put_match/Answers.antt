@@ -2,7 +2,7 @@
 -- Assumes nothing.
 use mathlib.Core.Path.{◌≡◌, sym, ap, ◌∙◌}
 use mathlib.Core.List.{[]}
-use Prim.Native.Nat.{ℕ, ◌+◌, ◌-◌, ◌≤◌}
+use Prim.Native.Nat.{ℕ, ◌+◌, ◌≤◌}
 use native.Mathlib.Omega.{arith}
 use lib.ListN.{length}
 use Rattle.circuit.specs.Lists.{grown, listed}
@@ -10,7 +10,7 @@ use Rattle.unfolded.specs.Unfolded.{chain, input_literal, matching}
 use Rattle.circuit.proofs.Lists.{listed-length, listed_more}
 use Rattle.unfolded.proofs.Gates.{chain_length}
 use Rattle.chains.specs.Chains.{gates_stored}
-use Rattle.chains.proofs.Stored.{gates-none, gates-length, fits_still, chain_more}
+use Rattle.chains.proofs.Stored.{gates-none, fits_still, chain_more}
 use Rattle.chains.proofs.put_match.Goals as goal
 
 pub loop-i-init : goal.loop-i-init

@@ -1,22 +1,13 @@
 -- `chains::put_match` meets its contract. The invariant: the chain's first i gates are stored.
 -- Assumes nothing.
-use mathlib.Core.Path.{◌≡◌, sym, ap, ◌∙◌}
+use mathlib.Core.Path.{◌≡◌}
 use mathlib.Core.List.{[]}
-use Prim.Native.Nat.{ℕ, ◌+◌, ◌-◌, ◌≤◌}
-use native.Mathlib.Omega.{arith}
-use lib.ListN.{length}
-use Rattle.circuit.specs.Lists.{grown, listed}
-use Rattle.unfolded.specs.Unfolded.{chain, input_literal, matching}
-use Rattle.circuit.proofs.Lists.{listed-length, listed_more}
-use Rattle.unfolded.proofs.Gates.{chain_length}
+use Prim.Native.Nat.{◌+◌, ◌≤◌}
+use Rattle.circuit.specs.Lists.{listed}
+use Rattle.unfolded.specs.Unfolded.{chain, input_literal}
 use Rattle.chains.specs.Chains.{gates_stored}
-use Rattle.chains.proofs.Stored.{gates-none, gates-length, fits_still, chain_more}
 use Rattle.chains.proofs.put_match.Given as goal
 
 abbrev pub invariant-loop-i : goal.invariant-loop-i
 invariant-loop-i l =
     (l.i ≤ l.inputs) × (l.res ≡ gates_stored l.target.gates l.k l.initial.res (chain (l.target.base + l.k) 1 (listed [] (input_literal l.inputs l.t l.w) l.i)))
-
-abbrev pub decreases-loop-i : goal.decreases-loop-i
-decreases-loop-i l =
-    l.inputs - l.i

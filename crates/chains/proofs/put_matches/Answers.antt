@@ -2,7 +2,7 @@
 -- Assumes nothing.
 use mathlib.Core.Path.{◌≡◌, refl, sym, ap, ◌∙◌}
 use mathlib.Core.List.{List}
-use Prim.Native.Nat.{ℕ, ◌+◌, ◌*◌, ◌-◌, ◌≤◌}
+use Prim.Native.Nat.{ℕ, ◌+◌, ◌*◌, ◌≤◌}
 use native.Mathlib.Nat.{mul-le-mul_right}
 use native.Mathlib.Omega.{arith}
 use lib.ListN.{length}
@@ -10,7 +10,7 @@ use Rattle.unfolded.specs.Unfolded.{chains_from, matching}
 use Rattle.unfolded.proofs.Counts.{matches-length}
 use Rattle.chains.specs.Chains.{gates_stored}
 use Rattle.chains.proofs.Laws.{words-to, match_room, match_length}
-use Rattle.chains.proofs.Stored.{gates-none, gates-length, fits_still, chains_next}
+use Rattle.chains.proofs.Stored.{gates-none, fits_still, chains_next}
 use Rattle.chains.proofs.put_matches.Goals as goal
 
 pub loop-w-init : goal.loop-w-init

@@ -1,7 +1,7 @@
 -- `circuit::check_first` meets its contract. The invariant: what the definition says of all literals is what it says of those from g on.
 -- Assumes nothing.
 use mathlib.Core.Path.{◌≡◌, sym, ap, ◌∙◌}
-use Prim.Native.Nat.{◌-◌, ◌≤◌}
+use Prim.Native.Nat.{◌-◌}
 use native.Mathlib.Omega.{arith}
 use Rattle.verdict.proofs.Laws.{first_here, first_later, first-none}
 use Rattle.circuit.specs.Circuit.{literal_at, literals_from}

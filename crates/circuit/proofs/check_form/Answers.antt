@@ -9,7 +9,6 @@ use Rattle.verdict.proofs.Laws.{stop, go_on, accepts}
 use Rattle.circuit.specs.Circuit.{lefts_at, rights_at, literals_checked, form_within}
 use Rattle.circuit.specs.WellFormed.{CircuitHeaded, HeadOf}
 use Rattle.circuit.proofs.Accepted.{headed}
-use borrow.Author.Rules.{rules}
 use Rattle.circuit.proofs.check_form.Goals as goal
 
 pub returns-in_default : goal.returns-in_default

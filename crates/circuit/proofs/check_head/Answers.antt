@@ -3,7 +3,6 @@
 use mathlib.Core.Path.{sym, ◌∙◌}
 use native.Mathlib.Omega.{arith}
 use Rattle.circuit.proofs.Stages.{head_short, head_sizes, product_small, head_long, head_gates, head_length_lem, head_whole}
-use borrow.Author.Rules.{rules}
 use Rattle.circuit.proofs.check_head.Goals as goal
 
 pub returns-then-length-lt-HEAD : goal.returns-then-length-lt-HEAD

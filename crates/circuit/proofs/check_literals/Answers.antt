@@ -6,7 +6,6 @@ use Rattle.verdict.proofs.Laws.{stop, go_on}
 use Rattle.layered.proofs.Search.{least_tells}
 use Rattle.circuit.specs.Circuit.{gates, unconnected}
 use Rattle.circuit.proofs.Literals.{first_inside, literals_parts}
-use borrow.Author.Rules.{rules}
 use Rattle.circuit.proofs.check_literals.Goals as goal
 
 pub check_first-before-requires : goal.check_first-before-requires

@@ -4,7 +4,6 @@ use mathlib.Core.Path.{◌≡◌, sym, ap, ◌∙◌}
 use mathlib.Core.Bool.{not}
 use Prim.Native.Nat.{◌+◌, ◌-◌, ◌/◌}
 use native.Mathlib.Omega.{arith}
-use borrow.Author.Rules.{rules}
 use Rattle.circuit.specs.Circuit.{all_inputs, unconnected}
 use Rattle.circuit.proofs.Literals.{beyond, of_inner, of_gate}
 use Rattle.circuit.proofs.is_admissible.Goals as goal

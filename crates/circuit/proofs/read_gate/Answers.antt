@@ -1,7 +1,6 @@
 -- `circuit::read_gate` meets its contract.
 -- Assumes nothing.
 use mathlib.Core.Path.{refl, sym, ap, ◌∙◌}
-use borrow.Author.Rules.{rules}
 use Rattle.circuit.specs.declared.Gate.{Gate}
 use Rattle.circuit.proofs.Literals.{gate_marked, gate_connected}
 use Rattle.circuit.proofs.read_gate.Goals as goal

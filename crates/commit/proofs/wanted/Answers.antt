@@ -4,7 +4,6 @@ use mathlib.Core.Path.{subst}
 use mathlib.Core.List.{List}
 use Prim.Native.Nat.{ℕ}
 use Rattle.admit.specs.Admit.{WantedOf}
-use borrow.Author.Rules.{rules}
 use Rattle.commit.proofs.wanted.Goals as goal
 
 pub returns : goal.returns

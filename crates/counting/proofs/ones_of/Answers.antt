@@ -1,7 +1,7 @@
 -- `counting::ones_of` meets its contract. The invariant: the bits 1 so far are counted.
 -- Assumes nothing.
 use mathlib.Core.Path.{◌≡◌, sym, ap, ◌∙◌}
-use Prim.Native.Nat.{ℕ, ◌-◌, ◌≤◌}
+use Prim.Native.Nat.{ℕ, ◌≤◌}
 use native.Mathlib.Omega.{arith}
 use Rattle.circuit.specs.Lists.{bit}
 use Rattle.layered.specs.Search.{tally}

@@ -17,7 +17,7 @@ use Rattle.unfolded.specs.Unfolded.{chains_from, matching, Frame, match_gates, e
 use Rattle.unfolded.proofs.Counts.{edge_count, frame_count}
 use Rattle.chains.specs.Chains.{Fits, target_of, gates_stored, edge_of}
 use Rattle.chains.specs.declared.Target.{Target}
-use Rattle.chains.proofs.Stored.{gates-length, fits_still}
+use Rattle.chains.proofs.Stored.{fits_still}
 use Rattle.gathers.specs.Gathers.{gather_gates, gather_literals}
 use Rattle.gathers.specs.declared.Key.TheVariants.{NextState, OutputBit}
 use Rattle.gathers.specs.declared.Gathering.{Gathering}
@@ -110,117 +110,117 @@ count₅-is s = s.requires.outputs_len ∙ outs_count (b₀ s) (head s) (t₀ s)
 module _ (s : Start) (v₁ : List ℕ) (j : ℕ)
     (e₁ : v₁ ≡ gates_stored s.args.target.gates s.args.source.first s.args.res.now (chains_from (s.args.target.base + s.args.source.first) (matching s.args.target.inputs s.args.source.frame) s.args.target.words))
     (ej : j ≡ s.args.source.first + s.args.target.words * s.args.target.inputs)
-    where
-  stored₁ : v₁ ≡ gates_stored s.args.target.gates s.args.source.first s.args.res.now (match_gates (F₀ s))
-  stored₁ =
-      e₁
-      ∙ ap (gates_stored s.args.target.gates s.args.source.first s.args.res.now)
-      (matches_are (b₀ s) (head s) (t₀ s) (early s) s.args.target (aim s) (d₀ s) s.args.source.first (first_is s))
+  where
+    stored₁ : v₁ ≡ gates_stored s.args.target.gates s.args.source.first s.args.res.now (match_gates (F₀ s))
+    stored₁ =
+        e₁
+        ∙ ap (gates_stored s.args.target.gates s.args.source.first s.args.res.now)
+        (matches_are (b₀ s) (head s) (t₀ s) (early s) s.args.target (aim s) (d₀ s) s.args.source.first (first_is s))
 
-  fits₁ : Fits s.args.target v₁
-  fits₁ = fits_still s.args.target s.args.res.now v₁ s.args.source.first (match_gates (F₀ s)) (fits₀ s) stored₁ (omega (arith, room s, frame_count (F₀ s)))
+    fits₁ : Fits s.args.target v₁
+    fits₁ = fits_still s.args.target s.args.res.now v₁ s.args.source.first (match_gates (F₀ s)) (fits₀ s) stored₁ (omega (arith, room s, frame_count (F₀ s)))
 
-  -- the first gate of the gather chains
-  abbrev g₂ : ℕ
-  g₂ = j + s.args.source.edges
+    -- the first gate of the gather chains
+    abbrev g₂ : ℕ
+    g₂ = j + s.args.source.edges
 
-  g₂-is : g₂ ≡ j + states (b₀ s) (t₀ s) * 2 ^ inputs (b₀ s)
-  g₂-is = ap (λ (c : ℕ). j + c) (edges-is s)
+    g₂-is : g₂ ≡ j + states (b₀ s) (t₀ s) * 2 ^ inputs (b₀ s)
+    g₂-is = ap (λ (c : ℕ). j + c) (edges-is s)
 
-  -- the edges are among the gates, and so are those of the next states
-  edges-in : g₂ ≤ s.args.target.gates
-  edges-in = omega (arith, ej, matches s, edge-length s, frame_count (F₀ s), room s)
+    -- the edges are among the gates, and so are those of the next states
+    edges-in : g₂ ≤ s.args.target.gates
+    edges-in = omega (arith, ej, matches s, edge-length s, frame_count (F₀ s), room s)
 
-  nexts_in_lem : g₂ + length (next_gates (F₀ s)) ≤ s.args.target.gates
-  nexts_in_lem = omega (arith, ej, matches s, edge-length s, frame_count (F₀ s), room s)
+    nexts_in_lem : g₂ + length (next_gates (F₀ s)) ≤ s.args.target.gates
+    nexts_in_lem = omega (arith, ej, matches s, edge-length s, frame_count (F₀ s), room s)
 
-  -- the edges are those of the entries
-  entries-in : (p : List ℕ) (start : ℕ) → p ≡ layer_part (b₀ s) start (t₀ s) → start + 2 * entry_count (b₀ s) ≤ length (b₀ s) → j + length p / 2 ≤ s.args.target.gates
-  entries-in p start e h = omega (arith, ap length e, part_length (b₀ s) start (t₀ s) h (early s), edges-is s, edges-in)
+    -- the edges are those of the entries
+    entries-in : (p : List ℕ) (start : ℕ) → p ≡ layer_part (b₀ s) start (t₀ s) → start + 2 * entry_count (b₀ s) ≤ length (b₀ s) → j + length p / 2 ≤ s.args.target.gates
+    entries-in p start e h = omega (arith, ap length e, part_length (b₀ s) start (t₀ s) h (early s), edges-is s, edges-in)
 
-  -- ---- after the edges: the result is v₂
+    -- ---- after the edges: the result is v₂
 
-  module _ (v₂ : List ℕ)
-      (e₂ : v₂ ≡ gates_stored s.args.target.gates j v₁ (listed [] (edge_of s.args.target.inputs (s.args.target.base + s.args.source.first) s.args.states.now) s.args.source.edges))
+    module _ (v₂ : List ℕ)
+        (e₂ : v₂ ≡ gates_stored s.args.target.gates j v₁ (listed [] (edge_of s.args.target.inputs (s.args.target.base + s.args.source.first) s.args.states.now) s.args.source.edges))
       where
-    stored₂ : v₂ ≡ gates_stored s.args.target.gates j v₁ (edge_gates (F₀ s))
-    stored₂ =
-        e₂
-        ∙ ap (gates_stored s.args.target.gates j v₁)
-        (edges_are (b₀ s) (head s) (t₀ s) (early s) s.args.target (aim s) (d₀ s) s.args.source.first (first_is s) j ej
-        (head s).sized.inputs_from s.args.states.now (states-count (b₀ s) (head s).one_first (t₀ s) (early s)) s.requires.states_kept.kept _ (edges-is s))
+        stored₂ : v₂ ≡ gates_stored s.args.target.gates j v₁ (edge_gates (F₀ s))
+        stored₂ =
+            e₂
+            ∙ ap (gates_stored s.args.target.gates j v₁)
+            (edges_are (b₀ s) (head s) (t₀ s) (early s) s.args.target (aim s) (d₀ s) s.args.source.first (first_is s) j ej
+            (head s).sized.inputs_from s.args.states.now (states-count (b₀ s) (head s).one_first (t₀ s) (early s)) s.requires.states_kept.kept _ (edges-is s))
 
-    fits₂ : Fits s.args.target v₂
-    fits₂ = fits_still s.args.target v₁ v₂ j (edge_gates (F₀ s)) fits₁ stored₂ (omega (arith, ej, matches s, frame_count (F₀ s), room s))
+        fits₂ : Fits s.args.target v₂
+        fits₂ = fits_still s.args.target v₁ v₂ j (edge_gates (F₀ s)) fits₁ stored₂ (omega (arith, ej, matches s, frame_count (F₀ s), room s))
 
-    -- ---- after the next states, whose entries are p₃: the result is v₃, the literals are ls₃, and the next gate is o
+        -- ---- after the next states, whose entries are p₃: the result is v₃, the literals are ls₃, and the next gate is o
 
-    module _ (p₃ : List ℕ) (e₃ : p₃ ≡ take (2 * s.args.source.edges) (drop s.args.source.nexts (b₀ s))) where
-      p₃-is : p₃ ≡ layer_part (b₀ s) (nexts_at (b₀ s)) (t₀ s)
-      p₃-is = e₃ ∙ (nexts_part (b₀ s) (head s) (t₀ s) (early s) _ _ (planned s)).1
+        module _ (p₃ : List ℕ) (e₃ : p₃ ≡ take (2 * s.args.source.edges) (drop s.args.source.nexts (b₀ s))) where
+          p₃-is : p₃ ≡ layer_part (b₀ s) (nexts_at (b₀ s)) (t₀ s)
+          p₃-is = e₃ ∙ (nexts_part (b₀ s) (head s) (t₀ s) (early s) _ _ (planned s)).1
 
-      abbrev nexts₃ : Gathering
-      nexts₃ = record { key = NextState; edges = j }
+          abbrev nexts₃ : Gathering
+          nexts₃ = record { key = NextState; edges = j }
 
-      chains₃-are : gather_gates s.args.target nexts₃ p₃ g₂ (count₃ s) ≡ next_gates (F₀ s)
-      chains₃-are =
-          nexts_are (b₀ s) (head s) (t₀ s) (early s) s.args.target (aim s) (d₀ s) s.args.source.first (first_is s) j ej g₂ g₂-is p₃ p₃-is (count₃ s) (count₃-is s)
+          chains₃-are : gather_gates s.args.target nexts₃ p₃ g₂ (count₃ s) ≡ next_gates (F₀ s)
+          chains₃-are =
+              nexts_are (b₀ s) (head s) (t₀ s) (early s) s.args.target (aim s) (d₀ s) s.args.source.first (first_is s) j ej g₂ g₂-is p₃ p₃-is (count₃ s) (count₃-is s)
 
-      kept₃-are : gather_literals s.args.target nexts₃ p₃ g₂ (count₃ s) ≡ (drawing (b₀ s) (suc (t₀ s))).states
-      kept₃-are =
-          next_literals (b₀ s) (head s) (t₀ s) (early s) s.args.target (aim s) (d₀ s) s.args.source.first (first_is s) j ej g₂ g₂-is p₃ p₃-is (count₃ s) (count₃-is s)
-          ∙ sym (states-next (b₀ s) (t₀ s))
+          kept₃-are : gather_literals s.args.target nexts₃ p₃ g₂ (count₃ s) ≡ (drawing (b₀ s) (suc (t₀ s))).states
+          kept₃-are =
+              next_literals (b₀ s) (head s) (t₀ s) (early s) s.args.target (aim s) (d₀ s) s.args.source.first (first_is s) j ej g₂ g₂-is p₃ p₃-is (count₃ s) (count₃-is s)
+              ∙ sym (states-next (b₀ s) (t₀ s))
 
-      module _ (v₃ ls₃ : List ℕ) (o : ℕ)
-          (ev₃ : v₃ ≡ gates_stored s.args.target.gates g₂ v₂ (gather_gates s.args.target nexts₃ p₃ g₂ (count₃ s)))
-          (els₃ : ls₃ ≡ gather_literals s.args.target nexts₃ p₃ g₂ (count₃ s))
-          (eo : o ≡ g₂ + length (gather_gates s.args.target nexts₃ p₃ g₂ (count₃ s)))
-          where
-        stored₃ : v₃ ≡ gates_stored s.args.target.gates g₂ v₂ (next_gates (F₀ s))
-        stored₃ = ev₃ ∙ ap (gates_stored s.args.target.gates g₂ v₂) chains₃-are
+          module _ (v₃ ls₃ : List ℕ) (o : ℕ)
+              (ev₃ : v₃ ≡ gates_stored s.args.target.gates g₂ v₂ (gather_gates s.args.target nexts₃ p₃ g₂ (count₃ s)))
+              (els₃ : ls₃ ≡ gather_literals s.args.target nexts₃ p₃ g₂ (count₃ s))
+              (eo : o ≡ g₂ + length (gather_gates s.args.target nexts₃ p₃ g₂ (count₃ s)))
+            where
+              stored₃ : v₃ ≡ gates_stored s.args.target.gates g₂ v₂ (next_gates (F₀ s))
+              stored₃ = ev₃ ∙ ap (gates_stored s.args.target.gates g₂ v₂) chains₃-are
 
-        fits₃ : Fits s.args.target v₃
-        fits₃ = fits_still s.args.target v₂ v₃ g₂ (next_gates (F₀ s)) fits₂ stored₃ nexts_in_lem
+              fits₃ : Fits s.args.target v₃
+              fits₃ = fits_still s.args.target v₂ v₃ g₂ (next_gates (F₀ s)) fits₂ stored₃ nexts_in_lem
 
-        states₃ : StatesKept (b₀ s) (suc (t₀ s)) (ls₃ ++ drop s.args.source.drawn s.args.states.now)
-        states₃ =
-            let e = els₃ ∙ kept₃-are in
-            states-left (b₀ s) s.args.states.now _ (t₀ s) s.args.source.drawn e
-            (drawn-is s ∙ sym (ap length (e ∙ states-next (b₀ s) (t₀ s)) ∙ listed-length _ (F₀ s).nexts)) (drawn-few s) s.requires.states_kept.long
+              states₃ : StatesKept (b₀ s) (suc (t₀ s)) (ls₃ ++ drop s.args.source.drawn s.args.states.now)
+              states₃ =
+                  let e = els₃ ∙ kept₃-are in
+                  states-left (b₀ s) s.args.states.now _ (t₀ s) s.args.source.drawn e
+                  (drawn-is s ∙ sym (ap length (e ∙ states-next (b₀ s) (t₀ s)) ∙ listed-length _ (F₀ s).nexts)) (drawn-few s) s.requires.states_kept.long
 
-        o₄-is : o ≡ g₂ + length (next_gates (F₀ s))
-        o₄-is = eo ∙ ap (λ (gs : List (ℕ × ℕ)). g₂ + length gs) chains₃-are
+              o₄-is : o ≡ g₂ + length (next_gates (F₀ s))
+              o₄-is = eo ∙ ap (λ (gs : List (ℕ × ℕ)). g₂ + length gs) chains₃-are
 
-        outs-end : o + length (out_gates (F₀ s)) ≡ s.args.source.first + length (frame_gates (F₀ s))
-        outs-end = omega (arith, o₄-is, ej, matches s, edge-length s, frame_count (F₀ s))
+              outs-end : o + length (out_gates (F₀ s)) ≡ s.args.source.first + length (frame_gates (F₀ s))
+              outs-end = omega (arith, o₄-is, ej, matches s, edge-length s, frame_count (F₀ s))
 
-        -- ---- after the outputs, whose entries are p₅: the result is v₄
+              -- ---- after the outputs, whose entries are p₅: the result is v₄
 
-        module _ (p₅ : List ℕ) (e₅ : p₅ ≡ take (2 * s.args.source.edges) (drop s.args.source.outputs (b₀ s))) where
-          p₅-is : p₅ ≡ layer_part (b₀ s) (outputs_at (b₀ s)) (t₀ s)
-          p₅-is = e₅ ∙ (outputs_part (b₀ s) (head s) (t₀ s) (early s) _ _ (planned s)).1
+              module _ (p₅ : List ℕ) (e₅ : p₅ ≡ take (2 * s.args.source.edges) (drop s.args.source.outputs (b₀ s))) where
+                p₅-is : p₅ ≡ layer_part (b₀ s) (outputs_at (b₀ s)) (t₀ s)
+                p₅-is = e₅ ∙ (outputs_part (b₀ s) (head s) (t₀ s) (early s) _ _ (planned s)).1
 
-          abbrev outs₅ : Gathering
-          outs₅ = record { key = OutputBit; edges = j }
+                abbrev outs₅ : Gathering
+                outs₅ = record { key = OutputBit; edges = j }
 
-          chains₅-are : gather_gates s.args.target outs₅ p₅ o (length s.args.outputs.now) ≡ out_gates (F₀ s)
-          chains₅-are =
-              outs_are (b₀ s) (head s) (t₀ s) (early s) s.args.target (aim s) (d₀ s) s.args.source.first (first_is s) j ej g₂ g₂-is o o₄-is p₅ p₅-is _ (count₅-is s)
+                chains₅-are : gather_gates s.args.target outs₅ p₅ o (length s.args.outputs.now) ≡ out_gates (F₀ s)
+                chains₅-are =
+                    outs_are (b₀ s) (head s) (t₀ s) (early s) s.args.target (aim s) (d₀ s) s.args.source.first (first_is s) j ej g₂ g₂-is o o₄-is p₅ p₅-is _ (count₅-is s)
 
-          kept₅-are : gather_literals s.args.target outs₅ p₅ o (length s.args.outputs.now) ≡ listed [] (out_literal (F₀ s)) s.args.target.outputs
-          kept₅-are =
-              out_literals (b₀ s) (head s) (t₀ s) (early s) s.args.target (aim s) (d₀ s) s.args.source.first (first_is s) j ej g₂ g₂-is o o₄-is p₅ p₅-is _ (count₅-is s)
-              ∙ ap (listed [] (out_literal (F₀ s))) (sym (count₅-is s) ∙ s.requires.outputs_len)
+                kept₅-are : gather_literals s.args.target outs₅ p₅ o (length s.args.outputs.now) ≡ listed [] (out_literal (F₀ s)) s.args.target.outputs
+                kept₅-are =
+                    out_literals (b₀ s) (head s) (t₀ s) (early s) s.args.target (aim s) (d₀ s) s.args.source.first (first_is s) j ej g₂ g₂-is o o₄-is p₅ p₅-is _ (count₅-is s)
+                    ∙ ap (listed [] (out_literal (F₀ s))) (sym (count₅-is s) ∙ s.requires.outputs_len)
 
-          outs-in : o + length (gather_gates s.args.target outs₅ p₅ o (length s.args.outputs.now)) ≤ s.args.target.gates
-          outs-in = omega (arith, ap length chains₅-are, outs-end, room s)
+                outs-in : o + length (gather_gates s.args.target outs₅ p₅ o (length s.args.outputs.now)) ≤ s.args.target.gates
+                outs-in = omega (arith, ap length chains₅-are, outs-end, room s)
 
-          module _ (v₄ : List ℕ) (e₄ : v₄ ≡ gates_stored s.args.target.gates o v₃ (gather_gates s.args.target outs₅ p₅ o (length s.args.outputs.now))) where
-            stored₆ : v₄ ≡ gates_stored s.args.target.gates s.args.source.first s.args.res.now (frame_gates (F₀ s))
-            stored₆ =
-                parts_stored s.args.target.gates s.args.source.first s.args.res.now v₁ v₂ v₃ _ (F₀ s) j g₂ o
-                stored₁ stored₂ stored₃ (e₄ ∙ ap (gates_stored s.args.target.gates o v₃) chains₅-are)
-                (omega (arith, ej, matches s)) (omega (arith, edge-length s)) o₄-is (room s) (fits₀ s).room
+                module _ (v₄ : List ℕ) (e₄ : v₄ ≡ gates_stored s.args.target.gates o v₃ (gather_gates s.args.target outs₅ p₅ o (length s.args.outputs.now))) where
+                  stored₆ : v₄ ≡ gates_stored s.args.target.gates s.args.source.first s.args.res.now (frame_gates (F₀ s))
+                  stored₆ =
+                      parts_stored s.args.target.gates s.args.source.first s.args.res.now v₁ v₂ v₃ _ (F₀ s) j g₂ o
+                      stored₁ stored₂ stored₃ (e₄ ∙ ap (gates_stored s.args.target.gates o v₃) chains₅-are)
+                      (omega (arith, ej, matches s)) (omega (arith, edge-length s)) o₄-is (room s) (fits₀ s).room
 
 -- ---- the answers
 

@@ -3,13 +3,13 @@
 use mathlib.Core.Path.{◌≡◌, refl, sym, ap, ◌∙◌}
 use mathlib.Core.Bool.{Bool}
 use mathlib.Core.List.{[]}
-use Prim.Native.Nat.{ℕ, ◌+◌, ◌-◌, ◌≤◌, ◌<◌}
+use Prim.Native.Nat.{ℕ, ◌+◌, ◌≤◌, ◌<◌}
 use native.Mathlib.Omega.{arith}
 use lib.ListN.{length, get_or}
 use Rattle.circuit.specs.Lists.{grown, listed, bit}
 use Rattle.circuit.proofs.Lists.{listed-length}
 use Rattle.chains.specs.Chains.{gates_stored}
-use Rattle.chains.proofs.Stored.{gates-none, gates-length, fits_still, each_more}
+use Rattle.chains.proofs.Stored.{gates-none, fits_still, each_more}
 use Rattle.draw.proofs.Outputs.{gate_by, gate_pair, gate_fits, gate_in}
 use Rattle.draw.proofs.put_frame_outputs.Goals as goal
 
@@ -47,9 +47,6 @@ overflow_add-k c =
 
 pub put_gate-requires : goal.put_gate-requires
 put_gate-requires c =
-    let gateAt : ℕ → ℕ × ℕ =
-    gate_in c.args.connected c.args.from c.args.literals.now
-    in
     let within : c.args.k + length (listed [] ((gate_in c.args.connected c.args.from c.args.literals.now)) c.loop-j.j) ≤ c.args.target.gates =
     omega (arith, listed-length ((gate_in c.args.connected c.args.from c.args.literals.now)) c.loop-j.j, c.loop-j.invariant.0, c.requires.outputs_bound)
     in

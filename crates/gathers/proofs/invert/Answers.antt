@@ -1,7 +1,6 @@
 -- `gathers::invert` meets its contract.
 -- Assumes nothing.
 use native.Mathlib.Omega.{arith}
-use borrow.Author.Rules.{rules}
 use borrow.Author.Tests.{eq-eqb, ne_eqb}
 use Rattle.unfolded.specs.Unfolded.{inverted}
 use Rattle.gathers.proofs.invert.Goals as goal

@@ -1,7 +1,6 @@
 -- `gathers::is_chosen` meets its contract.
 -- Assumes nothing.
 use mathlib.Core.Path.{sym, ap, ◌∙◌}
-use borrow.Author.Rules.{rules}
 use Rattle.gathers.specs.Gathers.{chosen}
 use Rattle.gathers.specs.declared.Key.{Key}
 use Rattle.gathers.proofs.is_chosen.Goals as goal

@@ -2,7 +2,6 @@ use mathlib.Core.Path.{sym, ap, ◌∙◌}
 use lib.Dec.{eqb}
 use Rattle.verdict.specs.Judgements.{figures}
 use Rattle.verdict.proofs.Laws.{refusal_number}
-use borrow.Author.Rules.{rules}
 use Rattle.lent.proofs.accepts.Goals as goal
 
 pub returns-in-Accepted : goal.returns-in-Accepted

@@ -8,7 +8,6 @@ use Rattle.circuit.specs.WellFormed.{Accepted}
 use Rattle.circuit.proofs.Accepted.{accepted}
 use Rattle.folded.proofs.Asked.{circuit_refused, unused}
 use Rattle.lent.proofs.Needed.{needed_is, bits_fit, both_judged, scratch_left}
-use borrow.Author.Rules.{rules}
 use Rattle.lent.proofs.judge_lent.Goals as goal
 
 pub returns-in-Refused : goal.returns-in-Refused

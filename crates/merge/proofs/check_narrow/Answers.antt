@@ -5,10 +5,8 @@ use borrow.Author.Tests.{lt-ltb, le-ltb}
 use lib.Dec.{ltb}
 use lib.ListN.{length}
 use Rattle.verdict.specs.Judgements.{answer, refuse}
-use Rattle.sizes.specs.Sizes.{inputs}
 use Rattle.sizes.specs.declared.Sizes.{Sizes}
 use Rattle.merge.specs.Merge.{narrow_checked}
-use borrow.Author.Rules.{rules}
 use Rattle.merge.proofs.check_narrow.Goals as goal
 
 pub returns-then-length-lt-SIZES : goal.returns-then-length-lt-SIZES

@@ -1,10 +1,9 @@
 -- `merge::fewest_states` meets its contract. The invariant: no machine of k states or fewer matches.
 -- Assumes nothing.
-use mathlib.Core.Path.{◌≡◌, refl, ap, ◌∙◌, subst}
-use Prim.Native.Nat.{ℕ, ◌+◌, ◌*◌, ◌-◌, ◌≤◌}
+use mathlib.Core.Path.{refl, ap, ◌∙◌, subst}
+use Prim.Native.Nat.{ℕ, ◌+◌, ◌*◌, ◌≤◌}
 use native.Mathlib.Omega.{arith}
 use lib.ListN.{length, length-replicate}
-use Rattle.table.specs.Sound.{Sound, layout_of}
 use Rattle.table.proofs.Offsets.{laid}
 use Rattle.trial.specs.Tried.{Held}
 use Rattle.trial.proofs.Places.{few_entries}

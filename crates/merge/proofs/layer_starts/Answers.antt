@@ -1,13 +1,13 @@
 -- `merge::layer_starts` meets its contract. The invariant: the starts of the layers before t stand, and `start` is that of layer t.
 -- Assumes nothing.
 use mathlib.Core.Path.{refl}
-use Prim.Native.Nat.{◌+◌, ◌*◌, ◌-◌, ◌≤◌, ◌<◌}
+use Prim.Native.Nat.{◌+◌, ◌*◌, ◌≤◌, ◌<◌}
 use native.Mathlib.Omega.{arith}
 use lib.ListN.{length}
 use Rattle.sizes.specs.Sizes.{frames}
 use Rattle.table.proofs.Offsets.{Laid, laid}
 use Rattle.table.proofs.Parts.{count_in}
-use Rattle.merge.proofs.Starting.{Begun, begun_none, begun_next, layer_few}
+use Rattle.merge.proofs.Starting.{begun_none, begun_next, layer_few}
 use Rattle.merge.proofs.layer_starts.Goals as goal
 
 pub loop-t-init : goal.loop-t-init
@@ -106,5 +106,4 @@ loop-t-preserved c =
 pub returns : goal.returns
 returns c =
     let f = (laid _ _ c.requires.0 c.requires.1).frames_is in
-    record { long = omega (arith, c.loop-t.invariant.long, c.requires.0.sized.frames-to); are = λ t h. c.loop-t.invariant.are t (omega (arith, f)) }
-    -- TODO fields ['starts']
+    record { starts = record { long = omega (arith, c.loop-t.invariant.long, c.requires.0.sized.frames-to); are = λ t h. c.loop-t.invariant.are t (omega (arith, f)) } }

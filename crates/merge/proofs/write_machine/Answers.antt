@@ -2,7 +2,6 @@
 -- Assumes nothing.
 use native.Mathlib.Omega.{arith}
 use Rattle.merge.proofs.Writing.{written}
-use borrow.Author.Rules.{rules}
 use Rattle.merge.proofs.write_machine.Goals as goal
 
 pub returns : goal.returns

@@ -1,5 +1,4 @@
 use Rattle.nodes.proofs.Laws.{halves_equal}
-use borrow.Author.Rules.{rules}
 use Rattle.nodes.proofs.halve.Goals as goal
 
 -- src/lib.rt:108:1

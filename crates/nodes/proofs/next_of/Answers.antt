@@ -1,5 +1,4 @@
 use Rattle.nodes.proofs.Laws.{chosen_lt, chosen_le}
-use borrow.Author.Rules.{rules}
 use Rattle.nodes.proofs.next_of.Goals as goal
 
 -- src/lib.rt:139:1

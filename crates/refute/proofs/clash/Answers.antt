@@ -5,7 +5,6 @@ use native.Mathlib.Nat.{le_refl}
 use native.Mathlib.Omega.{arith}
 use Rattle.trial.proofs.Places.{few_frames, head_in}
 use Rattle.refute.proofs.Pairs.{history_small, shift_few, pair_clashes}
-use borrow.Author.Rules.{rules}
 use Rattle.refute.proofs.clash.Goals as goal
 
 pub returns-then-sought-t : goal.returns-then-sought-t

@@ -1,11 +1,10 @@
 -- `refute::digits` meets its contract. The invariant: the digits from i on are stored, and `rest` holds the others.
 -- Assumes nothing.
-use mathlib.Core.Path.{◌≡◌, refl, ◌∙◌}
-use Prim.Native.Nat.{ℕ, ◌-◌, ◌/◌, ◌%◌, ◌^◌, ◌≤◌, ◌<◌}
+use mathlib.Core.Path.{refl, ◌∙◌}
+use Prim.Native.Nat.{◌-◌, ◌%◌}
 use native.Mathlib.Nat.{mod-lt}
 use native.Mathlib.Omega.{arith}
-use lib.ListN.{length, get_or, length-set}
-use Rattle.merged.specs.Merged.{digit_of}
+use lib.ListN.{length-set}
 use Rattle.refute.proofs.Numbers.{digit_next, rest-next, rest_start}
 use Rattle.refute.proofs.digits.Goals as goal
 

@@ -1,12 +1,9 @@
 -- `refute::digits` meets its contract. The invariant: the digits from i on are stored, and `rest` holds the others.
 -- Assumes nothing.
-use mathlib.Core.Path.{◌≡◌, refl, ◌∙◌}
-use Prim.Native.Nat.{ℕ, ◌-◌, ◌/◌, ◌%◌, ◌^◌, ◌≤◌, ◌<◌}
-use native.Mathlib.Nat.{mod-lt}
-use native.Mathlib.Omega.{arith}
-use lib.ListN.{length, get_or, length-set}
+use mathlib.Core.Path.{◌≡◌}
+use Prim.Native.Nat.{ℕ, ◌-◌, ◌/◌, ◌^◌, ◌≤◌, ◌<◌}
+use lib.ListN.{length, get_or}
 use Rattle.merged.specs.Merged.{digit_of}
-use Rattle.refute.proofs.Numbers.{digit_next, rest-next, rest_start}
 use Rattle.refute.proofs.digits.Given as goal
 
 abbrev pub invariant-loop-i : goal.invariant-loop-i

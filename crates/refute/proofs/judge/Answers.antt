@@ -5,7 +5,6 @@ use Prim.Native.Nat.{ℕ}
 use native.Mathlib.Omega.{arith}
 use lib.ListN.{length, length-replicate}
 use Rattle.trial.specs.Collected.{refuted}
-use borrow.Author.Rules.{rules}
 use Rattle.refute.proofs.judge.Goals as goal
 
 pub returns-then-recalled-sought : goal.returns-then-recalled-sought

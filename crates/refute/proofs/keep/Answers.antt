@@ -1,9 +1,7 @@
 -- `refute::keep` meets its contract.
 -- Assumes nothing.
-use mathlib.Core.Path.{◌∙◌}
 use native.Mathlib.Omega.{arith}
 use lib.ListN.{length-set}
-use borrow.Author.Rules.{rules}
 use Rattle.refute.proofs.keep.Goals as goal
 
 pub store-requires : goal.store-requires

@@ -1,6 +1,5 @@
 -- `refute::opposite` meets its contract.
 -- Assumes nothing.
-use Prim.Native.Nat.{◌-◌, ◌≤◌}
 use native.Mathlib.Omega.{arith}
 use Rattle.trial.proofs.Places.{few_frames, head_in}
 use Rattle.refute.proofs.opposite.Goals as goal

@@ -1,11 +1,8 @@
 -- `refute::power` meets its contract. The invariant: p is states^i.
 -- Assumes nothing.
 use mathlib.Core.Path.{◌≡◌, sym, ap, ◌∙◌}
-use Prim.Native.Nat.{ℕ, suc, ◌*◌, ◌-◌, ◌^◌, ◌≤◌}
-use native.Mathlib.Nat.{pow-zero, pow-suc, one-le-pow}
-use native.Mathlib.Numerals.{add-one}
-use native.Mathlib.Omega.{arith}
-use Rattle.refute.proofs.Numbers.{power_most}
+use Prim.Native.Nat.{ℕ, suc, ◌*◌, ◌^◌, ◌≤◌}
+use native.Mathlib.Nat.{pow-suc}
 use Rattle.refute.proofs.power.Given as goal
 
 -- one factor more
@@ -15,7 +12,3 @@ step k i p e = ap (λ q. q * k) e ∙ sym (pow-suc k i)
 abbrev pub invariant-loop-i : goal.invariant-loop-i
 invariant-loop-i l =
     (l.i ≤ l.count) × (l.p ≡ l.states ^ l.i)
-
-abbrev pub decreases-loop-i : goal.decreases-loop-i
-decreases-loop-i l =
-    l.count - l.i

@@ -1,6 +1,5 @@
 -- `refute::recall` meets its contract. The invariant: j is a pair.
 -- Assumes nothing.
-use Prim.Native.Nat.{◌-◌, ◌≤◌, ◌<◌}
 use native.Mathlib.Nat.{mod-lt}
 use native.Mathlib.Omega.{arith}
 use Rattle.refute.proofs.recall.Goals as goal

@@ -1,7 +1,7 @@
 -- `refute::search` meets its contract. The invariant: all candidates before c are refuted.
 -- Assumes nothing.
-use mathlib.Core.Path.{◌≡◌, sym, ap, ◌∙◌}
-use Prim.Native.Nat.{ℕ, ◌-◌, ◌≤◌, ◌<◌}
+use mathlib.Core.Path.{sym, ap, ◌∙◌}
+use Prim.Native.Nat.{ℕ, ◌≤◌, ◌<◌}
 use native.Mathlib.Omega.{arith}
 use lib.ListN.{length, length-replicate}
 use Rattle.merged.specs.Demands.{Contradicted}
@@ -12,6 +12,7 @@ use Rattle.refute.specs.Searched.{none}
 use Rattle.trial.proofs.Places.{few_entries}
 use Rattle.refute.proofs.Searching.{passed, ends, goes_on, digits_same, digits-chosen}
 use Rattle.refute.proofs.search.Goals as goal
+use Rattle.refute.proofs.search.Goals.{After-judge-answer}
 
 pub power-total-requires : goal.power-total-requires
 power-total-requires c =
@@ -42,45 +43,31 @@ judge-answer-requires c =
     }
 
 pub returns-then-entries-used : goal.returns-then-entries-used
-returns-then-entries-used c =
-    let t = (c) in
-    let l = t.before.loop in record {
-      searched = ends _ c.args.sought.states c.args.sought.entries l.c c.digits-chosen.result (omega (arith, c.requires.some_states)) (digits_same _ _ _ c.digits-chosen.result c.digits-chosen.ensures.digits) c.judge-answer.result.used
-          c.judge-answer.result.ones c.judge-answer.ensures.judged (omega arith) (omega (arith, t.before.before.before.power.ensures.0)) l.inv.0;
-      long = c.judge-answer.ensures.long;
-    }
+returns-then-entries-used c = record {
+  searched = ends _ c.args.sought.states c.args.sought.entries c.loop-c.c c.digits-chosen.result (omega (arith, c.requires.some_states)) (digits_same _ _ _ c.digits-chosen.result c.digits-chosen.ensures.digits)
+      c.judge-answer.result.used c.judge-answer.result.ones c.judge-answer.ensures.judged (omega arith) (omega (arith, c.power-total.ensures.0)) c.loop-c.invariant.0;
+  long = c.judge-answer.ensures.long;
+}
+
+-- the judgement refutes a prefix, and so all candidates that are passed
+passing : (c : After-judge-answer) → c.judge-answer.result.used ≤ c.args.sought.entries → (c.judge-answer.result.used ≤ c.args.sought.entries)
+    × ((d : ℕ) → d < skipped c.args.sought.states c.args.sought.entries c.loop-c.c c.judge-answer.result.used
+    → Contradicted (target_of c.args.sought.words c.args.sought.frames c.args.table.now) (digit_of c.args.sought.states c.args.sought.entries d) c.args.sought.entries)
+passing c few =
+    passed _ c.args.sought.states c.args.sought.entries c.loop-c.c c.digits-chosen.result (omega (arith, c.requires.some_states)) (digits_same _ _ _ c.digits-chosen.result c.digits-chosen.ensures.digits)
+    c.judge-answer.result.used c.judge-answer.result.ones c.judge-answer.ensures.judged (λ l. omega arith) c.loop-c.invariant.0
 
 pub skip-c-requires : goal.skip-c-requires
 skip-c-requires c =
-    let turn : tie.In-loop invariant-loop decreases-loop =
-    c
-    in
-    let passing : (c.judge-answer.result.used ≤ c.args.sought.entries)
-    × ((d : ℕ) → d < skipped c.args.sought.states c.args.sought.entries ((c)).before.loop.c c.judge-answer.result.used
-    → Contradicted (target_of c.args.sought.words c.args.sought.frames c.args.table.now) (digit_of c.args.sought.states c.args.sought.entries d) c.args.sought.entries) =
-    let l = ((c)).before.loop in
-    passed _ c.args.sought.states c.args.sought.entries l.c c.digits-chosen.result (omega (arith, c.requires.some_states)) (digits_same _ _ _ c.digits-chosen.result c.digits-chosen.ensures.digits) c.judge-answer.result.used
-    c.judge-answer.result.ones c.judge-answer.ensures.judged (λ l. omega arith) l.inv.0
-    in
-    (c.requires.some_states, c.requires.few_states, few_entries _ _ _ c.requires, (passing).0, omega (arith, (c).before.before.before.power.ensures.2))
+    (c.requires.some_states, c.requires.few_states, few_entries _ _ _ c.requires, omega arith, omega (arith, c.power-total.ensures.2))
 
 pub loop-c-smaller : goal.loop-c-smaller
-loop-c-smaller c =
-    omega (arith, c.skip-c.ensures, goes_on c.args.sought.states c.args.sought.entries (omega (arith, c.requires.some_states)) (c).before.loop.c c.judge-answer.result.used)
+loop-c-smaller c = omega (arith, c.skip-c.ensures, goes_on c.args.sought.states c.args.sought.entries (omega (arith, c.requires.some_states)) c.loop-c.c c.judge-answer.result.used)
 
 pub loop-c-preserved : goal.loop-c-preserved
 loop-c-preserved c =
-    let turn : tie.In-loop invariant-loop decreases-loop =
-    c
-    in
-    let passing : (c.judge-answer.result.used ≤ c.args.sought.entries)
-    × ((d : ℕ) → d < skipped c.args.sought.states c.args.sought.entries ((c)).before.loop.c c.judge-answer.result.used
-    → Contradicted (target_of c.args.sought.words c.args.sought.frames c.args.table.now) (digit_of c.args.sought.states c.args.sought.entries d) c.args.sought.entries) =
-    let l = ((c)).before.loop in
-    passed _ c.args.sought.states c.args.sought.entries l.c c.digits-chosen.result (omega (arith, c.requires.some_states)) (digits_same _ _ _ c.digits-chosen.result c.digits-chosen.ensures.digits) c.judge-answer.result.used
-    c.judge-answer.result.ones c.judge-answer.ensures.judged (λ l. omega arith) l.inv.0
-    in
-    ((λ d l. (passing).1 d (omega (arith, c.skip-c.ensures))), c.judge-answer.auto.1.1.1.1.0 ∙ (c).before.loop.invariant.1, c.judge-answer.ensures.at)
+    let p = passing (goal.at.loop-c-preserved c).After-judge-answer (omega arith) in
+    ((λ d l. p.1 d (omega (arith, c.skip-c.ensures))), c.judge-answer.auto.seen ∙ c.loop-c.invariant.1, c.judge-answer.ensures.at)
 
 pub returns : goal.returns
 returns c =

@@ -1,16 +1,11 @@
 -- `refute::search` meets its contract. The invariant: all candidates before c are refuted.
 -- Assumes nothing.
-use mathlib.Core.Path.{◌≡◌, sym, ap, ◌∙◌}
-use Prim.Native.Nat.{ℕ, ◌-◌, ◌≤◌, ◌<◌}
-use native.Mathlib.Omega.{arith}
-use lib.ListN.{length, length-replicate}
+use mathlib.Core.Path.{◌≡◌}
+use Prim.Native.Nat.{ℕ, ◌-◌, ◌<◌}
+use lib.ListN.{length}
 use Rattle.merged.specs.Demands.{Contradicted}
-use Rattle.merged.specs.Demands.{skipped}
 use Rattle.merged.specs.Merged.{digit_of}
 use Rattle.trial.specs.Tried.{target_of}
-use Rattle.refute.specs.Searched.{none}
-use Rattle.trial.proofs.Places.{few_entries}
-use Rattle.refute.proofs.Searching.{passed, ends, goes_on, digits_same, digits-chosen}
 use Rattle.refute.proofs.search.Given as goal
 
 abbrev pub invariant-loop-c : goal.invariant-loop-c

@@ -5,7 +5,6 @@ use Prim.Native.Nat.{ℕ, ◌+◌, ◌*◌, ◌/◌, ◌≤◌}
 use native.Mathlib.Nat.{div-le_self, div-mul-le_self}
 use native.Mathlib.Omega.{arith}
 use Rattle.merged.specs.Demands.{skipped}
-use borrow.Author.Rules.{rules}
 use Rattle.refute.proofs.skip.Goals as goal
 
 -- the number after it is not far

@@ -2,7 +2,6 @@
 -- Assumes nothing.
 use native.Mathlib.Omega.{arith}
 use lib.ListN.{length-set}
-use borrow.Author.Rules.{rules}
 use Rattle.refute.proofs.store.Goals as goal
 
 pub bounds-seen-at-2 : goal.bounds-seen-at-2

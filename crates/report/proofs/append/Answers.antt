@@ -1,10 +1,7 @@
 -- `report::append` meets its contract. The invariant: the first i bytes of the text are appended.
 -- Assumes nothing.
 use mathlib.Core.Path.{refl}
-use Prim.Native.Nat.{◌+◌, ◌-◌, ◌≤◌}
 use native.Mathlib.Omega.{arith}
-use lib.ListN.{length, take}
-use Rattle.report.specs.Report.{Appended}
 use Rattle.report.proofs.Appending.{append-length, append-next, append-all}
 use Rattle.report.proofs.append.Goals as goal
 

@@ -1,17 +1,10 @@
 -- `report::append` meets its contract. The invariant: the first i bytes of the text are appended.
 -- Assumes nothing.
-use mathlib.Core.Path.{refl}
-use Prim.Native.Nat.{◌+◌, ◌-◌, ◌≤◌}
-use native.Mathlib.Omega.{arith}
+use Prim.Native.Nat.{◌+◌, ◌≤◌}
 use lib.ListN.{length, take}
 use Rattle.report.specs.Report.{Appended}
-use Rattle.report.proofs.Appending.{append-length, append-next, append-all}
 use Rattle.report.proofs.append.Given as goal
 
 abbrev pub invariant-loop-i : goal.invariant-loop-i
 invariant-loop-i l =
     (l.i ≤ length l.text) × Appended l.initial.out l.at (take l.i l.text) l.out (l.at + l.i)
-
-abbrev pub decreases-loop-i : goal.decreases-loop-i
-decreases-loop-i l =
-    length l.text - l.i

@@ -4,7 +4,6 @@ use native.Mathlib.Omega.{arith}
 use Rattle.report.specs.Report.{field}
 use Rattle.report.proofs.Appending.{append-then, append_byte}
 use Rattle.report.proofs.Lines.{field-length}
-use borrow.Author.Rules.{rules}
 use Rattle.report.proofs.append_field.Goals as goal
 
 pub append_number-end-requires : goal.append_number-end-requires
@@ -18,4 +17,4 @@ bounds-out-end c =
 pub returns : goal.returns
 unfolding field
 returns c =
-    append-then c.append_number-end.ensures (append_byte _ _ _ (slice-write-out c))
+    append-then c.append_number-end.ensures (append_byte _ _ _ (omega (arith, field-length c.args.number c.args.mark)))

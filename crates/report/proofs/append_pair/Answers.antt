@@ -4,7 +4,6 @@ use native.Mathlib.Omega.{arith}
 use Rattle.report.specs.Report.{pair_line}
 use Rattle.report.proofs.Appending.{append-then}
 use Rattle.report.proofs.Lines.{pair_length}
-use borrow.Author.Rules.{rules}
 use Rattle.report.proofs.append_pair.Goals as goal
 
 pub append_field-end-requires : goal.append_field-end-requires

@@ -5,7 +5,6 @@ use native.Mathlib.Omega.{arith}
 use Rattle.report.specs.Report.{ascii, refusal_line}
 use Rattle.report.proofs.Appending.{append-then}
 use Rattle.report.proofs.Lines.{pair_length, field_most}
-use borrow.Author.Rules.{rules}
 use Rattle.report.proofs.append_refusal.Goals as goal
 
 pub append_pair-requires : goal.append_pair-requires

@@ -10,7 +10,6 @@ use Rattle.sizes.specs.declared.Sizes.{Sizes}
 use Rattle.table.proofs.Offsets.{arrays_stand}
 use Rattle.report.specs.Report.{ascii}
 use Rattle.report.proofs.Lines.{total-length, field_most, table_lines_lem}
-use borrow.Author.Rules.{rules}
 use Rattle.report.proofs.append_table.Goals as goal
 
 pub read-count-requires : goal.read-count-requires

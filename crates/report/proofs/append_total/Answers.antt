@@ -4,7 +4,6 @@ use native.Mathlib.Omega.{arith}
 use Rattle.report.specs.Report.{ascii, total_line}
 use Rattle.report.proofs.Appending.{append-then}
 use Rattle.report.proofs.Lines.{total-length}
-use borrow.Author.Rules.{rules}
 use Rattle.report.proofs.append_total.Goals as goal
 
 pub append-end-requires : goal.append-end-requires

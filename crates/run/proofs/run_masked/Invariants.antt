@@ -1,26 +1,13 @@
 -- `run::run_masked` meets its contract. The invariant: the position is a state of layer t, and what the masked machine gives on all words is what
 -- is stored and then what it gives from there on the rest. No step is refused.
 -- Assumes nothing.
-use mathlib.Core.Path.{◌≡◌, refl, sym, ap, ◌∙◌}
+use mathlib.Core.Path.{◌≡◌}
 use mathlib.Core.List.{List, ◌++◌}
-use Prim.Native.Nat.{ℕ, suc, ◌-◌, ◌≤◌, ◌<◌}
-use native.Mathlib.Numerals.{add-one}
-use native.Mathlib.Omega.{arith}
-use borrow.Author.Rules.{rules}
-use lib.Bits.{bit_and}
-use lib.ListN.{length, take, drop, get_or, length-set}
-use Rattle.verdict.specs.Judgements.{answer}
-use Rattle.sizes.specs.Sizes.{inputs, frames as framesOf}
-use Rattle.sizes.specs.Sized.{Fed}
+use Prim.Native.Nat.{ℕ, ◌≤◌, ◌<◌}
+use lib.ListN.{length, take, drop}
 use Rattle.layered.specs.Machines.{Machine, masked, feed}
-use Rattle.layered.proofs.Lists.{drop_more}
 use Rattle.table.specs.Table.{states, machine}
-use Rattle.steps.specs.Steps.{moved, stepped, step_figures}
 use Rattle.run.specs.Run.{shown}
-use Rattle.table.specs.Sound.{Sound}
-use Rattle.table.proofs.Accepted.{sound}
-use Rattle.steps.proofs.Steps.{moves, moved_is, not_refused}
-use Rattle.run.proofs.Runs.{feed-more, feed-all}
 use Rattle.run.proofs.run_masked.Given as goal
 
 -- the table as it is seen through the mask
@@ -31,7 +18,3 @@ abbrev pub invariant-loop-t : goal.invariant-loop-t
 invariant-loop-t l =
     (l.t ≤ l.frames) × (length l.res ≡ length l.initial.res) × (l.position.layer ≡ l.t) × (l.position.state < states l.table l.t)
     × (shown l.table l.mask l.words ≡ take l.t l.res ++ feed (seen l.table l.mask) l.t l.position.state (drop l.t l.words)) × (drop l.t l.res ≡ drop l.t l.initial.res)
-
-abbrev pub decreases-loop-t : goal.decreases-loop-t
-decreases-loop-t l =
-    l.frames - l.t

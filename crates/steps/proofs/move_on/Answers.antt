@@ -1,14 +1,10 @@
 -- `steps::move_on` meets its contract: the position's judgement, and an accepted one gives the entry's what it requires.
 -- Assumes nothing.
-use mathlib.Core.List.{List}
-use Prim.Native.Nat.{ℕ}
-use Rattle.verdict.specs.declared.Figures.{Figures}
 use Rattle.verdict.proofs.Laws.{accepts}
 use Rattle.positions.specs.Positions.{position_checked}
 use Rattle.positions.proofs.Positions.{placed}
 use Rattle.steps.specs.Steps.{move_checked}
 use Rattle.steps.proofs.Steps.{stops, goes_on}
-use borrow.Author.Rules.{rules}
 use Rattle.steps.proofs.move_on.Goals as goal
 
 pub returns-in-Refused : goal.returns-in-Refused

@@ -15,7 +15,7 @@ use Rattle.table.specs.Table.{states, entries_below, entry_count, outputs_at, ne
 use Rattle.table.specs.Sound.{TableHeaded, layout_of}
 use Rattle.table.specs.declared.Layout.{Layout}
 use Rattle.steps.specs.Steps.{entry_checked, handed_back}
-use Rattle.table.proofs.Offsets.{Laid, laid, layer_in, head_length_lem}
+use Rattle.table.proofs.Offsets.{laid, layer_in, head_length_lem}
 use Rattle.steps.proofs.read_entry.Goals as goal
 
 -- an entry of a table with its layout: that of state s of layer t and word w, where `below` entries stand before the layer's

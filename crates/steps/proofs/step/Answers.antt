@@ -1,12 +1,9 @@
 -- `steps::step` meets its contract: an accepted head gives the move what it requires.
 -- Assumes nothing.
-use mathlib.Core.List.{List}
-use Prim.Native.Nat.{ℕ}
 use Rattle.verdict.proofs.Laws.{accepts}
 use Rattle.table.proofs.Accepted.{headed}
 use Rattle.steps.specs.Steps.{step_checked, stepped}
 use Rattle.steps.proofs.Steps.{stops, goes_on, step_reaches, steps_feed}
-use borrow.Author.Rules.{rules}
 use Rattle.steps.proofs.step.Goals as goal
 
 pub returns-in-Refused : goal.returns-in-Refused

@@ -1,7 +1,6 @@
 -- `survey::survey_circuit` meets its contract: what each stage may be asked, and what follows where the records are too few and where they are enough.
 -- Assumes nothing.
-use Prim.Native.Nat.{◌<◌}
-use native.Mathlib.Omega.{arith}
+use mathlib.Core.Path.{subst}
 use lib.ListN.{length}
 use Rattle.circuit.specs.WellFormed.{HeadOf}
 use Rattle.source.specs.Source.{head_of, sourced}
@@ -18,13 +17,13 @@ shape_of-shape-requires c =
 pub build-place-requires : goal.build-place-requires
 build-place-requires c =
     let O : HeadOf (sourced c.args.source c.args.circuit.now) (head_of c.args.source) = (well _ _ c.requires.0).head_is in
-    let shape : ShapeOf (head_of c.args.source) (length c.args.nodes.now) c.shape_of-shape.result = c.shape_of-shape.ensures in
+    let shape : ShapeOf (head_of c.args.source) (length c.args.nodes.now) c.shape_of-shape.result = subst (λ n. ShapeOf (head_of c.args.source) n c.shape_of-shape.result) c.clear.auto.nodes c.shape_of-shape.ensures in
     (c.requires.0, buildable (sourced c.args.source c.args.circuit.now) _ _ c.requires.1 (head_of c.args.source) O (length c.args.nodes.now) _ shape c.clear.new.nodes c.clear.auto.nodes c.clear.ensures)
 
 pub returns-then-place-source : goal.returns-then-place-source
 returns-then-place-source c =
     let O : HeadOf (sourced c.args.source c.args.circuit.now) (head_of c.args.source) = (well _ _ c.requires.0).head_is in
-    let shape : ShapeOf (head_of c.args.source) (length c.args.nodes.now) c.shape_of-shape.result = c.shape_of-shape.ensures in
+    let shape : ShapeOf (head_of c.args.source) (length c.args.nodes.now) c.shape_of-shape.result = subst (λ n. ShapeOf (head_of c.args.source) n c.shape_of-shape.result) c.clear.auto.nodes c.shape_of-shape.ensures in
     refused (sourced c.args.source c.args.circuit.now) _ _ c.requires.1 (head_of c.args.source) O (length c.args.nodes.now) _ shape c.build-place.new.nodes c.build-place.new.work _ c.build-place.ensures c.if-place-source.true _ c.none_found.ensures
 
 pub layout_of-requires : goal.layout_of-requires
@@ -35,11 +34,11 @@ layout_of-requires c =
 pub explore-cursor-requires : goal.explore-cursor-requires
 explore-cursor-requires c =
     let O : HeadOf (sourced c.args.source c.args.circuit.now) (head_of c.args.source) = (well _ _ c.requires.0).head_is in
-    let shape : ShapeOf (head_of c.args.source) (length c.args.nodes.now) c.shape_of-shape.result = c.shape_of-shape.ensures in
+    let shape : ShapeOf (head_of c.args.source) (length c.args.nodes.now) c.shape_of-shape.result = subst (λ n. ShapeOf (head_of c.args.source) n c.shape_of-shape.result) c.clear.auto.nodes c.shape_of-shape.ensures in
     explorable (sourced c.args.source c.args.circuit.now) _ _ c.requires.1 (head_of c.args.source) O (length c.args.nodes.now) _ shape c.build-place.new.nodes c.build-place.new.work _ c.build-place.ensures c.if-place-source.false _ c.layout_of.ensures c.build-place.auto.work
 
 pub returns : goal.returns
 returns c =
     let O : HeadOf (sourced c.args.source c.args.circuit.now) (head_of c.args.source) = (well _ _ c.requires.0).head_is in
-    let shape : ShapeOf (head_of c.args.source) (length c.args.nodes.now) c.shape_of-shape.result = c.shape_of-shape.ensures in
+    let shape : ShapeOf (head_of c.args.source) (length c.args.nodes.now) c.shape_of-shape.result = subst (λ n. ShapeOf (head_of c.args.source) n c.shape_of-shape.result) c.clear.auto.nodes c.shape_of-shape.ensures in
     surveyed (sourced c.args.source c.args.circuit.now) _ _ c.requires.1 (head_of c.args.source) O (length c.args.nodes.now) _ shape c.build-place.new.nodes c.build-place.new.work _ c.build-place.ensures c.if-place-source.false _ c.layout_of.ensures c.build-place.auto.work _ _ _ c.explore-cursor.ensures _ c.found.ensures

@@ -4,7 +4,6 @@ use Rattle.verdict.proofs.Laws.{stop, go_on, accepts}
 use Rattle.table.specs.Table.{outputs_at, bad_output, array_checked, entries_checked, checked}
 use Rattle.table.specs.Sound.{TableHeaded}
 use Rattle.table.proofs.Accepted.{headed, legal_table}
-use borrow.Author.Rules.{rules}
 use Rattle.table.proofs.check.Goals as goal
 
 pub returns-in_default : goal.returns-in_default

@@ -4,7 +4,6 @@ use mathlib.Core.Path.{ap, ◌∙◌}
 use native.Mathlib.Omega.{arith}
 use Rattle.answers.specs.Answer.{layer_numbers}
 use Rattle.answers.proofs.Laws.{answer_kept, answer_put}
-use borrow.Author.Rules.{rules}
 use Rattle.tff.proofs.tff_layer_outputs.Goals as goal
 
 pub returns-then-answer-lt-LAYER : goal.returns-then-answer-lt-LAYER

@@ -4,7 +4,6 @@ use mathlib.Core.Path.{ap, ◌∙◌}
 use native.Mathlib.Omega.{arith}
 use Rattle.answers.specs.Answer.{price_numbers}
 use Rattle.answers.proofs.Laws.{answer_kept, answer_put}
-use borrow.Author.Rules.{rules}
 use Rattle.tff.proofs.tff_price.Goals as goal
 
 pub returns-then-answer-lt-PRICE : goal.returns-then-answer-lt-PRICE

@@ -3,7 +3,6 @@
 use mathlib.Core.Path.{ap, ◌∙◌}
 use Rattle.answers.specs.Answer.{step_numbers}
 use Rattle.answers.proofs.Laws.{answer_kept, answer_put}
-use borrow.Author.Rules.{rules}
 use Rattle.tff.proofs.tff_step.Goals as goal
 
 pub returns-then-answer-lt-STEP : goal.returns-then-answer-lt-STEP

@@ -3,7 +3,6 @@
 use mathlib.Core.Path.{ap}
 use Rattle.answers.specs.Answer.{verdict_numbers}
 use Rattle.answers.proofs.Laws.{answer_kept, answer_put, lent_kept, lent-left}
-use borrow.Author.Rules.{rules}
 use Rattle.tff.proofs.tff_unfold.Goals as goal
 
 pub returns-then-answer-lt-VERDICT : goal.returns-then-answer-lt-VERDICT

@@ -1,12 +1,11 @@
 -- `trial::collect` meets its contract. The invariant: the histories before h are collected, and no bit is demanded both ways.
 -- Assumes nothing.
-use mathlib.Core.Path.{◌≡◌, refl, sym, ◌∙◌}
-use Prim.Native.Nat.{suc, ◌-◌, ◌^◌, ◌≤◌, ◌<◌}
+use mathlib.Core.Path.{refl, sym, ◌∙◌}
+use Prim.Native.Nat.{suc, ◌^◌, ◌<◌}
 use native.Mathlib.Numerals.{add-one}
 use native.Mathlib.Omega.{arith}
-use lib.ListN.{length, get_or, length-set}
-use Rattle.trial.specs.Tried.{target_of}
-use Rattle.trial.specs.Collected.{Halves, all, clash}
+use lib.ListN.{length, length-set}
+use Rattle.trial.specs.Collected.{all, clash}
 use Rattle.trial.proofs.Places.{few_entries, few_frames, head_in}
 use Rattle.trial.proofs.Collecting.{turn_on, turn_ends, halves_next, halves_skip}
 use Rattle.trial.proofs.collect.Goals as goal

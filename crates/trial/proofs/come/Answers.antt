@@ -3,7 +3,6 @@
 use mathlib.Core.Path.{refl}
 use native.Mathlib.Omega.{arith}
 use Rattle.trial.proofs.Following.{Last, word_from, before_small, last, comes}
-use borrow.Author.Rules.{rules}
 use Rattle.trial.proofs.come.Goals as goal
 
 pub overflow_mul-word : goal.overflow_mul-word

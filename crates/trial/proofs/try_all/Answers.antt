@@ -7,7 +7,6 @@ use native.Mathlib.Omega.{arith}
 use lib.ListN.{length, length-replicate}
 use Rattle.trial.specs.Collected.{refuted}
 use Rattle.trial.proofs.Collecting.{none_both, judged, walk_clashed}
-use borrow.Author.Rules.{rules}
 use Rattle.trial.proofs.try_all.Goals as goal
 
 pub walk-spot-requires : goal.walk-spot-requires

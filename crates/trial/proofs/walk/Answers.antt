@@ -5,11 +5,8 @@ use native.Mathlib.Numerals.{add-one}
 use Rattle.trial.specs.Collected.{all, clash}
 use Rattle.trial.proofs.Collecting.{clashed, gathered, count_most}
 use mathlib.Core.Path.{◌≡◌, refl, sym, ap, ◌∙◌}
-use Prim.Native.Nat.{suc, ◌*◌, ◌-◌, ◌^◌, ◌≤◌}
+use Prim.Native.Nat.{suc, ◌*◌, ◌^◌}
 use native.Mathlib.Omega.{arith}
-use lib.ListN.{length, get_or}
-use Rattle.trial.specs.Tried.{target_of}
-use Rattle.trial.specs.Collected.{Halves}
 use Rattle.trial.proofs.walk.Goals as goal
 
 pub loop-t-init : goal.loop-t-init

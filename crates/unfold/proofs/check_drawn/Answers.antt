@@ -2,7 +2,6 @@
 -- Assumes nothing.
 use mathlib.Core.Path.{refl, ap₂, ◌∙◌}
 use Prim.Native.Nat.{ℕ, ◌+◌, ◌*◌}
-use borrow.Author.Rules.{rules}
 use lib.Dec.{ltb}
 use Rattle.verdict.specs.Judgements.{answer, refuse, and_then}
 use Rattle.verdict.proofs.Laws.{refuse-then}

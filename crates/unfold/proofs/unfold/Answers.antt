@@ -4,7 +4,6 @@ use mathlib.Core.Path.{◌≡◌, sym, ap, ap₂, ◌∙◌}
 use mathlib.Core.List.{List, ◌++◌}
 use Prim.Native.Nat.{ℕ, ◌+◌, ◌*◌}
 use native.Mathlib.Omega.{arith}
-use borrow.Author.Rules.{rules}
 use lib.ListN.{length, drop}
 use Rattle.verdict.specs.Judgements.{answer, figures}
 use Rattle.verdict.proofs.Laws.{accepts}
@@ -14,7 +13,7 @@ use Rattle.table.specs.Sound.{Sound}
 use Rattle.table.proofs.Accepted.{sound}
 use Rattle.table.proofs.Offsets.{arrays_stand}
 use Rattle.unfolded.specs.Unfolded.{gates_needed, unfolded_bytes, drawn_checked, unfold_checked}
-use Rattle.unfolded.proofs.Outcomes.{Accepted, accepted, table_answer, drawn-answer, refused, unfolded}
+use Rattle.unfolded.proofs.Outcomes.{accepted, table_answer, drawn-answer, refused, unfolded}
 use Rattle.unfold.proofs.Circuits.{bytes-needed, bytes-stored, promises}
 use Rattle.unfold.proofs.unfold.Goals as goal
 use Rattle.unfold.proofs.unfold.Goals.{In-Accepted, After-check_drawn-drawn}

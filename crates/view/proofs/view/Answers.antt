@@ -14,8 +14,6 @@ use Rattle.sizes.specs.Sizes.{inputs, outputs, frames as framesOf, sequence_chec
 use Rattle.sizes.specs.Sized.{Fed, sizes_of}
 use Rattle.sizes.specs.declared.Sizes.{Sizes}
 use Rattle.sizes.proofs.Laws.{fed}
-use Rattle.table.specs.Table.{checked}
-use Rattle.table.specs.Sound.{Sound}
 use Rattle.table.proofs.Offsets.{arrays_stand}
 use Rattle.table.proofs.Accepted.{sound, accepted_at}
 use Rattle.view.specs.View.{mask_checked, viewed}

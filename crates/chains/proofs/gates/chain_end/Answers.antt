@@ -1,7 +1,6 @@
 -- `chains::gates::chain_end` meets its contract.
 -- Assumes nothing.
 use native.Mathlib.Omega.{arith}
-use borrow.Author.Rules.{rules}
 use borrow.Author.Tests.{eq-eqb, ne_eqb}
 use Rattle.chains.specs.Chains.{end_of}
 use Rattle.chains.proofs.gates.chain_end.Goals as goal

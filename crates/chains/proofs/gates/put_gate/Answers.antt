@@ -3,7 +3,6 @@
 use mathlib.Core.Path.{ap, ◌∙◌}
 use mathlib.Core.List.{List, ◌∷◌, []}
 use Prim.Native.Nat.{ℕ, ◌+◌, ◌*◌}
-use borrow.Author.Rules.{rules}
 use Rattle.words.specs.Words.{stored}
 use Rattle.chains.specs.Chains.{gates_stored}
 use Rattle.chains.proofs.gates.put_gate.Goals as goal

@@ -6,7 +6,6 @@ use native.Mathlib.Omega.{arith}
 use Rattle.sizes.specs.declared.Sizes.{Sizes}
 use Rattle.circuit.specs.Circuit.{gates}
 use Rattle.circuit.proofs.Stages.{inputs_product, outputs_product}
-use borrow.Author.Rules.{rules}
 use Rattle.circuit.proofs.Head.read.Goals as goal
 
 pub overflow_mul-result : goal.overflow_mul-result

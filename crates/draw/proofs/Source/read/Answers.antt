@@ -6,7 +6,6 @@ use mathlib.Core.List.{List}
 use Prim.Native.Nat.{ℕ, suc, ◌+◌, ◌*◌}
 use native.Mathlib.Numerals.{add-one}
 use native.Mathlib.Omega.{arith}
-use borrow.Author.Rules.{rules}
 use lib.Dec.{ltb}
 use Rattle.sizes.specs.Sizes.{frames}
 use Rattle.table.specs.Table.{states}
@@ -20,9 +19,6 @@ states_of-requires c =
 
 pub overflow_mul-edges : goal.overflow_mul-edges
 overflow_mul-edges c =
-    let b₀ : List ℕ =
-    c.args.table.now
-    in
     let layout_of : Laid ((c.args.table.now)) c.args.layout =
     laid ((c.args.table.now)) c.args.layout c.requires.table_headed c.requires.layout_value.0
     in
@@ -30,9 +26,6 @@ overflow_mul-edges c =
 
 pub entries_below-below-requires : goal.entries_below-below-requires
 entries_below-below-requires c =
-    let b₀ : List ℕ =
-    c.args.table.now
-    in
     let layout_of : Laid ((c.args.table.now)) c.args.layout =
     laid ((c.args.table.now)) c.args.layout c.requires.table_headed c.requires.layout_value.0
     in
@@ -43,9 +36,6 @@ entries_below-below-requires c =
 
 pub overflow_add-result : goal.overflow_add-result
 overflow_add-result c =
-    let b₀ : List ℕ =
-    c.args.table.now
-    in
     let layout_of : Laid ((c.args.table.now)) c.args.layout =
     laid ((c.args.table.now)) c.args.layout c.requires.table_headed c.requires.layout_value.0
     in
@@ -53,9 +43,6 @@ overflow_add-result c =
 
 pub overflow_add-result-2 : goal.overflow_add-result-2
 overflow_add-result-2 c =
-    let b₀ : List ℕ =
-    c.args.table.now
-    in
     let layout_of : Laid ((c.args.table.now)) c.args.layout =
     laid ((c.args.table.now)) c.args.layout c.requires.table_headed c.requires.layout_value.0
     in
@@ -63,9 +50,6 @@ overflow_add-result-2 c =
 
 pub returns : goal.returns
 returns c =
-    let b₀ : List ℕ =
-    c.args.table.now
-    in
     let layout_of : Laid ((c.args.table.now)) c.args.layout =
     laid ((c.args.table.now)) c.args.layout c.requires.table_headed c.requires.layout_value.0
     in

@@ -3,7 +3,6 @@
 use mathlib.Core.Path.{ap₂, ◌∙◌}
 use Rattle.verdict.specs.Judgements.{and_then}
 use Rattle.quiet.specs.Windows.{time_checked}
-use borrow.Author.Rules.{rules}
 use Rattle.quiet.proofs.windows.check_time.Goals as goal
 
 pub returns : goal.returns

@@ -1,7 +1,7 @@
 -- `quiet::windows::check_windows` meets its contract. The invariant: what the definition says of all windows is what it says of those from i on.
 -- Assumes nothing.
 use mathlib.Core.Path.{◌≡◌, sym, ap, ◌∙◌}
-use Prim.Native.Nat.{ℕ, ◌+◌, ◌-◌, ◌/◌, ◌≤◌}
+use Prim.Native.Nat.{ℕ, ◌+◌, ◌-◌, ◌/◌}
 use native.Mathlib.Omega.{arith}
 use lib.Dec.{ltb}
 use lib.ListN.{length}
@@ -10,7 +10,6 @@ use Rattle.verdict.specs.declared.Figures.{Figures}
 use Rattle.verdict.proofs.Laws.{first_here, first_later, first-none}
 use Rattle.quiet.specs.Limits.{most_windows}
 use Rattle.quiet.specs.Windows.{window_count, is_bad, windows_checked}
-use borrow.Author.Rules.{rules}
 use Rattle.quiet.proofs.windows.check_windows.Goals as goal
 
 -- where none is bad

@@ -1,16 +1,12 @@
 -- `quiet::windows::check_windows` meets its contract. The invariant: what the definition says of all windows is what it says of those from i on.
 -- Assumes nothing.
-use mathlib.Core.Path.{◌≡◌, sym, ap, ◌∙◌}
-use Prim.Native.Nat.{ℕ, ◌+◌, ◌-◌, ◌/◌, ◌≤◌}
-use native.Mathlib.Omega.{arith}
+use mathlib.Core.Path.{◌≡◌}
+use Prim.Native.Nat.{ℕ, ◌-◌, ◌≤◌}
 use lib.Dec.{ltb}
-use lib.ListN.{length}
 use Rattle.verdict.specs.Judgements.{answer, refuse, refuse_first}
 use Rattle.verdict.specs.declared.Figures.{Figures}
-use Rattle.verdict.proofs.Laws.{first_here, first_later, first-none}
 use Rattle.quiet.specs.Limits.{most_windows}
-use Rattle.quiet.specs.Windows.{window_count, is_bad, windows_checked}
-use borrow.Author.Rules.{rules}
+use Rattle.quiet.specs.Windows.{is_bad, windows_checked}
 use Rattle.quiet.proofs.windows.check_windows.Given as goal
 
 -- where none is bad
@@ -20,7 +16,3 @@ rest count = refuse (ltb most_windows count) 15 most_windows (answer 0 0)
 abbrev pub invariant-loop-i : goal.invariant-loop-i
 invariant-loop-i l =
     (l.i ≤ l.count) × (windows_checked l.windows ≡ refuse_first (is_bad l.windows) 15 (λ i'. i') (rest l.count) l.i (l.count - l.i))
-
-abbrev pub decreases-loop-i : goal.decreases-loop-i
-decreases-loop-i l =
-    l.count - l.i

@@ -1,13 +1,12 @@
 -- `quiet::windows::is_quiet` meets its contract. The invariant: a minute is quiet where a window from i on holds it.
 -- Assumes nothing.
-use mathlib.Core.Path.{◌≡◌, refl, sym, ap, ◌∙◌}
+use mathlib.Core.Path.{refl, sym, ap, ◌∙◌}
 use mathlib.Core.Bool.{Bool, ◌||◌}
-use Prim.Native.Nat.{◌+◌, ◌*◌, ◌-◌, ◌≤◌}
+use Prim.Native.Nat.{◌+◌, ◌*◌}
 use native.Mathlib.Omega.{arith}
 use lib.ListN.{drop}
-use Rattle.quiet.specs.Windows.{holds, is_quiet}
+use Rattle.quiet.specs.Windows.{is_quiet}
 use Rattle.quiet.proofs.Minutes.{window, no_more, holds_round}
-use borrow.Author.Rules.{rules}
 use Rattle.quiet.proofs.windows.is_quiet.Goals as goal
 
 pub loop-i-init : goal.loop-i-init

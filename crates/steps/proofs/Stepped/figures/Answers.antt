@@ -2,7 +2,6 @@
 -- Assumes nothing.
 use mathlib.Core.Path.{sym, ap, ◌∙◌}
 use Rattle.steps.specs.Steps.{step_figures}
-use borrow.Author.Rules.{rules}
 use Rattle.steps.proofs.Stepped.figures.Goals as goal
 
 pub returns-in-Moved : goal.returns-in-Moved

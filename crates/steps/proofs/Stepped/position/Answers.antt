@@ -3,7 +3,6 @@
 use mathlib.Core.Path.{sym, ap}
 use Rattle.steps.specs.Steps.{step_figures, position_of}
 use Rattle.steps.specs.declared.Stepped.{Stepped}
-use borrow.Author.Rules.{rules}
 use Rattle.steps.proofs.Stepped.position.Goals as goal
 
 pub returns-in-Moved : goal.returns-in-Moved

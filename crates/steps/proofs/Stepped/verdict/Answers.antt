@@ -4,7 +4,6 @@ use mathlib.Core.Path.{sym, ap}
 use Rattle.verdict.specs.Judgements.{answer}
 use Rattle.steps.specs.Steps.{step_figures}
 use Rattle.steps.specs.declared.Stepped.{Stepped}
-use borrow.Author.Rules.{rules}
 use Rattle.steps.proofs.Stepped.verdict.Goals as goal
 
 pub returns-in-Moved : goal.returns-in-Moved

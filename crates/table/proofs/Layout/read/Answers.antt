@@ -7,7 +7,6 @@ use Rattle.sizes.specs.Sizes.{inputs, frames}
 use Rattle.sizes.specs.declared.Sizes.{Sizes}
 use Rattle.table.specs.Table.{head_length, outputs_at, nexts_at, entry_count, entries_below}
 use Rattle.table.proofs.Offsets.{head_length_lem, words_most, arrays_stand}
-use borrow.Author.Rules.{rules}
 use Rattle.table.proofs.Layout.read.Goals as goal
 
 pub read-sizes-requires : goal.read-sizes-requires

@@ -8,7 +8,7 @@ use Prim.Native.Nat.{ℕ, ◌+◌, ◌*◌, ◌-◌, ◌^◌, ◌≤◌, ◌<◌
 use native.Mathlib.Numerals.{add-one}
 use native.Mathlib.Omega.{arith}
 use lib.ListN.{length, take, drop, length-take, length-drop}
-use Rattle.verdict.specs.Judgements.{figures, first_refusal}
+use Rattle.verdict.specs.Judgements.{first_refusal}
 use Rattle.verdict.specs.declared.Figures.{Figures}
 use Rattle.verdict.proofs.Laws.{row_stop, row_on, row_end}
 use Rattle.sizes.specs.Sizes.{inputs, frames}

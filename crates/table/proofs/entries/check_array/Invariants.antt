@@ -1,23 +1,18 @@
 -- `table::entries::check_array` meets its contract. The invariant: layer t's part starts here, and what the definition says of all layers is
 -- what it says of those from t on.
 -- Assumes nothing.
-use mathlib.Core.Path.{◌≡◌, sym, ap, ap₂, ◌∙◌}
-use mathlib.Core.Bool.{Bool, true, false, cond}
-use mathlib.Core.Logic.{⊎_elim}
+use mathlib.Core.Path.{◌≡◌, ap}
+use mathlib.Core.Bool.{Bool, true, false}
 use mathlib.Core.List.{List}
-use Prim.Native.Nat.{ℕ, ◌+◌, ◌*◌, ◌-◌, ◌^◌, ◌≤◌}
-use native.Mathlib.Numerals.{add-one}
+use Prim.Native.Nat.{ℕ, ◌+◌, ◌*◌, ◌-◌, ◌≤◌}
 use native.Mathlib.Omega.{arith}
-use borrow.Author.Rules.{rules}
-use lib.ListN.{length, take, drop, length-take, length-drop}
-use Rattle.verdict.specs.Judgements.{figures, first_refusal}
+use lib.ListN.{length}
+use Rattle.verdict.specs.Judgements.{first_refusal}
 use Rattle.verdict.specs.declared.Figures.{Figures}
-use Rattle.verdict.proofs.Laws.{row_stop, row_on, row_end}
-use Rattle.sizes.specs.Sizes.{inputs, frames}
-use Rattle.table.specs.Table.{states, entries_below, entry_count, outputs_at, nexts_at, layer_part, bad_output, bad_next, part_checked, array_checked}
+use Rattle.table.specs.Table.{entries_below, entry_count, layer_part, bad_output, bad_next, part_checked, array_checked}
 use Rattle.table.specs.Sound.{TableHeaded, bad_by, bound_of, array_at, bad_entry}
 use Rattle.table.specs.declared.entries.Bound.{Bound}
-use Rattle.table.proofs.Offsets.{Laid, laid, below_first, below_next, layer_in, arrays_stand}
+use Rattle.table.proofs.Offsets.{arrays_stand}
 use Rattle.table.proofs.entries.check_array.Given as goal
 
 -- the judgement of layer t's part
@@ -38,7 +33,3 @@ bad-is false b t bound e = ap bad_by e
 abbrev pub invariant-loop-t : goal.invariant-loop-t
 invariant-loop-t l =
     (l.t ≤ l.last) × (l.start ≡ array_at l.table l.nexts + 2 * entries_below l.table l.t) × (array_checked l.table (array_at l.table l.nexts) (bad_entry l.table l.nexts) ≡ first_refusal (judge l.nexts l.table) l.t (l.last - l.t))
-
-abbrev pub decreases-loop-t : goal.decreases-loop-t
-decreases-loop-t l =
-    l.last - l.t

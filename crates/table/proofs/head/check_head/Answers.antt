@@ -17,7 +17,6 @@ use Rattle.sizes.specs.declared.Sizes.{Sizes}
 use Rattle.sizes.proofs.Laws.{sized}
 use Rattle.table.specs.Table.{head_length, table_length, outputs_at, nexts_at, entry_count, entries_below, counts_checked, connected_checked, head_checked}
 use Rattle.table.proofs.Offsets.{head_length_lem, words_most}
-use borrow.Author.Rules.{rules}
 use Rattle.table.proofs.head.check_head.Goals as goal
 
 abbrev rest₃ : List ℕ → Figures

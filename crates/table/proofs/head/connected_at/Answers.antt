@@ -2,7 +2,6 @@
 -- Assumes nothing.
 use native.Mathlib.Omega.{arith}
 use Rattle.table.proofs.Offsets.{connected-at}
-use borrow.Author.Rules.{rules}
 use Rattle.table.proofs.head.connected_at.Goals as goal
 
 pub returns : goal.returns

@@ -6,7 +6,6 @@ use native.Mathlib.Omega.{arith}
 use Rattle.words.specs.Words.{word_at}
 use Rattle.table.specs.Table.{connected_at, connected}
 use Rattle.table.proofs.Offsets.{connected-at, head_length_lem}
-use borrow.Author.Rules.{rules}
 use Rattle.table.proofs.head.connected_of.Goals as goal
 
 pub read-requires : goal.read-requires

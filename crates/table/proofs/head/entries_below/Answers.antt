@@ -6,7 +6,6 @@ use native.Mathlib.Nat.{mul-le-mul, le_trans}
 use native.Mathlib.Omega.{arith}
 use lib.Dec.{lit≤}
 use Rattle.table.specs.Table.{entries_below}
-use borrow.Author.Rules.{rules}
 use Rattle.table.proofs.head.entries_below.Goals as goal
 
 pub overflow_mul-result : goal.overflow_mul-result

@@ -1,7 +1,6 @@
 -- `table::head::head_length` meets its contract.
 -- Assumes nothing.
 use Rattle.table.specs.Table.{head_length}
-use borrow.Author.Rules.{rules}
 use Rattle.table.proofs.head.head_length.Goals as goal
 
 pub returns : goal.returns

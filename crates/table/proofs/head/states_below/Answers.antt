@@ -1,7 +1,6 @@
 -- `table::head::states_below` meets its contract. The invariant: the sum is that of the layers below t, and small.
 -- Assumes nothing.
 use mathlib.Core.Path.{◌≡◌, refl, ap, ◌∙◌}
-use Prim.Native.Nat.{◌*◌, ◌-◌, ◌≤◌}
 use native.Mathlib.Numerals.{add-one}
 use native.Mathlib.Omega.{arith}
 use Rattle.layered.specs.Search.{total}

@@ -1,7 +1,6 @@
 -- `table::head::states_of` meets its contract.
 -- Assumes nothing.
 use Rattle.table.specs.Table.{states, count_at}
-use borrow.Author.Rules.{rules}
 use Rattle.table.proofs.head.states_of.Goals as goal
 
 pub returns : goal.returns

@@ -4,7 +4,7 @@ use mathlib.Core.Path.{◌≡◌, sym, ap, subst, ◌∙◌}
 use mathlib.Core.List.{List}
 use Prim.Native.Nat.{ℕ, ◌+◌, ◌≤◌}
 use lib.ListN.{length, take, drop}
-use Rattle.verdict.specs.Judgements.{answer, figures}
+use Rattle.verdict.specs.Judgements.{answer}
 use Rattle.verdict.specs.declared.Figures.{Figures}
 use Rattle.view.specs.Layers.{layer_checked, layer_outputs, located, behind}
 use Rattle.view.specs.Theorems.{LayerStands}

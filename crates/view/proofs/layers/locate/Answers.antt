@@ -15,7 +15,6 @@ use Rattle.table.proofs.Accepted.{sound}
 use Rattle.table.proofs.Offsets.{Laid, laid, row_small}
 use Rattle.table.proofs.Parts.{count_in}
 use Rattle.view.proofs.LayerParts.{layer_stands, table_refused, layer_refused, end_empty, part_located}
-use borrow.Author.Rules.{rules}
 use Rattle.view.proofs.layers.locate.Goals as goal
 
 pub returns-in-Refused : goal.returns-in-Refused

@@ -2,7 +2,6 @@
 -- Assumes nothing.
 use mathlib.Core.Path.{sym, ap, ◌∙◌}
 use Rattle.ask.specs.Plan.{ask_plan}
-use borrow.Author.Rules.{rules}
 use Rattle.ask.proofs.plan.Asked.plan_numbers.Goals as goal
 
 pub returns-in-Planned : goal.returns-in-Planned

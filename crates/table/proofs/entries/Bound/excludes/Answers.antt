@@ -4,7 +4,6 @@ use mathlib.Core.Path.{sym, ap, ◌∙◌}
 use mathlib.Core.Bool.{Bool, cond}
 use lib.Dec.{leb}
 use Rattle.table.specs.Table.{strays}
-use borrow.Author.Rules.{rules}
 use Rattle.table.proofs.entries.Bound.excludes.Goals as goal
 
 pub returns-then-self : goal.returns-then-self

@@ -7,7 +7,6 @@ use native.Mathlib.Numerals.{add-one}
 use native.Mathlib.Omega.{arith}
 use Rattle.table.specs.Table.{states, connected}
 use Rattle.table.proofs.Offsets.{Laid, laid, head_length_lem}
-use borrow.Author.Rules.{rules}
 use Rattle.table.proofs.entries.Bound.of.Goals as goal
 
 pub states_of-by-requires : goal.states_of-by-requires

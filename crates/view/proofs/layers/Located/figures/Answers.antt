@@ -2,7 +2,6 @@
 -- Assumes nothing.
 use mathlib.Core.Path.{sym, ap, ◌∙◌}
 use Rattle.view.specs.Layers.{layer_figures}
-use borrow.Author.Rules.{rules}
 use Rattle.view.proofs.layers.Located.figures.Goals as goal
 
 pub returns-in-Part : goal.returns-in-Part

@@ -4,7 +4,6 @@ use mathlib.Core.Path.{sym, ap}
 use Rattle.verdict.specs.Judgements.{answer}
 use Rattle.view.specs.Layers.{layer_figures}
 use Rattle.view.specs.declared.layers.Located.{Located}
-use borrow.Author.Rules.{rules}
 use Rattle.view.proofs.layers.Located.verdict.Goals as goal
 
 pub returns-in-Part : goal.returns-in-Part

@@ -1,0 +1,24 @@
+-- `tff::tff_fold` meets its contract.
+-- Assumes nothing.
+use mathlib.Core.Path.{ap}
+use Rattle.answers.specs.Answer.{verdict_numbers}
+use Rattle.answers.proofs.Laws.{answer_kept, answer_put, lent_kept, lent-left}
+use Rattle.tff.proofs.tff_fold.Goals as goal
+
+pub returns-then-answer-lt-VERDICT : goal.returns-then-answer-lt-VERDICT
+returns-then-answer-lt-VERDICT c =
+    record {
+      answer = answer_kept _ _ c.if-answer-lt-VERDICT.true;
+      res = lent_kept _ _ _ _ c.if-answer-lt-VERDICT.true;
+      scratch = lent_kept _ _ _ _ c.if-answer-lt-VERDICT.true;
+      nodes = lent_kept _ _ _ _ c.if-answer-lt-VERDICT.true;
+    }
+
+pub returns : goal.returns
+returns c =
+    record {
+      answer = answer_put _ _ _ _ c.if-answer-lt-VERDICT.false (ap verdict_numbers c.fold-verdict.ensures.verdict) c.put.ensures;
+      res = lent-left _ _ _ _ _ c.if-answer-lt-VERDICT.false c.fold-verdict.ensures.res;
+      scratch = lent-left _ _ _ _ _ c.if-answer-lt-VERDICT.false c.fold-verdict.ensures.scratch;
+      nodes = lent-left _ _ _ _ _ c.if-answer-lt-VERDICT.false c.fold-verdict.ensures.nodes;
+    }
