@@ -1,2 +1,2 @@
--- The proofs of `commit`: laws by subject, lowest first, and a module for each callee.
+-- The proofs of `commit`: what it makes of a call of `fold_wanted`.
 mod Committed

@@ -1,3 +1,3 @@
--- The proofs of `fold`: laws by subject, lowest first, and a module for each callee.
+-- The proofs of `fold`: laws by subject, lowest first.
 pub mod Judged
 pub mod Finished

@@ -11,7 +11,7 @@ use lib.Dec.{ltb}
 use lib.ListN.{length, get_or, take}
 use lib.Seq.{get_or-take}
 use borrow.Author.Tests.{ltb-true, ltb-false}
-use Rattle.sizes.specs.Sizes.{inputs, outputs}
+use Rattle.sizes.specs.Sizes.{inputs}
 use Rattle.layered.proofs.Search.{below_or}
 use Rattle.circuit.specs.Lists.{grown, listed}
 use Rattle.circuit.specs.Circuit.{gates, lefts_at, rights_at, literal_at, operand, unconnected, all_inputs, all_outputs, gate_signal, gate_of_output, output_signal, frame_of}

@@ -1,2 +1,2 @@
--- The proofs of `lent`: laws of the scratch that is needed, and a module for each function that a walk calls.
+-- The proofs of `lent`: laws of the scratch that is needed.
 pub mod Needed

@@ -5,7 +5,7 @@ use Rattle.words.specs.Words.{number_at, stored, Held}
 use Rattle.sizes.specs.Sizes.{inputs, frames}
 use Rattle.layered.specs.Search.{tally}
 use Rattle.layered.specs.Machines.{Machine}
-use Rattle.table.specs.Table.{states, entries_below, nexts_at, machine}
+use Rattle.table.specs.Table.{entries_below, nexts_at, machine}
 use Rattle.table.specs.Sound.{Sound}
 use Rattle.paths.specs.Paths.{leads_to, leads, smallest_of, of_states}
 use Rattle.paths.specs.Places.{reach_head, all_states, histories_at, gap}

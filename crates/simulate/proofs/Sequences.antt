@@ -11,7 +11,7 @@ use lib.ListN.{length, get_or, take, drop, set, length-append, length-drop}
 use lib.Pow.{pow_mono}
 use lib.Seq.{take-suc, take_at, drop_at, get_or-take, get_or-drop, get_or-set_same, get_or-set_other, length-take-le}
 use Rattle.sizes.specs.Limits.{most_frames, most_bits}
-use Rattle.sizes.specs.Sizes.{inputs, outputs, frames}
+use Rattle.sizes.specs.Sizes.{inputs, frames}
 use Rattle.sizes.specs.Sized.{Fed}
 use Rattle.layered.specs.Search.{join}
 use Rattle.layered.specs.States.{Words}

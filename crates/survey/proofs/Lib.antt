@@ -1,3 +1,3 @@
--- The proofs of `survey`: what is explored of a circuit whose signals are built, the stages of a survey, a module for each callee, and a call of it.
+-- The proofs of `survey`: what is explored of a circuit whose signals are built, and the stages of a survey.
 pub mod Subject
 pub mod Surveying

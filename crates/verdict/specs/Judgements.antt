@@ -1,5 +1,5 @@
 -- Document 01's "number, place", and how judgements follow one another.
-use Rattle.std.specs.Prelude.{ℕ, zero, suc, ◌+◌, List, ◌++◌, Bool, cond, eqb, drop}
+use Rattle.std.specs.Prelude.{ℕ, zero, suc, List, ◌++◌, Bool, cond, eqb, drop}
 use Rattle.verdict.specs.declared.Figures.{Figures}
 use Rattle.verdict.specs.declared.Verdict.{Verdict}
 use Rattle.verdict.specs.declared.Verdict.TheVariants.{Accepted, Refused}

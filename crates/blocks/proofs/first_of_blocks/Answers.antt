@@ -3,17 +3,11 @@
 use mathlib.Core.Path.{◌≡◌, refl, sym, ◌∙◌}
 use Prim.Native.Nat.{ℕ, ◌<◌}
 use native.Mathlib.Omega.{arith}
-use lib.Pow.{pow_pos}
-use borrow.Author.Rules.{rules}
 use Rattle.lanes.specs.Limits.{lane_bits, lane_count}
 use Rattle.circuit.specs.Lists.{block_start}
 use Rattle.blocks.proofs.Blocks.{start_zero}
 use Rattle.blocks.proofs.Holds.{holds-first, holds_on}
 use Rattle.blocks.proofs.first_of_blocks.Goals as goal
-
-pub nonzero_rem-at : goal.nonzero_rem-at
-nonzero_rem-at c =
-    omega (arith, pow_pos c.args.bits)
 
 pub returns-then-at-power-ne0 : goal.returns-then-at-power-ne0
 returns-then-at-power-ne0 c v now before =

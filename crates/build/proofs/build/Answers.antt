@@ -8,16 +8,6 @@ use Rattle.source.specs.Source.{sourced}
 use Rattle.build.proofs.Loop.{count_is, count_few, begins, readable, inside, can, stops, goes_on, ends}
 use Rattle.build.proofs.build.Goals as goal
 
-pub overflow_sub-count : goal.overflow_sub-count
-overflow_sub-count c =
-    omega (arith, c.requires.1.formed.head_is.base_is)
-
-pub overflow_add-count : goal.overflow_add-count
-overflow_add-count c =
-    let count = count_is _ _ _ _ _ c.requires.1 in
-    let few = count_few _ _ _ _ _ c.requires.1 in
-    omega (arith, count, few)
-
 pub loop-s-init : goal.loop-s-init
 loop-s-init c =
     begins _ _ _ _ _ c.requires.1
@@ -62,23 +52,12 @@ set_id-requires c =
     let l = inside _ _ _ _ _ c.requires.1 _ _ _ c.loop-s.invariant less in
     (omega (arith, l.0, c.make-id.auto.work), l.1)
 
-pub overflow_add-s : goal.overflow_add-s
-overflow_add-s c =
-    let count = count_is _ _ _ _ _ c.requires.1 in
-    let few = count_few _ _ _ _ _ c.requires.1 in
-    let less : c.loop-s.s < all_inputs (sourced c.args.source c.args.circuit.now) + gates (sourced c.args.source c.args.circuit.now) = omega (arith, count, c.loop-s-test.true) in
-    omega (arith, few)
-
 pub loop-s-preserved : goal.loop-s-preserved
 loop-s-preserved c =
     let count = count_is _ _ _ _ _ c.requires.1 in
     let few = count_few _ _ _ _ _ c.requires.1 in
     let less : c.loop-s.s < all_inputs (sourced c.args.source c.args.circuit.now) + gates (sourced c.args.source c.args.circuit.now) = omega (arith, count, c.loop-s-test.true) in
     rw c.set_id.ensures (goes_on _ _ _ _ _ c.requires.1 _ _ _ c.loop-s.invariant less _ c.origin_of-origin.ensures _ _ _ (c.make-id.auto.nodes ∙ c.loop-s.auto.nodes) (c.make-id.auto.work ∙ c.loop-s.auto.work) c.make-id.ensures c.if-id.false)
-
-pub overflow_add-result : goal.overflow_add-result
-overflow_add-result c =
-    omega (arith, c.requires.1.formed.head_is.gates_is, c.requires.1.formed.headed.gates-to)
 
 pub returns : goal.returns
 returns c =

@@ -8,7 +8,6 @@ use Rattle.circuit.proofs.Accepted.{formed}
 use Rattle.source.proofs.Sources.{whole_source, sourced_whole}
 use Rattle.circuit.proofs.Judged.{first_ahead_shown, judged_alike}
 use Rattle.circuit.proofs.Causal.{causal}
-use borrow.Author.Rules.{rules}
 use Rattle.causal.proofs.check.Goals as goal
 
 pub returns-in_default : goal.returns-in_default

@@ -4,7 +4,6 @@ use mathlib.Core.Path.{◌∙◌}
 use Rattle.causal.proofs.Pass.{judged, reaching_to, none_before, none_reaching}
 use Rattle.source.specs.Source.{sourced}
 use Rattle.source.proofs.Sources.{well}
-use borrow.Author.Rules.{rules}
 use Rattle.causal.proofs.check_look_ahead.Goals as goal
 
 pub returns-then-from-total : goal.returns-then-from-total

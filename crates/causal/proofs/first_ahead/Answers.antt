@@ -1,8 +1,7 @@
 -- `causal::first_ahead` meets its contract. The invariant: where the pass stands, and what is kept of the part before.
 -- Assumes nothing.
-use mathlib.Core.Path.{◌≡◌, refl, sym, ap, ◌∙◌, subst}
-use mathlib.Core.List.{List}
-use Prim.Native.Nat.{ℕ, ◌+◌, ◌-◌, ◌%◌, ◌^◌, ◌≤◌, ◌<◌}
+use mathlib.Core.Path.{◌≡◌, refl, ap, ◌∙◌, subst}
+use Prim.Native.Nat.{◌+◌, ◌-◌, ◌^◌}
 use native.Mathlib.Omega.{arith}
 use borrow.Author.Rules.{rules}
 use lib.ListN.{length}
@@ -13,21 +12,12 @@ use Rattle.circuit.specs.WellFormed.{WellFormed}
 use Rattle.source.specs.Source.{head_of, sourced}
 use Rattle.source.proofs.Sources.{well, own_well, own_room, few_items}
 use Rattle.lanes.specs.Limits.{lane_count}
-use Rattle.lanes.specs.Lanes.{FirstUses, Ready}
 use Rattle.lanes.proofs.Laws.{room_ready}
-use Rattle.causal.specs.Limits.{most_all_outputs}
 use Rattle.causal.specs.Played.{Firsts}
 use Rattle.causal.proofs.Parts.{output_few}
 use Rattle.causal.proofs.Played.{outputs_played, placed}
 use Rattle.causal.proofs.Pass.{Pass, pass_start, pass_more, pass_end, pass_early}
 use Rattle.causal.proofs.first_ahead.Goals as goal
-
-pub overflow_sub-source : goal.overflow_sub-source
-overflow_sub-source c =
-    let known : WellFormed (sourced c.args.source c.args.circuit.now) (head_of c.args.source) =
-    well _ _ c.requires.source_of
-    in
-    omega (arith, known)
 
 pub power-count-requires : goal.power-count-requires
 power-count-requires c =
@@ -72,10 +62,6 @@ pub neighbours-numbers-requires : goal.neighbours-numbers-requires
 neighbours-numbers-requires c =
     (c.loop-at.invariant.0, omega (arith, c.own_bits-bits.ensures.as_many), λ p h. (c.own_bits-bits.ensures.are p h).1)
 
-pub slice_bounds-store_signals-end-in-loop-at-2 : goal.slice_bounds-store_signals-end-in-loop-at-2
-slice_bounds-store_signals-end-in-loop-at-2 c =
-    sym c.loop-at.invariant.3
-
 pub store_signals-requires : goal.store_signals-requires
 store_signals-requires c =
     let W = own_well _ _ c.requires.source_of in
@@ -84,14 +70,6 @@ store_signals-requires c =
       t_bound = (omega (arith, W), search rules, search rules, omega (arith, c.loop-at.invariant.3));
       first_uses = (c.loop-at.invariant.7, c.loop-at.invariant.8);
     }
-
-pub slice_bounds-first_differing-end : goal.slice_bounds-first_differing-end
-slice_bounds-first_differing-end c =
-    sym (c.store_signals.auto.lanes ∙ c.loop-at.invariant.3)
-
-pub slice_bounds-first_differing-end-in-loop-at-2 : goal.slice_bounds-first_differing-end-in-loop-at-2
-slice_bounds-first_differing-end-in-loop-at-2 c =
-    sym c.loop-at.invariant.4
 
 pub first_differing-found-requires : goal.first_differing-found-requires
 first_differing-found-requires c =

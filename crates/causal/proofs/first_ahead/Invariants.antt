@@ -1,25 +1,16 @@
 -- `causal::first_ahead` meets its contract. The invariant: where the pass stands, and what is kept of the part before.
 -- Assumes nothing.
-use mathlib.Core.Path.{◌≡◌, refl, sym, ap, ◌∙◌, subst}
-use mathlib.Core.List.{List}
-use Prim.Native.Nat.{ℕ, ◌+◌, ◌-◌, ◌%◌, ◌^◌, ◌≤◌, ◌<◌}
-use native.Mathlib.Omega.{arith}
-use borrow.Author.Rules.{rules}
+use mathlib.Core.Path.{◌≡◌}
+use Prim.Native.Nat.{◌-◌, ◌%◌, ◌^◌, ◌≤◌, ◌<◌}
 use lib.ListN.{length}
-use lib.Pow.{pow_mono}
 use Rattle.circuit.specs.Limits.{most_signals}
 use Rattle.circuit.specs.Circuit.{all_inputs}
-use Rattle.circuit.specs.WellFormed.{WellFormed}
-use Rattle.source.specs.Source.{head_of, sourced}
-use Rattle.source.proofs.Sources.{well, own_well, own_room, few_items}
+use Rattle.source.specs.Source.{sourced}
 use Rattle.lanes.specs.Limits.{lane_count}
 use Rattle.lanes.specs.Lanes.{FirstUses, Ready}
-use Rattle.lanes.proofs.Laws.{room_ready}
 use Rattle.causal.specs.Limits.{most_all_outputs}
 use Rattle.causal.specs.Played.{Firsts}
-use Rattle.causal.proofs.Parts.{output_few}
-use Rattle.causal.proofs.Played.{outputs_played, placed}
-use Rattle.causal.proofs.Pass.{Pass, pass_start, pass_more, pass_end, pass_early}
+use Rattle.causal.proofs.Pass.{Pass}
 use Rattle.causal.proofs.first_ahead.Given as goal
 
 abbrev pub invariant-loop-at : goal.invariant-loop-at

@@ -3,18 +3,14 @@
 -- Assumes nothing.
 use mathlib.Core.Path.{◌≡◌, refl}
 use mathlib.Core.Bool.{true}
-use mathlib.Core.List.{List}
-use Prim.Native.Nat.{ℕ, ◌-◌, ◌^◌, ◌≤◌, ◌<◌}
+use Prim.Native.Nat.{◌-◌, ◌^◌, ◌≤◌, ◌<◌}
 use native.Mathlib.Omega.{arith}
 use lib.ListN.{length, get_or, length-set}
 use Rattle.layered.proofs.Search.{below_suc}
 use Rattle.circuit.specs.Lists.{block_start}
 use Rattle.circuit.specs.Circuit.{all_outputs, output_on, later_inputs}
-use Rattle.circuit.specs.Frames.{NotAfter}
 use Rattle.circuit.specs.WellFormed.{CircuitHeaded, HeadOf}
-use Rattle.circuit.specs.declared.Head.{Head}
 use Rattle.circuit.proofs.Frames.{not_after_first, not_after_next}
-use Rattle.circuit.specs.Limits.{most_signals}
 use Rattle.source.specs.Source.{head_of, sourced}
 use Rattle.source.proofs.Sources.{well}
 use Rattle.lanes.specs.Limits.{lane_count}
@@ -92,35 +88,6 @@ bounds-shown-q c =
     omega (arith, c, c.requires.lane_count_value)
     in
     omega (arith, output_few (sourced c.args.source c.args.circuit.now) headed (head_of c.args.source) of-head c.loop-q.q inside, c.requires.most_signals_in_bounds.2.as_many)
-
-pub bounds-lanes-shown : goal.bounds-lanes-shown
-bounds-lanes-shown c =
-    let headed : CircuitHeaded (sourced c.args.source c.args.circuit.now) =
-    (well _ _ c.requires.source_of).headed
-    in
-    let of-head : HeadOf (sourced c.args.source c.args.circuit.now) (head_of c.args.source) =
-    (well _ _ c.requires.source_of).head_is
-    in
-    let inside : c.loop-q.q < all_outputs (sourced c.args.source c.args.circuit.now) =
-    omega (arith, c, c.requires.lane_count_value)
-    in
-    let signal-in : get_or c.args.shown.now c.loop-q.q 0 < most_signals =
-    (c.requires.most_signals_in_bounds.2.are c.loop-q.q (output_few (sourced c.args.source c.args.circuit.now) headed (head_of c.args.source) of-head c.loop-q.q inside)).1
-    in
-    omega (arith, signal-in, c.requires.most_signals_in_bounds.0)
-
-pub overflow_mul-source : goal.overflow_mul-source
-overflow_mul-source c =
-    let headed : CircuitHeaded (sourced c.args.source c.args.circuit.now) =
-    (well _ _ c.requires.source_of).headed
-    in
-    let of-head : HeadOf (sourced c.args.source c.args.circuit.now) (head_of c.args.source) =
-    (well _ _ c.requires.source_of).head_is
-    in
-    let inside : c.loop-q.q < all_outputs (sourced c.args.source c.args.circuit.now) =
-    omega (arith, c, c.requires.lane_count_value)
-    in
-    omega (arith, later_to (sourced c.args.source c.args.circuit.now) headed (head_of c.args.source) of-head c.loop-q.q inside c.output_frame-frame.result c.output_frame-frame.ensures.frame)
 
 pub bounds-kept-q : goal.bounds-kept-q
 bounds-kept-q c =

@@ -5,8 +5,7 @@ use mathlib.Core.Bool.{false}
 use Prim.Native.Nat.{ℕ, ◌+◌, ◌*◌, ◌-◌, ◌≤◌, ◌<◌}
 use native.Mathlib.Omega.{arith}
 use lib.ListN.{get_or}
-use borrow.Author.Rules.{rules}
-use Rattle.circuit.proofs.Frames.{not_after_first, from_first}
+use Rattle.circuit.proofs.Frames.{not_after_first}
 use Rattle.circuit.specs.Circuit.{frame_of}
 use Rattle.source.specs.declared.Source.{Source}
 use Rattle.causal.specs.Played.{Placed, own_bit}
@@ -50,33 +49,6 @@ output_frame-frame-requires c =
       le_outputs = (k.inputs_from, omega (arith, k.inputs-to), omega (arith, p, k.bits-to));
       not_after = not_after_first _ _;
     }
-
-pub overflow_sub-later : goal.overflow_sub-later
-overflow_sub-later c = to c.args.source c.args.i (c.requires.1 c.if-source.false) (omega (arith, c.if-source-i.false)) _ c.output_frame-frame.ensures.frame
-
-pub overflow_mul-result : goal.overflow_mul-result
-overflow_mul-result c =
-    let k = c.requires.1 c.if-source.false in
-    omega (arith, most c.args.source c.args.i k (omega (arith, c.if-source-i.false)) _ c.output_frame-frame.ensures.frame, k.bits-to)
-
-pub overflow_sub-result : goal.overflow_sub-result
-overflow_sub-result c = from_first _ _ _ c.output_frame-frame.ensures.only.0
-
-pub overflow_mul-result-2 : goal.overflow_mul-result-2
-overflow_mul-result-2 c =
-    let k = c.requires.1 c.if-source.false in
-    let h : c.args.i + 1 < c.args.source.own.base = omega (arith, c.if-source-i.false) in
-    omega (arith, from c.args.source c.args.i k h _ c.output_frame-frame.ensures.frame, inside c.args.source c.args.i k h, k.bits-to)
-
-pub overflow_sub-result-2 : goal.overflow_sub-result-2
-overflow_sub-result-2 c = from c.args.source c.args.i (c.requires.1 c.if-source.false) (omega (arith, c.if-source-i.false)) _ c.output_frame-frame.ensures.frame
-
-pub overflow_add-result : goal.overflow_add-result
-overflow_add-result c =
-    let k = c.requires.1 c.if-source.false in
-    let h : c.args.i + 1 < c.args.source.own.base = omega (arith, c.if-source-i.false) in
-    let e = c.output_frame-frame.ensures.frame in
-    omega (arith, most c.args.source c.args.i k h _ e, rest c.args.source c.args.i k h _ e, k.bits-to)
 
 pub returns : goal.returns
 returns c =

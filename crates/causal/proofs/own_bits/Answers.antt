@@ -1,9 +1,8 @@
 -- `causal::own_bits` meets its contract. The invariant: the bits of the inputs before i are stored.
 -- Assumes nothing.
-use mathlib.Core.Path.{◌≡◌, refl}
-use Prim.Native.Nat.{ℕ, ◌-◌, ◌≤◌, ◌<◌}
+use mathlib.Core.Path.{refl}
 use native.Mathlib.Omega.{arith}
-use lib.ListN.{length, get_or, length-set}
+use lib.ListN.{length-set}
 use Rattle.sizes.specs.Limits.{most_bits}
 use Rattle.causal.specs.Played.{own_bit}
 use Rattle.causal.proofs.Places.{stored_more}

@@ -1,12 +1,10 @@
 -- `causal::shown_signals` meets its contract. The invariant: the signals of the places before q are stored.
 -- Assumes nothing.
-use mathlib.Core.Path.{◌≡◌, refl}
-use Prim.Native.Nat.{ℕ, ◌-◌, ◌≤◌, ◌<◌}
+use mathlib.Core.Path.{refl}
 use native.Mathlib.Omega.{arith}
-use lib.ListN.{length, get_or, length-set}
+use lib.ListN.{length-set}
 use Rattle.circuit.specs.Limits.{most_signals}
 use Rattle.source.specs.Source.{shown_signal}
-use Rattle.causal.specs.Limits.{most_all_outputs}
 use Rattle.causal.proofs.Places.{stored_more}
 use Rattle.causal.proofs.shown_signals.Goals as goal
 

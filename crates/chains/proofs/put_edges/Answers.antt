@@ -65,9 +65,6 @@ overflow_add-k c =
 
 pub put_gate-requires : goal.put_gate-requires
 put_gate-requires c =
-    let edges : ℕ → ℕ × ℕ =
-    edge_of c.args.target.inputs (c.args.target.base + c.args.matches) c.args.states.now
-    in
     let within : c.args.k + length (listed [] ((edge_of c.args.target.inputs (c.args.target.base + c.args.matches) c.args.states.now)) c.loop-e.e) ≤ c.args.target.gates =
     omega (arith, listed-length ((edge_of c.args.target.inputs (c.args.target.base + c.args.matches) c.args.states.now)) c.loop-e.e, c.loop-e.invariant.0, c.requires.matches_le_k)
     in

@@ -1,8 +1,7 @@
 -- `counting::gates_needed` meets its contract. The invariant: what the output gates and the first t frames need is added up.
 -- Assumes nothing.
 use mathlib.Core.Path.{◌≡◌, sym, ap, ◌∙◌}
-use mathlib.Core.List.{List}
-use Prim.Native.Nat.{ℕ, ◌+◌, ◌*◌, ◌≤◌, ◌<◌}
+use Prim.Native.Nat.{◌+◌, ◌*◌, ◌≤◌, ◌<◌}
 use native.Mathlib.Nat.{mul-le-mul}
 use native.Mathlib.Omega.{arith}
 use Rattle.sizes.specs.Sizes.{outputs as outputs_of, frames as framesOf}
@@ -16,9 +15,6 @@ use Rattle.counting.proofs.gates_needed.Goals as goal
 
 pub overflow_mul-gates : goal.overflow_mul-gates
 overflow_mul-gates c =
-    let b₀ : List ℕ =
-    c.args.table.now
-    in
     let frames_are : c.args.layout.frames ≡ framesOf ((c.args.table.now)) =
     (laid ((c.args.table.now)) c.args.layout c.requires.sound.headed c.requires.layout_value.0).frames_is
     in
@@ -35,9 +31,6 @@ overflow_mul-gates c =
 pub loop-t-init : goal.loop-t-init
 unfolding total
 loop-t-init c =
-    let b₀ : List ℕ =
-    c.args.table.now
-    in
     let frames_are : c.args.layout.frames ≡ framesOf ((c.args.table.now)) =
     (laid ((c.args.table.now)) c.args.layout c.requires.sound.headed c.requires.layout_value.0).frames_is
     in
@@ -53,9 +46,6 @@ loop-t-init c =
 
 pub frame_needs-gates-requires : goal.frame_needs-gates-requires
 frame_needs-gates-requires c =
-    let b₀ : List ℕ =
-    c.args.table.now
-    in
     let frames_are : c.args.layout.frames ≡ framesOf ((c.args.table.now)) =
     (laid ((c.args.table.now)) c.args.layout c.requires.sound.headed c.requires.layout_value.0).frames_is
     in
@@ -66,9 +56,6 @@ frame_needs-gates-requires c =
 
 pub overflow_add-gates : goal.overflow_add-gates
 overflow_add-gates c =
-    let b₀ : List ℕ =
-    c.args.table.now
-    in
     let frames_are : c.args.layout.frames ≡ framesOf ((c.args.table.now)) =
     (laid ((c.args.table.now)) c.args.layout c.requires.sound.headed c.requires.layout_value.0).frames_is
     in
@@ -79,9 +66,6 @@ overflow_add-gates c =
 
 pub overflow_step-t : goal.overflow_step-t
 overflow_step-t c =
-    let b₀ : List ℕ =
-    c.args.table.now
-    in
     let frames_are : c.args.layout.frames ≡ framesOf ((c.args.table.now)) =
     (laid ((c.args.table.now)) c.args.layout c.requires.sound.headed c.requires.layout_value.0).frames_is
     in
@@ -99,9 +83,6 @@ loop-t-preserved c = (
 
 pub returns : goal.returns
 returns c =
-    let b₀ : List ℕ =
-    c.args.table.now
-    in
     let frames_are : c.args.layout.frames ≡ framesOf ((c.args.table.now)) =
     (laid ((c.args.table.now)) c.args.layout c.requires.sound.headed c.requires.layout_value.0).frames_is
     in

@@ -1,6 +1,5 @@
 -- `distinguish::check_pair` meets its contract. Assumes nothing.
 use mathlib.Core.Path.{ap₂, ◌∙◌}
-use borrow.Author.Rules.{rules}
 use Rattle.verdict.specs.Judgements.{and_then}
 use Rattle.distinguish.specs.Distinguish.{pair_checked}
 use Rattle.distinguish.proofs.check_pair.Goals as goal

@@ -1,16 +1,11 @@
 -- `distinguish::first_word` meets its contract. The invariant: before a word the outputs do not differ.
 -- Assumes nothing.
-use mathlib.Core.Path.{◌≡◌, sym, ap, ◌∙◌}
+use mathlib.Core.Path.{◌≡◌}
 use mathlib.Core.Bool.{Bool, false, not}
 use mathlib.Core.List.{List}
-use Prim.Native.Nat.{ℕ, ◌+◌, ◌-◌, ◌*◌, ◌≤◌, ◌<◌}
-use native.Mathlib.Nat.{le_refl}
-use native.Mathlib.Numerals.{add-one}
-use native.Mathlib.Omega.{arith}
+use Prim.Native.Nat.{ℕ, ◌+◌, ◌*◌, ◌≤◌, ◌<◌}
 use lib.Dec.{eqb}
-use borrow.Author.Tests.{eq-eqb, ne_eqb}
 use Rattle.words.specs.Words.{word_at}
-use Rattle.layered.proofs.Search.{least_is, below_suc}
 use Rattle.distinguish.proofs.first_word.Given as goal
 
 -- the outputs for the word w differ
@@ -20,7 +15,3 @@ test table first second w = not (eqb (word_at table (first + 2 * w)) (word_at ta
 abbrev pub invariant-loop-word : goal.invariant-loop-word
 invariant-loop-word l =
     (l.word ≤ l.words) × ((i : ℕ) → i < l.word → test l.table l.first l.second i ≡ false)
-
-abbrev pub decreases-loop-word : goal.decreases-loop-word
-decreases-loop-word l =
-    l.words - l.word

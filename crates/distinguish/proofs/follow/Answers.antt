@@ -1,16 +1,13 @@
 -- `distinguish::follow` meets its contract: the two words that are read are the machine's next states.
 -- Assumes nothing.
 use mathlib.Core.Path.{◌≡◌, refl, ap, ◌∙◌}
-use mathlib.Core.List.{List}
 use Prim.Native.Nat.{ℕ, suc, ◌+◌, ◌*◌, ◌≤◌, ◌<◌}
 use native.Mathlib.Numerals.{add-one}
 use native.Mathlib.Omega.{arith}
 use lib.ListN.{length}
-use borrow.Author.Rules.{rules}
 use Rattle.words.specs.Words.{word_at}
 use Rattle.table.specs.Table.{states, entries_below, entry_count, machine}
-use Rattle.table.proofs.Offsets.{Laid, layer_in, below_next}
-use Rattle.distinguish.specs.declared.Pair.{Pair}
+use Rattle.table.proofs.Offsets.{Laid}
 use Rattle.distinguish.proofs.Entries as entries
 use Rattle.distinguish.proofs.follow.Goals as goal
 
@@ -47,54 +44,6 @@ states_of-requires c =
     in
     omega (arith, c.requires.layer_bound.0, stands)
 
-pub overflow_mul-result : goal.overflow_mul-result
-overflow_mul-result c =
-    let stands : Laid c.args.table.now c.args.layout =
-    entries.stands c.args.table.now c.args.layout c.args.pair c.requires.sound.0 c.requires.sound.1 c.requires.sound.2 c.requires.layer_bound.0
-    in
-    let layer_is : c.args.pair.below + c.states_of.result * c.args.layout.words ≡ entries_below c.args.table.now (c.args.pair.layer + 1) =
-    ap (λ n. c.args.pair.below + n * c.args.layout.words) c.states_of.ensures.0 ∙ entries.below_more c.args.table.now c.args.layout c.args.pair c.requires.sound.0 c.requires.sound.1 c.requires.sound.2 c.requires.layer_bound.0
-    in
-    let layer-small : c.args.pair.below + c.states_of.result * c.args.layout.words ≤ entry_count c.args.table.now =
-    omega (arith, layer_is, ap (entries_below c.args.table.now) (add-one c.args.pair.layer), below_next c.args.table.now c.args.pair.layer, layer_in c.args.table.now c.args.pair.layer c.requires.layer_bound.0)
-    in
-    omega (arith, layer-small, stands)
-
-pub overflow_add-result-2 : goal.overflow_add-result-2
-overflow_add-result-2 c =
-    let stands : Laid c.args.table.now c.args.layout =
-    entries.stands c.args.table.now c.args.layout c.args.pair c.requires.sound.0 c.requires.sound.1 c.requires.sound.2 c.requires.layer_bound.0
-    in
-    let layer_is : c.args.pair.below + c.states_of.result * c.args.layout.words ≡ entries_below c.args.table.now (c.args.pair.layer + 1) =
-    ap (λ n. c.args.pair.below + n * c.args.layout.words) c.states_of.ensures.0 ∙ entries.below_more c.args.table.now c.args.layout c.args.pair c.requires.sound.0 c.requires.sound.1 c.requires.sound.2 c.requires.layer_bound.0
-    in
-    let layer-small : c.args.pair.below + c.states_of.result * c.args.layout.words ≤ entry_count c.args.table.now =
-    omega (arith, layer_is, ap (entries_below c.args.table.now) (add-one c.args.pair.layer), below_next c.args.table.now c.args.pair.layer, layer_in c.args.table.now c.args.pair.layer c.requires.layer_bound.0)
-    in
-    omega (arith, layer-small, stands)
-
-pub overflow_mul-w : goal.overflow_mul-w
-overflow_mul-w c =
-    let stands : Laid c.args.table.now c.args.layout =
-    entries.stands c.args.table.now c.args.layout c.args.pair c.requires.sound.0 c.requires.sound.1 c.requires.sound.2 c.requires.layer_bound.0
-    in
-    let row_in : (x : ℕ) → x < states c.args.table.now c.args.pair.layer → c.args.pair.below + x * c.args.layout.words + c.args.layout.words ≤ entry_count c.args.table.now =
-    entries.row_in c.args.table.now c.args.layout c.args.pair c.requires.sound.0 c.requires.sound.1 c.requires.sound.2 c.requires.layer_bound.0
-    in
-    let first_in : c.args.pair.first < states c.args.table.now c.args.pair.layer =
-    c.requires.sound.2.first_to
-    in
-    let second_in : c.args.pair.second < states c.args.table.now c.args.pair.layer =
-    c.requires.sound.2.second_to
-    in
-    let first-room : c.row-first.result + 2 * c.args.w + 1 < length c.args.table.now =
-    omega (arith, c.row-first.ensures, row_in _ first_in, c.requires.layer_bound.1, stands)
-    in
-    let second-room : c.row-second.result + 2 * c.args.w + 1 < length c.args.table.now =
-    omega (arith, c.row-second.ensures, row_in _ second_in, c.requires.layer_bound.1, stands)
-    in
-    omega (arith, first-room, second-room)
-
 pub overflow_add-first : goal.overflow_add-first
 overflow_add-first c =
     let stands : Laid c.args.table.now c.args.layout =
@@ -119,28 +68,6 @@ overflow_add-first c =
 
 pub read-requires : goal.read-requires
 read-requires c =
-    let stands : Laid c.args.table.now c.args.layout =
-    entries.stands c.args.table.now c.args.layout c.args.pair c.requires.sound.0 c.requires.sound.1 c.requires.sound.2 c.requires.layer_bound.0
-    in
-    let row_in : (x : ℕ) → x < states c.args.table.now c.args.pair.layer → c.args.pair.below + x * c.args.layout.words + c.args.layout.words ≤ entry_count c.args.table.now =
-    entries.row_in c.args.table.now c.args.layout c.args.pair c.requires.sound.0 c.requires.sound.1 c.requires.sound.2 c.requires.layer_bound.0
-    in
-    let first_in : c.args.pair.first < states c.args.table.now c.args.pair.layer =
-    c.requires.sound.2.first_to
-    in
-    let second_in : c.args.pair.second < states c.args.table.now c.args.pair.layer =
-    c.requires.sound.2.second_to
-    in
-    let first-room : c.row-first.result + 2 * c.args.w + 1 < length c.args.table.now =
-    omega (arith, c.row-first.ensures, row_in _ first_in, c.requires.layer_bound.1, stands)
-    in
-    let second-room : c.row-second.result + 2 * c.args.w + 1 < length c.args.table.now =
-    omega (arith, c.row-second.ensures, row_in _ second_in, c.requires.layer_bound.1, stands)
-    in
-    omega (arith, first-room, second-room)
-
-pub overflow_mul-w-2 : goal.overflow_mul-w-2
-overflow_mul-w-2 c =
     let stands : Laid c.args.table.now c.args.layout =
     entries.stands c.args.table.now c.args.layout c.args.pair c.requires.sound.0 c.requires.sound.1 c.requires.sound.2 c.requires.layer_bound.0
     in

@@ -1,8 +1,7 @@
 -- `distinguish::shortest_list` meets its contract. The invariant: no list of 1 to k words separates the states, and there are `rest` of k words.
 -- Assumes nothing.
 use mathlib.Core.Path.{◌≡◌, sym, ap, ap₂, ◌∙◌, subst}
-use mathlib.Core.List.{List}
-use Prim.Native.Nat.{ℕ, suc, ◌+◌, ◌-◌, ◌*◌, ◌^◌, ◌≤◌, ◌<◌}
+use Prim.Native.Nat.{suc, ◌+◌, ◌-◌, ◌*◌, ◌^◌, ◌≤◌, ◌<◌}
 use native.Mathlib.Nat.{pow-zero, pow-suc}
 use native.Mathlib.Numerals.{add-one}
 use native.Mathlib.Omega.{arith}
@@ -11,17 +10,9 @@ use Rattle.layered.specs.Histories.{history_words}
 use Rattle.table.specs.Table.{machine}
 use Rattle.table.proofs.Offsets.{Laid, laid}
 use Rattle.distinguish.specs.Distinguish.{first_list, distinguishing}
-use Rattle.distinguish.specs.declared.Pair.{Pair}
 use Rattle.distinguish.proofs.Separating.{NoneOf, none_longer, shortest_here, shortest-none}
 use Rattle.distinguish.proofs.Searching.{lists_few}
 use Rattle.distinguish.proofs.shortest_list.Goals as goal
-
-pub overflow_sub-left : goal.overflow_sub-left
-overflow_sub-left c =
-    let stands : Laid c.args.table.now c.args.layout =
-    laid c.args.table.now c.args.layout c.requires.0.headed c.requires.1
-    in
-    omega (arith, stands, c.requires.2.layer_to)
 
 pub loop-k-init : goal.loop-k-init
 loop-k-init c =

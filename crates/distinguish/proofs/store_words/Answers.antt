@@ -2,8 +2,7 @@
 -- Assumes nothing.
 use mathlib.Core.Path.{◌≡◌, refl, sym, ap, ◌∙◌}
 use mathlib.Core.List.{List, [], ◌∷◌, ◌++◌, append_assoc}
-use Prim.Native.Nat.{ℕ, zero, suc, ◌+◌, ◌-◌, ◌/◌, ◌%◌, ◌≤◌, ◌<◌}
-use native.Mathlib.Nat.{mod-lt}
+use Prim.Native.Nat.{ℕ, zero, suc, ◌-◌, ◌/◌, ◌%◌, ◌<◌}
 use native.Mathlib.Omega.{arith}
 use lib.ListN.{length, drop, set, length-set}
 use Rattle.layered.specs.Histories.{history_words}
@@ -23,10 +22,6 @@ store-last K k h v whole l e = ap (λ d. history_words K k (h / K) ++ d) (drop-s
 pub loop-left-init : goal.loop-left-init
 loop-left-init c =
     (omega arith, refl, refl)
-
--- TODO no new goal for overflow-cast-result
--- cast-result c =
--- omega (arith, mod-lt c.loop-left.number c.requires.0)
 
 pub loop-left-preserved : goal.loop-left-preserved
 loop-left-preserved c =

@@ -38,9 +38,6 @@ loop-t-init c =
 
 pub read-source-requires : goal.read-source-requires
 read-source-requires c =
-    let b₀ : List ℕ =
-    c.args.table.now
-    in
     let frames_are : c.args.layout.frames ≡ framesOf ((c.args.table.now)) =
     (laid ((c.args.table.now)) c.args.layout c.requires.sound.headed c.requires.layout_value).frames_is
     in
@@ -54,9 +51,6 @@ read-source-requires c =
 
 pub overflow_mul-from : goal.overflow_mul-from
 overflow_mul-from c =
-    let b₀ : List ℕ =
-    c.args.table.now
-    in
     let fit : Fits c.args.target c.args.res.now =
     c.requires.target_value.1
     in
@@ -73,9 +67,6 @@ overflow_mul-from c =
 
 pub overflow_add-to : goal.overflow_add-to
 overflow_add-to c =
-    let b₀ : List ℕ =
-    c.args.table.now
-    in
     let fit : Fits c.args.target c.args.res.now =
     c.requires.target_value.1
     in
@@ -113,31 +104,9 @@ offset_bounds-outputs-from c =
     in
     omega (arith, places)
 
--- TODO no new goal for slice-bounds-outputs-end
--- part-outputs-end c =
---     let b₀ : List ℕ =
---         c.args.table.now
---     in
---     let fit : Fits c.args.target c.args.res.now =
---         c.requires.target_value.1
---     in
---     let frames_are : c.args.layout.frames ≡ framesOf ((c.args.table.now)) =
---         (laid ((c.args.table.now)) c.args.layout c.requires.sound.headed c.requires.layout_value).frames_is
---     in
---     let early : c.loop-t.t < framesOf ((c.args.table.now)) =
---         omega (arith, c.loop-t-test.true, frames_are)
---     in
---     let places : c.args.target.outputs * c.loop-t.t + c.args.target.outputs ≤ most_literals =
---         omega (arith, mul-suc c.args.target.outputs c.loop-t.t, mul-le-mul (fit).outputs-to (le_trans (early) c.requires.sound.headed.sized.frames-to))
---     in
--- omega (arith, places, c.loop-t.invariant.5)
-
 pub put_frame-k-requires : goal.put_frame-k-requires
 unfolding gates_needed
 put_frame-k-requires c =
-    let b₀ : List ℕ =
-    c.args.table.now
-    in
     let aim : c.args.target ≡ target_of ((c.args.table.now)) =
     c.requires.target_value.0
     in
@@ -178,9 +147,6 @@ put_frame-k-requires c =
 
 pub overflow_step-t : goal.overflow_step-t
 overflow_step-t c =
-    let b₀ : List ℕ =
-    c.args.table.now
-    in
     let frames_are : c.args.layout.frames ≡ framesOf ((c.args.table.now)) =
     (laid ((c.args.table.now)) c.args.layout c.requires.sound.headed c.requires.layout_value).frames_is
     in
@@ -192,9 +158,6 @@ overflow_step-t c =
 pub loop-t-preserved : goal.loop-t-preserved
 unfolding gates_needed
 loop-t-preserved c =
-    let b₀ : List ℕ =
-    c.args.table.now
-    in
     let aim : c.args.target ≡ target_of ((c.args.table.now)) =
     c.requires.target_value.0
     in
@@ -248,9 +211,6 @@ slice_bounds-put_outputs-end c =
 pub put_outputs-requires : goal.put_outputs-requires
 unfolding gates_needed
 put_outputs-requires c =
-    let b₀ : List ℕ =
-    c.args.table.now
-    in
     let aim : c.args.target ≡ target_of ((c.args.table.now)) =
     c.requires.target_value.0
     in
@@ -297,9 +257,6 @@ put_outputs-requires c =
 pub returns : goal.returns
 unfolding gates_needed
 returns c =
-    let b₀ : List ℕ =
-    c.args.table.now
-    in
     let aim : c.args.target ≡ target_of ((c.args.table.now)) =
     c.requires.target_value.0
     in

@@ -47,9 +47,6 @@ overflow_add-k c =
 
 pub put_gate-requires : goal.put_gate-requires
 put_gate-requires c =
-    let gateAt : ℕ → ℕ × ℕ =
-    gate_in c.args.connected c.args.from c.args.literals.now
-    in
     let within : c.args.k + length (listed [] ((gate_in c.args.connected c.args.from c.args.literals.now)) c.loop-j.j) ≤ c.args.target.gates =
     omega (arith, listed-length ((gate_in c.args.connected c.args.from c.args.literals.now)) c.loop-j.j, c.loop-j.invariant.0, c.requires.outputs_bound)
     in

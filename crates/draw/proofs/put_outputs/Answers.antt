@@ -1,7 +1,7 @@
 -- `draw::put_outputs` meets its contract. The invariant: the gates of the first t frames are stored.
 -- Assumes nothing.
 use mathlib.Core.Path.{◌≡◌, sym, ap, ◌∙◌}
-use mathlib.Core.List.{List, []}
+use mathlib.Core.List.{[]}
 use Prim.Native.Nat.{ℕ, ◌+◌, ◌*◌, ◌≤◌, ◌<◌}
 use native.Mathlib.Nat.{mul-suc, mul-zero, mul-le-mul_left}
 use native.Mathlib.Omega.{arith}
@@ -23,9 +23,6 @@ loop-t-init c =
 
 pub overflow_mul-from : goal.overflow_mul-from
 overflow_mul-from c =
-    let b₀ : List ℕ =
-    c.args.table.now
-    in
     let layout_of : Laid ((c.args.table.now)) c.args.layout =
     laid ((c.args.table.now)) c.args.layout c.requires.sound.headed c.requires.layout_value
     in
@@ -45,9 +42,6 @@ overflow_mul-from c =
 
 pub connected_of-connected-requires : goal.connected_of-connected-requires
 connected_of-connected-requires c =
-    let b₀ : List ℕ =
-    c.args.table.now
-    in
     let layout_of : Laid ((c.args.table.now)) c.args.layout =
     laid ((c.args.table.now)) c.args.layout c.requires.sound.headed c.requires.layout_value
     in
@@ -59,9 +53,6 @@ connected_of-connected-requires c =
 
 pub overflow_add-k : goal.overflow_add-k
 overflow_add-k c =
-    let b₀ : List ℕ =
-    c.args.table.now
-    in
     let layout_of : Laid ((c.args.table.now)) c.args.layout =
     laid ((c.args.table.now)) c.args.layout c.requires.sound.headed c.requires.layout_value
     in
@@ -81,9 +72,6 @@ overflow_add-k c =
 
 pub put_frame_outputs-requires : goal.put_frame_outputs-requires
 put_frame_outputs-requires c =
-    let b₀ : List ℕ =
-    c.args.table.now
-    in
     let layout_of : Laid ((c.args.table.now)) c.args.layout =
     laid ((c.args.table.now)) c.args.layout c.requires.sound.headed c.requires.layout_value
     in
@@ -111,9 +99,6 @@ put_frame_outputs-requires c =
 
 pub overflow_step-t : goal.overflow_step-t
 overflow_step-t c =
-    let b₀ : List ℕ =
-    c.args.table.now
-    in
     let layout_of : Laid ((c.args.table.now)) c.args.layout =
     laid ((c.args.table.now)) c.args.layout c.requires.sound.headed c.requires.layout_value
     in
@@ -121,9 +106,6 @@ overflow_step-t c =
 
 pub loop-t-preserved : goal.loop-t-preserved
 loop-t-preserved c =
-    let b₀ : List ℕ =
-    c.args.table.now
-    in
     let layout_of : Laid ((c.args.table.now)) c.args.layout =
     laid ((c.args.table.now)) c.args.layout c.requires.sound.headed c.requires.layout_value
     in
@@ -143,9 +125,6 @@ loop-t-preserved c =
 
 pub returns : goal.returns
 returns c =
-    let b₀ : List ℕ =
-    c.args.table.now
-    in
     let layout_of : Laid ((c.args.table.now)) c.args.layout =
     laid ((c.args.table.now)) c.args.layout c.requires.sound.headed c.requires.layout_value
     in

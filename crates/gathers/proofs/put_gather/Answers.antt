@@ -1,7 +1,7 @@
 -- `gathers::put_gather` meets its contract. The invariant: the gates of the edges so far are stored.
 -- Assumes nothing.
 use mathlib.Core.Path.{◌≡◌, refl, sym, ap, ◌∙◌}
-use mathlib.Core.Bool.{Bool, true}
+use mathlib.Core.Bool.{true}
 use mathlib.Core.List.{List}
 use Prim.Native.Nat.{ℕ, ◌+◌, ◌*◌, ◌/◌, ◌≤◌}
 use native.Mathlib.Omega.{arith}
@@ -38,15 +38,6 @@ is_chosen-requires c =
 
 pub chain_end-left-requires : goal.chain_end-left-requires
 chain_end-left-requires c =
-    let first : ℕ =
-    c.args.target.base + c.args.gathering.edges
-    in
-    let test : ℕ → Bool =
-    belongs c.args.gathering.key c.args.entries.now c.args.i
-    in
-    let sofar : ℕ → List ℕ =
-    inverted_edges ((c.args.target.base + c.args.gathering.edges)) ((belongs c.args.gathering.key c.args.entries.now c.args.i))
-    in
     let all_are : (inverted_edges ((c.args.target.base + c.args.gathering.edges)) ((belongs c.args.gathering.key c.args.entries.now c.args.i))) (length c.args.entries.now / 2)
     ≡ gather_edges c.args.target c.args.gathering c.args.entries.now c.args.i =
     all_edges c.args.target c.args.gathering _ _ _ refl
@@ -73,15 +64,6 @@ overflow_add-edges-then-is_chosen-2 c =
 
 pub put_gate-requires : goal.put_gate-requires
 put_gate-requires c =
-    let first : ℕ =
-    c.args.target.base + c.args.gathering.edges
-    in
-    let test : ℕ → Bool =
-    belongs c.args.gathering.key c.args.entries.now c.args.i
-    in
-    let sofar : ℕ → List ℕ =
-    inverted_edges ((c.args.target.base + c.args.gathering.edges)) ((belongs c.args.gathering.key c.args.entries.now c.args.i))
-    in
     let all_are : (inverted_edges ((c.args.target.base + c.args.gathering.edges)) ((belongs c.args.gathering.key c.args.entries.now c.args.i))) (length c.args.entries.now / 2)
     ≡ gather_edges c.args.target c.args.gathering c.args.entries.now c.args.i =
     all_edges c.args.target c.args.gathering _ _ _ refl
@@ -109,15 +91,6 @@ put_gate-requires c =
 
 pub overflow_add-end : goal.overflow_add-end
 overflow_add-end c =
-    let first : ℕ =
-    c.args.target.base + c.args.gathering.edges
-    in
-    let test : ℕ → Bool =
-    belongs c.args.gathering.key c.args.entries.now c.args.i
-    in
-    let sofar : ℕ → List ℕ =
-    inverted_edges ((c.args.target.base + c.args.gathering.edges)) ((belongs c.args.gathering.key c.args.entries.now c.args.i))
-    in
     let all_are : (inverted_edges ((c.args.target.base + c.args.gathering.edges)) ((belongs c.args.gathering.key c.args.entries.now c.args.i))) (length c.args.entries.now / 2)
     ≡ gather_edges c.args.target c.args.gathering c.args.entries.now c.args.i =
     all_edges c.args.target c.args.gathering _ _ _ refl
@@ -136,15 +109,6 @@ overflow_step-e c =
 
 pub loop-e-preserved : goal.loop-e-preserved
 loop-e-preserved c =
-    let first : ℕ =
-    c.args.target.base + c.args.gathering.edges
-    in
-    let test : ℕ → Bool =
-    belongs c.args.gathering.key c.args.entries.now c.args.i
-    in
-    let sofar : ℕ → List ℕ =
-    inverted_edges ((c.args.target.base + c.args.gathering.edges)) ((belongs c.args.gathering.key c.args.entries.now c.args.i))
-    in
     let all_are : (inverted_edges ((c.args.target.base + c.args.gathering.edges)) ((belongs c.args.gathering.key c.args.entries.now c.args.i))) (length c.args.entries.now / 2)
     ≡ gather_edges c.args.target c.args.gathering c.args.entries.now c.args.i =
     all_edges c.args.target c.args.gathering _ _ _ refl
@@ -177,15 +141,6 @@ loop-e-preserved c =
 
 pub returns : goal.returns
 returns c =
-    let first : ℕ =
-    c.args.target.base + c.args.gathering.edges
-    in
-    let test : ℕ → Bool =
-    belongs c.args.gathering.key c.args.entries.now c.args.i
-    in
-    let sofar : ℕ → List ℕ =
-    inverted_edges ((c.args.target.base + c.args.gathering.edges)) ((belongs c.args.gathering.key c.args.entries.now c.args.i))
-    in
     let all_are : (inverted_edges ((c.args.target.base + c.args.gathering.edges)) ((belongs c.args.gathering.key c.args.entries.now c.args.i))) (length c.args.entries.now / 2)
     ≡ gather_edges c.args.target c.args.gathering c.args.entries.now c.args.i =
     all_edges c.args.target c.args.gathering _ _ _ refl

@@ -1,7 +1,7 @@
 -- `gathers::put_gathers` meets its contract. The invariant: the first i chains are stored, and what they end with is kept.
 -- Assumes nothing.
 use mathlib.Core.Path.{◌≡◌, refl, sym, ap, ◌∙◌}
-use mathlib.Core.List.{List, []}
+use mathlib.Core.List.{[]}
 use Prim.Native.Nat.{ℕ, ◌+◌, ◌≤◌, ◌<◌}
 use native.Mathlib.Omega.{arith}
 use lib.ListN.{length, length-set}
@@ -21,12 +21,6 @@ loop-i-init c =
 
 pub put_gather-next-requires : goal.put_gather-next-requires
 put_gather-next-requires c =
-    let f₀ : ℕ → List ℕ =
-    gather_edges c.args.target c.args.gathering c.args.entries.now
-    in
-    let first : ℕ =
-    c.args.target.base + c.args.k
-    in
     let within : c.args.k + length (chains_from ((c.args.target.base + c.args.k)) ((gather_edges c.args.target c.args.gathering c.args.entries.now)) c.loop-i.i) ≤ c.args.target.gates =
     omega (arith, chains_most ((c.args.target.base + c.args.k)) ((gather_edges c.args.target c.args.gathering c.args.entries.now)) c.loop-i.i (length c.args.literals.now) c.loop-i.invariant.0, c.requires.literals_bound)
     in
@@ -42,12 +36,6 @@ put_gather-next-requires c =
 
 pub chain_end-requires : goal.chain_end-requires
 chain_end-requires c =
-    let f₀ : ℕ → List ℕ =
-    gather_edges c.args.target c.args.gathering c.args.entries.now
-    in
-    let first : ℕ =
-    c.args.target.base + c.args.k
-    in
     let next : c.loop-i.end + length ((gather_edges c.args.target c.args.gathering c.args.entries.now) c.loop-i.i) ≤ c.args.target.gates =
     omega (arith, c.loop-i.invariant.1, chains_room ((c.args.target.base + c.args.k)) ((gather_edges c.args.target c.args.gathering c.args.entries.now)) c.loop-i.i (length c.args.literals.now) c.loop-i-test.true, c.requires.literals_bound)
     in
@@ -80,12 +68,6 @@ overflow_step-i c =
 
 pub loop-i-preserved : goal.loop-i-preserved
 loop-i-preserved c =
-    let f₀ : ℕ → List ℕ =
-    gather_edges c.args.target c.args.gathering c.args.entries.now
-    in
-    let first : ℕ =
-    c.args.target.base + c.args.k
-    in
     let next : c.loop-i.end + length ((gather_edges c.args.target c.args.gathering c.args.entries.now) c.loop-i.i) ≤ c.args.target.gates =
     omega (arith, c.loop-i.invariant.1, chains_room ((c.args.target.base + c.args.k)) ((gather_edges c.args.target c.args.gathering c.args.entries.now)) c.loop-i.i (length c.args.literals.now) c.loop-i-test.true, c.requires.literals_bound)
     in

@@ -3,7 +3,6 @@
 use mathlib.Core.Path.{refl, sym, ◌∙◌}
 use mathlib.Core.List.{List, [], ◌∷◌}
 use Prim.Native.Nat.{ℕ}
-use borrow.Author.Rules.{rules}
 use Rattle.lanes.specs.Limits.{lane_count}
 use Rattle.layered.specs.Search.{every}
 use Rattle.circuit.specs.Lists.{bit}

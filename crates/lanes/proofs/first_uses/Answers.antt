@@ -1,11 +1,9 @@
 -- `lanes::first_uses` meets its contract. The invariant: what is noted holds of the gates from g on.
 -- Assumes nothing.
-use mathlib.Core.Path.{◌≡◌, refl, sym, ap, ◌∙◌, subst}
+use mathlib.Core.Path.{◌≡◌, refl, ap, ◌∙◌, subst}
 use Prim.Native.Nat.{ℕ, suc, ◌+◌, ◌-◌, ◌≤◌}
 use native.Mathlib.Omega.{arith}
-use lib.ListN.{length}
 use Rattle.sizes.specs.Limits.{most_bits}
-use Rattle.circuit.specs.Circuit.{gates}
 use Rattle.lanes.specs.Lanes.{FirstUses}
 use Rattle.lanes.proofs.Laws.{noted, uses_none, uses_more}
 use Rattle.lanes.proofs.first_uses.Goals as goal
@@ -14,17 +12,6 @@ pub loop-g-init : goal.loop-g-init
 loop-g-init c =
     (omega (arith, c.requires), refl, uses_none c.args.circuit.now (1 + most_bits) c.args.head.gates)
 
-pub read_gate-gate-requires : goal.read_gate-gate-requires
-read_gate-gate-requires c =
-    record {
-      well_formed = c.requires;
-      g_bound = omega arith;
-    }
-
-pub slice_bounds-note_use-end : goal.slice_bounds-note_use-end
-slice_bounds-note_use-end c =
-    sym c.loop-g.invariant.1
-
 pub note_use-requires : goal.note_use-requires
 note_use-requires c =
     let base-in : (n : ℕ) → n ≡ 1 + most_bits → c.args.head.base ≤ n =
@@ -32,20 +19,12 @@ note_use-requires c =
     in
     base-in _ c.loop-g.invariant.1
 
-pub slice_bounds-note_use-end-in-loop-g : goal.slice_bounds-note_use-end-in-loop-g
-slice_bounds-note_use-end-in-loop-g c =
-    sym (c.note_use.auto.firsts ∙ c.loop-g.invariant.1)
-
 pub note_use-requires-in-loop-g : goal.note_use-requires-in-loop-g
 note_use-requires-in-loop-g c =
     let base-in : (n : ℕ) → n ≡ 1 + most_bits → c.args.head.base ≤ n =
     λ n e. omega (arith, c.requires)
     in
     base-in _ (c.note_use.auto.firsts ∙ c.loop-g.invariant.1)
-
-pub loop-g-smaller : goal.loop-g-smaller
-loop-g-smaller c =
-    omega (arith, c)
 
 pub loop-g-preserved : goal.loop-g-preserved
 loop-g-preserved c =

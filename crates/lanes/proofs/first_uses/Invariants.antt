@@ -1,13 +1,11 @@
 -- `lanes::first_uses` meets its contract. The invariant: what is noted holds of the gates from g on.
 -- Assumes nothing.
-use mathlib.Core.Path.{◌≡◌, refl, sym, ap, ◌∙◌, subst}
-use Prim.Native.Nat.{ℕ, suc, ◌+◌, ◌-◌, ◌≤◌}
-use native.Mathlib.Omega.{arith}
+use mathlib.Core.Path.{◌≡◌}
+use Prim.Native.Nat.{◌+◌, ◌≤◌}
 use lib.ListN.{length}
 use Rattle.sizes.specs.Limits.{most_bits}
 use Rattle.circuit.specs.Circuit.{gates}
 use Rattle.lanes.specs.Lanes.{FirstUses}
-use Rattle.lanes.proofs.Laws.{noted, uses_none, uses_more}
 use Rattle.lanes.proofs.first_uses.Given as goal
 
 abbrev pub invariant-loop-g : goal.invariant-loop-g

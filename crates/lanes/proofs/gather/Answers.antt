@@ -1,12 +1,10 @@
 -- `lanes::gather` meets its contract. The invariant: the bits before `place` are stored.
 -- Assumes nothing.
-use mathlib.Core.Path.{◌≡◌, refl}
-use Prim.Native.Nat.{◌-◌, ◌≤◌}
+use mathlib.Core.Path.{refl}
 use native.Mathlib.Omega.{arith}
-use lib.ListN.{length, get_or, length-set}
-use Rattle.sizes.specs.Limits.{most_bits}
+use lib.ListN.{get_or, length-set}
 use Rattle.lanes.specs.Lanes.{NumberLanes}
-use Rattle.lanes.proofs.Laws.{PlacesTo, places-more, gathered}
+use Rattle.lanes.proofs.Laws.{places-more, gathered}
 use Rattle.lanes.proofs.gather.Goals as goal
 
 pub loop-place-init : goal.loop-place-init

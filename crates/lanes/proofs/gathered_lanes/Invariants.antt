@@ -1,14 +1,10 @@
 -- `lanes::gathered_lanes` meets its contract. The invariant: the number so far has the bits of the histories from j on.
 -- Assumes nothing.
-use mathlib.Core.Path.{◌≡◌, ap, ◌∙◌}
-use Prim.Native.Nat.{◌-◌, ◌^◌, ◌≤◌, ◌<◌}
-use native.Mathlib.Omega.{arith}
-use lib.ListN.{length, take, drop, length-take}
-use lib.Seq.{take_all}
+use mathlib.Core.Path.{◌≡◌}
+use Prim.Native.Nat.{◌-◌, ◌≤◌}
+use lib.ListN.{length, take, drop}
 use Rattle.circuit.specs.Lists.{packed}
-use Rattle.circuit.proofs.Laws.{packed_below, packed_more}
 use Rattle.lanes.specs.Lanes.{lane}
-use Rattle.lanes.proofs.Laws.{lane-length, digit_is}
 use Rattle.lanes.proofs.gathered_lanes.Given as goal
 
 abbrev pub invariant-loop-j : goal.invariant-loop-j

@@ -13,34 +13,6 @@ pub returns-then-t-frame : goal.returns-then-t-frame
 returns-then-t-frame c T h ht N j lj =
     bit-none j ∙ sym (input_none c.args.inputs T c.args.t (h j) c.args.frame c.args.k c.requires.0 c.requires.1 ht (omega (arith, c.if-t-frame)))
 
-pub overflow_mul-result : goal.overflow_mul-result
-overflow_mul-result c =
-    let place : (c.args.t - c.args.frame) * c.args.inputs + c.args.k < c.args.t * c.args.inputs =
-    digits_lt {q = c.args.t - c.args.frame} {m = c.args.t} (omega (arith, c.requires, c.if-t-frame.false)) c.requires.1
-    in
-    omega (arith, place, c.requires)
-
-pub overflow_add-result : goal.overflow_add-result
-overflow_add-result c =
-    let place : (c.args.t - c.args.frame) * c.args.inputs + c.args.k < c.args.t * c.args.inputs =
-    digits_lt {q = c.args.t - c.args.frame} {m = c.args.t} (omega (arith, c.requires, c.if-t-frame.false)) c.requires.1
-    in
-    omega (arith, place, c.requires)
-
-pub offset_bounds-numbers-t : goal.offset_bounds-numbers-t
-offset_bounds-numbers-t c =
-    let place : (c.args.t - c.args.frame) * c.args.inputs + c.args.k < c.args.t * c.args.inputs =
-    digits_lt {q = c.args.t - c.args.frame} {m = c.args.t} (omega (arith, c.requires, c.if-t-frame.false)) c.requires.1
-    in
-    omega (arith, place, c.requires)
-
-pub bounds-numbers-t : goal.bounds-numbers-t
-bounds-numbers-t c =
-    let place : (c.args.t - c.args.frame) * c.args.inputs + c.args.k < c.args.t * c.args.inputs =
-    digits_lt {q = c.args.t - c.args.frame} {m = c.args.t} (omega (arith, c.requires, c.if-t-frame.false)) c.requires.1
-    in
-    omega (arith, place, c.requires)
-
 pub returns : goal.returns
 unfolding NumberLanes
 returns c T h ht N j lj =

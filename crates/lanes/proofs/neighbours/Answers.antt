@@ -1,12 +1,11 @@
 -- `lanes::neighbours` meets its contract. The invariant: the bits before `place` are stored.
 -- Assumes nothing.
-use mathlib.Core.Path.{◌≡◌, refl, sym, ◌∙◌}
-use Prim.Native.Nat.{◌+◌, ◌-◌, ◌≤◌}
+use mathlib.Core.Path.{refl, sym, ◌∙◌}
+use Prim.Native.Nat.{◌+◌}
 use native.Mathlib.Omega.{arith}
-use lib.ListN.{length, length-set}
-use Rattle.sizes.specs.Limits.{most_bits}
+use lib.ListN.{length-set}
 use Rattle.lanes.specs.Lanes.{NumberLanes, picked}
-use Rattle.lanes.proofs.Laws.{PlacesTo, places-more, picked-bit}
+use Rattle.lanes.proofs.Laws.{places-more, picked-bit}
 use Rattle.lanes.proofs.neighbours.Goals as goal
 
 pub loop-place-init : goal.loop-place-init

@@ -1,6 +1,5 @@
 -- `lanes::note_use` meets its contract.
 -- Assumes nothing.
-use borrow.Author.Rules.{rules}
 use borrow.Author.Tests.{lt-ltb, le-ltb}
 use Rattle.lanes.proofs.note_use.Goals as goal
 

@@ -2,7 +2,7 @@
 -- Assumes nothing.
 use mathlib.Core.Path.{◌≡◌, refl, sym, ap, ◌∙◌}
 use mathlib.Core.List.{List, []}
-use Prim.Native.Nat.{ℕ, suc, ◌+◌, ◌*◌, ◌-◌, ◌≤◌}
+use Prim.Native.Nat.{ℕ, suc, ◌+◌, ◌*◌, ◌≤◌}
 use native.Mathlib.Nat.{mul-suc, mul-le-mul_left}
 use native.Mathlib.Omega.{arith}
 use lib.ListN.{length, take, drop, length-set}
@@ -20,22 +20,6 @@ pub loop-t-init : goal.loop-t-init
 unfolding grown
 loop-t-init c =
     (omega arith, refl, refl, refl)
-
-pub overflow_mul-count : goal.overflow_mul-count
-overflow_mul-count c =
-    let there : c.args.at + c.args.count * c.loop-t.t + c.args.count ≤ length c.args.lanes.now =
-    let l : c.args.count * suc c.loop-t.t ≤ c.args.count * length c.args.words.now = mul-le-mul_left c.args.count (omega (arith, c)) in
-    omega (arith, mul-suc c.args.count c.loop-t.t, c.requires)
-    in
-    omega (arith, there)
-
-pub overflow_add-at : goal.overflow_add-at
-overflow_add-at c =
-    let there : c.args.at + c.args.count * c.loop-t.t + c.args.count ≤ length c.args.lanes.now =
-    let l : c.args.count * suc c.loop-t.t ≤ c.args.count * length c.args.words.now = mul-le-mul_left c.args.count (omega (arith, c)) in
-    omega (arith, mul-suc c.args.count c.loop-t.t, c.requires)
-    in
-    omega (arith, there)
 
 pub pack_lane-requires : goal.pack_lane-requires
 pack_lane-requires c =

@@ -1,14 +1,10 @@
 -- `lanes::pack_frames` meets its contract. The invariant: the words of the first t frames are stored.
 -- Assumes nothing.
-use mathlib.Core.Path.{◌≡◌, refl, sym, ap, ◌∙◌}
+use mathlib.Core.Path.{◌≡◌}
 use mathlib.Core.List.{List, []}
-use Prim.Native.Nat.{ℕ, suc, ◌+◌, ◌*◌, ◌-◌, ◌≤◌}
-use native.Mathlib.Nat.{mul-suc, mul-le-mul_left}
-use native.Mathlib.Omega.{arith}
-use lib.ListN.{length, take, drop, length-set}
-use lib.Seq.{take_all}
-use Rattle.circuit.specs.Lists.{grown, listed, packed}
-use Rattle.circuit.proofs.Laws.{fill_grown}
+use Prim.Native.Nat.{ℕ, ◌+◌, ◌*◌, ◌≤◌}
+use lib.ListN.{length, take, drop}
+use Rattle.circuit.specs.Lists.{listed, packed}
 use Rattle.lanes.specs.Lanes.{lane}
 use Rattle.lanes.proofs.pack_frames.Given as goal
 
@@ -19,7 +15,3 @@ word lanes at count j t = packed (take count (drop (at + count * t) (lane j lane
 abbrev pub invariant-loop-t : goal.invariant-loop-t
 invariant-loop-t l =
     (l.t ≤ l.frames) × (l.frames ≡ length l.initial.words) × (length l.words ≡ length l.initial.words) × (take l.t l.words ≡ listed [] (word l.lanes l.at l.count l.j) l.t)
-
-abbrev pub decreases-loop-t : goal.decreases-loop-t
-decreases-loop-t l =
-    l.frames - l.t

@@ -1,13 +1,10 @@
 -- `lanes::pack_lane` meets its contract. The invariant: the word so far is that of the signals from k on.
 -- Assumes nothing.
-use mathlib.Core.Path.{◌≡◌, ap₂, ◌∙◌}
-use Prim.Native.Nat.{ℕ, ◌+◌, ◌-◌, ◌≤◌, ◌<◌}
-use native.Mathlib.Omega.{arith}
-use lib.ListN.{take, drop, length-take}
+use mathlib.Core.Path.{◌≡◌}
+use Prim.Native.Nat.{◌+◌, ◌-◌, ◌≤◌}
+use lib.ListN.{take, drop}
 use Rattle.circuit.specs.Lists.{packed}
-use Rattle.circuit.proofs.Laws.{packed_below, packed_more}
 use Rattle.lanes.specs.Lanes.{lane}
-use Rattle.lanes.proofs.Laws.{lane-length, digit_is}
 use Rattle.lanes.proofs.pack_lane.Given as goal
 
 abbrev pub invariant-loop-k : goal.invariant-loop-k

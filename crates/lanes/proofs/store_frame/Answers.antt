@@ -2,31 +2,15 @@
 -- are settled.
 -- Assumes nothing.
 use mathlib.Core.Path.{◌≡◌, refl, ◌∙◌, subst}
-use mathlib.Core.List.{List}
 use Prim.Native.Nat.{ℕ, ◌+◌, ◌*◌, ◌-◌, ◌≤◌, ◌<◌}
 use native.Mathlib.Omega.{arith}
 use lib.ListN.{length, get_or, length-set}
 use lib.Seq.{get_or-set_other}
 use Rattle.sizes.specs.Limits.{most_bits}
-use Rattle.circuit.specs.Circuit.{all_inputs}
 use Rattle.circuit.proofs.Frames.{ends}
-use Rattle.lanes.specs.Lanes.{NumberLanes, InputLanes, Settled, FirstUses}
+use Rattle.lanes.specs.Lanes.{InputLanes}
 use Rattle.lanes.proofs.Laws.{inputs-more, lower, settled_input}
 use Rattle.lanes.proofs.store_frame.Goals as goal
-
-pub overflow_mul-first : goal.overflow_mul-first
-overflow_mul-first c =
-    let end_at : c.args.frame * c.args.inputs ≡ (c.args.frame - 1) * c.args.inputs + c.args.inputs =
-    ends c.args.frame c.args.inputs c.requires.le_frame.0
-    in
-    omega (arith, c.requires, end_at)
-
-pub overflow_add-first : goal.overflow_add-first
-overflow_add-first c =
-    let end_at : c.args.frame * c.args.inputs ≡ (c.args.frame - 1) * c.args.inputs + c.args.inputs =
-    ends c.args.frame c.args.inputs c.requires.le_frame.0
-    in
-    omega (arith, c.requires, end_at)
 
 pub loop-k-init : goal.loop-k-init
 loop-k-init c =
@@ -40,123 +24,9 @@ loop-k-init c =
       λ b e F S. S,
     )
 
-pub overflow_add-s : goal.overflow_add-s
-overflow_add-s c =
-    let end_at : c.args.frame * c.args.inputs ≡ (c.args.frame - 1) * c.args.inputs + c.args.inputs =
-    ends c.args.frame c.args.inputs c.requires.le_frame.0
-    in
-    let signal : ℕ =
-    1 + (c.args.frame - 1) * c.args.inputs + c.loop-k.k
-    in
-    let few : ((1 + (c.args.frame - 1) * c.args.inputs + c.loop-k.k) ≤ c.args.frame * c.args.inputs) × ((1 + (c.args.frame - 1) * c.args.inputs + c.loop-k.k) ≤ most_bits) =
-    omega (arith, c, end_at, c.requires)
-    in
-    omega (arith, few)
-
 pub input_lanes-after-requires : goal.input_lanes-after-requires
 input_lanes-after-requires c =
     omega (arith, c, c.requires)
-
-pub offset_bounds-lanes-s : goal.offset_bounds-lanes-s
-offset_bounds-lanes-s c =
-    let end_at : c.args.frame * c.args.inputs ≡ (c.args.frame - 1) * c.args.inputs + c.args.inputs =
-    ends c.args.frame c.args.inputs c.requires.le_frame.0
-    in
-    let signal : ℕ =
-    1 + (c.args.frame - 1) * c.args.inputs + c.loop-k.k
-    in
-    let few : ((1 + (c.args.frame - 1) * c.args.inputs + c.loop-k.k) ≤ c.args.frame * c.args.inputs) × ((1 + (c.args.frame - 1) * c.args.inputs + c.loop-k.k) ≤ most_bits) =
-    omega (arith, c, end_at, c.requires)
-    in
-    omega (arith, few)
-
-pub bounds-lanes-s : goal.bounds-lanes-s
-bounds-lanes-s c =
-    let end_at : c.args.frame * c.args.inputs ≡ (c.args.frame - 1) * c.args.inputs + c.args.inputs =
-    ends c.args.frame c.args.inputs c.requires.le_frame.0
-    in
-    let signal : ℕ =
-    1 + (c.args.frame - 1) * c.args.inputs + c.loop-k.k
-    in
-    let few : ((1 + (c.args.frame - 1) * c.args.inputs + c.loop-k.k) ≤ c.args.frame * c.args.inputs) × ((1 + (c.args.frame - 1) * c.args.inputs + c.loop-k.k) ≤ most_bits) =
-    omega (arith, c, end_at, c.requires)
-    in
-    let room : (1 + (c.args.frame - 1) * c.args.inputs + c.loop-k.k) < length c.loop-k.lanes =
-    omega (arith, few, c.loop-k.invariant.1, c.requires)
-    in
-    room
-
-pub offset_bounds-firsts-s : goal.offset_bounds-firsts-s
-offset_bounds-firsts-s c =
-    let end_at : c.args.frame * c.args.inputs ≡ (c.args.frame - 1) * c.args.inputs + c.args.inputs =
-    ends c.args.frame c.args.inputs c.requires.le_frame.0
-    in
-    let signal : ℕ =
-    1 + (c.args.frame - 1) * c.args.inputs + c.loop-k.k
-    in
-    let few : ((1 + (c.args.frame - 1) * c.args.inputs + c.loop-k.k) ≤ c.args.frame * c.args.inputs) × ((1 + (c.args.frame - 1) * c.args.inputs + c.loop-k.k) ≤ most_bits) =
-    omega (arith, c, end_at, c.requires)
-    in
-    omega (arith, few)
-
-pub bounds-firsts-s : goal.bounds-firsts-s
-bounds-firsts-s c =
-    let end_at : c.args.frame * c.args.inputs ≡ (c.args.frame - 1) * c.args.inputs + c.args.inputs =
-    ends c.args.frame c.args.inputs c.requires.le_frame.0
-    in
-    let signal : ℕ =
-    1 + (c.args.frame - 1) * c.args.inputs + c.loop-k.k
-    in
-    let few : ((1 + (c.args.frame - 1) * c.args.inputs + c.loop-k.k) ≤ c.args.frame * c.args.inputs) × ((1 + (c.args.frame - 1) * c.args.inputs + c.loop-k.k) ≤ most_bits) =
-    omega (arith, c, end_at, c.requires)
-    in
-    omega (arith, few, c.requires)
-
-pub offset_bounds-lanes-s-in-loop-k : goal.offset_bounds-lanes-s-in-loop-k
-offset_bounds-lanes-s-in-loop-k c =
-    let end_at : c.args.frame * c.args.inputs ≡ (c.args.frame - 1) * c.args.inputs + c.args.inputs =
-    ends c.args.frame c.args.inputs c.requires.le_frame.0
-    in
-    let signal : ℕ =
-    1 + (c.args.frame - 1) * c.args.inputs + c.loop-k.k
-    in
-    let few : ((1 + (c.args.frame - 1) * c.args.inputs + c.loop-k.k) ≤ c.args.frame * c.args.inputs) × ((1 + (c.args.frame - 1) * c.args.inputs + c.loop-k.k) ≤ most_bits) =
-    omega (arith, c, end_at, c.requires)
-    in
-    omega (arith, few)
-
-pub bounds-lanes-s-in-loop-k : goal.bounds-lanes-s-in-loop-k
-bounds-lanes-s-in-loop-k c =
-    let end_at : c.args.frame * c.args.inputs ≡ (c.args.frame - 1) * c.args.inputs + c.args.inputs =
-    ends c.args.frame c.args.inputs c.requires.le_frame.0
-    in
-    let signal : ℕ =
-    1 + (c.args.frame - 1) * c.args.inputs + c.loop-k.k
-    in
-    let few : ((1 + (c.args.frame - 1) * c.args.inputs + c.loop-k.k) ≤ c.args.frame * c.args.inputs) × ((1 + (c.args.frame - 1) * c.args.inputs + c.loop-k.k) ≤ most_bits) =
-    omega (arith, c, end_at, c.requires)
-    in
-    let room : (1 + (c.args.frame - 1) * c.args.inputs + c.loop-k.k) < length c.loop-k.lanes =
-    omega (arith, few, c.loop-k.invariant.1, c.requires)
-    in
-    room
-
-pub overflow_step-k : goal.overflow_step-k
-overflow_step-k c =
-    let end_at : c.args.frame * c.args.inputs ≡ (c.args.frame - 1) * c.args.inputs + c.args.inputs =
-    ends c.args.frame c.args.inputs c.requires.le_frame.0
-    in
-    let signal : ℕ =
-    1 + (c.args.frame - 1) * c.args.inputs + c.loop-k.k
-    in
-    let few : ((1 + (c.args.frame - 1) * c.args.inputs + c.loop-k.k) ≤ c.args.frame * c.args.inputs) × ((1 + (c.args.frame - 1) * c.args.inputs + c.loop-k.k) ≤ most_bits) =
-    omega (arith, c, end_at, c.requires)
-    in
-    omega (arith, few)
-
-pub loop-k-smaller : goal.loop-k-smaller
-loop-k-smaller c =
-    omega (arith, c)
 
 pub loop-k-preserved : goal.loop-k-preserved
 loop-k-preserved c =

@@ -3,16 +3,16 @@
 -- Assumes nothing.
 use mathlib.Core.Path.{◌≡◌, refl, sym, ◌∙◌, subst}
 use mathlib.Core.List.{List}
-use Prim.Native.Nat.{ℕ, ◌+◌, ◌*◌, ◌-◌, ◌≤◌, ◌<◌}
-use native.Mathlib.Nat.{zero-mul, mul-le-mul_right, le-mul_of_pos_right}
+use Prim.Native.Nat.{ℕ, ◌+◌, ◌*◌, ◌≤◌, ◌<◌}
+use native.Mathlib.Nat.{zero-mul, mul-le-mul_right}
 use native.Mathlib.Omega.{arith}
 use lib.ListN.{length, get_or, set, length-set}
 use lib.Seq.{get_or-set_same}
 use Rattle.sizes.specs.Limits.{most_bits}
-use Rattle.circuit.specs.Circuit.{gates, all_inputs}
+use Rattle.circuit.specs.Circuit.{gates}
 use Rattle.circuit.specs.WellFormed.{WellFormed}
 use Rattle.circuit.proofs.Frames.{next_from, inputs_are}
-use Rattle.lanes.specs.Lanes.{NumberLanes, InputLanes, Settled, Ready, FirstUses}
+use Rattle.lanes.specs.Lanes.{NumberLanes, InputLanes, Settled, Ready}
 use Rattle.lanes.proofs.Laws.{inputs-none, inputs_framed, settled_used, settled_none}
 use Rattle.lanes.proofs.store_inputs.Goals as goal
 use Rattle.lanes.proofs.store_inputs.Goals.{then-lanes-eq0, else-lanes-eq0}
@@ -33,13 +33,6 @@ loop-f-init c = (
   λ T h ht N. subst (λ i. InputLanes c.args.head.inputs T c.args.t h i (set c.args.lanes.now 0 0)) (sym (zero-mul c.args.head.inputs)) (inputs-none c.args.head.inputs T c.args.t h c.args.lanes.now (omega (arith, c.requires))),
   λ b e F S. S,
 )
-
-pub overflow_add-f : goal.overflow_add-f
-overflow_add-f c =
-    let few : (c.loop-f.f + 1) * c.args.head.inputs ≤ c.args.head.frames * c.args.head.inputs =
-    mul-le-mul_right c.args.head.inputs (omega (arith, c))
-    in
-    omega (arith, few, le-mul_of_pos_right (c.loop-f.f + 1) c.requires.le_inputs.0, c.requires)
 
 pub store_frame-start-requires : goal.store_frame-start-requires
 store_frame-start-requires c =

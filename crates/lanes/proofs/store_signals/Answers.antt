@@ -1,19 +1,17 @@
 -- `lanes::store_signals` meets its contract. The invariant: the lanes of the inputs are stored, and the gates before g are settled.
 -- Assumes nothing.
 use mathlib.Core.Path.{◌≡◌, refl, ◌∙◌, subst}
-use mathlib.Core.List.{List}
-use Prim.Native.Nat.{ℕ, ◌+◌, ◌*◌, ◌-◌, ◌/◌, ◌^◌, ◌≤◌, ◌<◌}
+use Prim.Native.Nat.{◌+◌, ◌*◌, ◌/◌, ◌^◌, ◌<◌}
 use native.Mathlib.Omega.{arith}
 use lib.ListN.{length, get_or, length-set}
 use lib.Seq.{get_or-set_other}
 use borrow.Author.Rules.{rules}
-use Rattle.circuit.specs.Limits.{most_signals}
 use Rattle.circuit.specs.Circuit.{gates, all_inputs}
 use Rattle.circuit.proofs.Laws.{signals_fit}
 use Rattle.circuit.proofs.Frames.{inputs_are}
 use Rattle.lanes.specs.Limits.{lane_count}
-use Rattle.lanes.specs.Lanes.{NumberLanes, Lanes, Settled}
-use Rattle.lanes.proofs.Laws.{inputs_of, inputs-stored, inputs_kept, settled_more, settled_signals}
+use Rattle.lanes.specs.Lanes.{Settled}
+use Rattle.lanes.proofs.Laws.{inputs-stored, inputs_kept, settled_more, settled_signals}
 use Rattle.lanes.proofs.store_signals.Goals as goal
 
 pub store_inputs-start-requires : goal.store_inputs-start-requires

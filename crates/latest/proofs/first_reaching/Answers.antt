@@ -2,17 +2,14 @@
 -- Assumes nothing.
 use mathlib.Core.Path.{◌≡◌, sym, ap, ◌∙◌}
 use mathlib.Core.Bool.{false}
-use mathlib.Core.List.{List}
-use Prim.Native.Nat.{ℕ, suc, ◌-◌, ◌/◌, ◌≤◌, ◌<◌}
+use Prim.Native.Nat.{suc, ◌/◌}
 use native.Mathlib.Numerals.{add-one}
 use native.Mathlib.Omega.{arith}
 use borrow.Author.Tests.{lt-ltb, le-ltb}
-use borrow.Author.Rules.{rules}
 use lib.Dec.{ltb}
 use lib.ListN.{get_or}
 use Rattle.layered.proofs.Search.{below_suc, least_is}
 use Rattle.circuit.specs.Circuit.{frame_of}
-use Rattle.circuit.specs.Frames.{NotAfter}
 use Rattle.circuit.specs.WellFormed.{WellFormed}
 use Rattle.circuit.proofs.Frames.{not_after_first, not_after_next}
 use Rattle.circuit.proofs.Ahead.{output_parts}
@@ -48,10 +45,6 @@ overflow_cast-frame c =
 pub shown_signal-requires : goal.shown_signal-requires
 shown_signal-requires c =
     (few_items _ _ c.requires, (own_room _ _ c.requires).0, (own_room _ _ c.requires).1)
-
-pub bounds-latest-shown_signal : goal.bounds-latest-shown_signal
-bounds-latest-shown_signal c =
-    c.shown_signal.ensures.1
 
 pub returns-then-frame-latest : goal.returns-then-frame-latest
 returns-then-frame-latest c =

@@ -1,27 +1,15 @@
 -- `latest::output_frame` meets its contract. The invariant: frame t does not begin after output q.
 -- Assumes nothing.
 use mathlib.Core.Path.{refl}
-use Prim.Native.Nat.{◌+◌, ◌-◌, ◌≤◌}
-use native.Mathlib.Nat.{le-mul_of_pos_right}
+use Prim.Native.Nat.{◌+◌}
 use native.Mathlib.Omega.{arith}
-use Rattle.circuit.specs.Frames.{OutputOf, NotAfter}
-use Rattle.circuit.proofs.Frames.{next_from, ends, frame_is, only_output}
+use Rattle.circuit.specs.Frames.{OutputOf}
+use Rattle.circuit.proofs.Frames.{next_from, frame_is, only_output}
 use Rattle.latest.proofs.output_frame.Goals as goal
 
 pub loop-t-init : goal.loop-t-init
 loop-t-init c =
     omega (arith, c.requires)
-
-pub overflow_mul-t : goal.overflow_mul-t
-overflow_mul-t c =
-    omega (arith, c.loop-t.invariant, c.requires, ends c.loop-t.t c.args.outputs c.loop-t.invariant.0)
-
-pub overflow_add-t : goal.overflow_add-t
-overflow_add-t c =
-    let to : c.loop-t.t ≤ c.args.q =
-    omega (arith, c, le-mul_of_pos_right c.loop-t.t c.requires.le_outputs.0)
-    in
-    omega (arith, to)
 
 pub loop-t-preserved : goal.loop-t-preserved
 loop-t-preserved c =

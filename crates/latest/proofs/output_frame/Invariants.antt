@@ -1,11 +1,7 @@
 -- `latest::output_frame` meets its contract. The invariant: frame t does not begin after output q.
 -- Assumes nothing.
-use mathlib.Core.Path.{refl}
-use Prim.Native.Nat.{◌+◌, ◌-◌, ◌≤◌}
-use native.Mathlib.Nat.{le-mul_of_pos_right}
-use native.Mathlib.Omega.{arith}
-use Rattle.circuit.specs.Frames.{OutputOf, NotAfter}
-use Rattle.circuit.proofs.Frames.{next_from, ends, frame_is, only_output}
+use Prim.Native.Nat.{◌+◌, ◌-◌}
+use Rattle.circuit.specs.Frames.{NotAfter}
 use Rattle.latest.proofs.output_frame.Given as goal
 
 abbrev pub invariant-loop-t : goal.invariant-loop-t

@@ -2,49 +2,18 @@
 -- these signals.
 -- Assumes nothing.
 use mathlib.Core.Path.{◌≡◌, refl, sym, ◌∙◌, subst}
-use Prim.Native.Nat.{◌+◌, ◌*◌, ◌-◌, ◌≤◌, ◌<◌}
-use native.Mathlib.Nat.{zero-mul, suc-mul, le-mul_of_pos_right}
+use Prim.Native.Nat.{◌+◌, ◌*◌, ◌≤◌, ◌<◌}
+use native.Mathlib.Nat.{zero-mul, suc-mul}
 use native.Mathlib.Numerals.{add-one}
 use native.Mathlib.Omega.{arith}
 use lib.Arith.{digits_lt}
 use lib.ListN.{length, length-set}
-use Rattle.sizes.specs.Limits.{most_bits}
 use Rattle.latest.proofs.Laws.{InputTo, input_more, input_all}
 use Rattle.latest.proofs.store_input.Goals as goal
 
 pub loop-t-init : goal.loop-t-init
 loop-t-init c =
     (omega arith, omega (arith, zero-mul c.args.inputs), refl, (c.requires.inputs_to, λ f h. absurd (omega arith)))
-
-pub overflow_add-latest : goal.overflow_add-latest
-overflow_add-latest c =
-    let few : c.loop-t.t < most_bits =
-    let some : 0 < c.args.inputs = omega (arith, c.requires) in
-    omega (arith, c, le-mul_of_pos_right c.args.frames some, c.requires)
-    in
-    omega (arith, few)
-
-pub overflow_cast-latest : goal.overflow_cast-latest
-overflow_cast-latest c =
-    let few : c.loop-t.t < most_bits =
-    let some : 0 < c.args.inputs = omega (arith, c.requires) in
-    omega (arith, c, le-mul_of_pos_right c.args.frames some, c.requires)
-    in
-    omega (arith, few)
-
-pub bounds-latest-s : goal.bounds-latest-s
-bounds-latest-s c =
-    let in-range : c.loop-t.s ≤ c.args.frames * c.args.inputs =
-    omega (arith, c.loop-t.invariant.1, digits_lt {q = c.loop-t.t} {m = c.args.frames} (omega (arith, c)) c.requires.k_lt_inputs.0)
-    in
-    omega (arith, in-range, c.loop-t.invariant.2, c.requires)
-
-pub overflow_add-s-in-loop-t : goal.overflow_add-s-in-loop-t
-overflow_add-s-in-loop-t c =
-    let in-range : c.loop-t.s ≤ c.args.frames * c.args.inputs =
-    omega (arith, c.loop-t.invariant.1, digits_lt {q = c.loop-t.t} {m = c.args.frames} (omega (arith, c)) c.requires.k_lt_inputs.0)
-    in
-    omega (arith, in-range, c.requires)
 
 pub loop-t-preserved : goal.loop-t-preserved
 loop-t-preserved c =

@@ -1,9 +1,8 @@
 -- `latest::store_inputs` meets its contract. The invariant: the latest frames of the constant and of inputs 0 to k - 1 of every frame are stored.
 -- Assumes nothing.
 use mathlib.Core.Path.{◌≡◌, refl, ◌∙◌, subst}
-use Prim.Native.Nat.{◌-◌, ◌≤◌}
 use native.Mathlib.Omega.{arith}
-use lib.ListN.{length, length-set}
+use lib.ListN.{length-set}
 use Rattle.latest.specs.Latest.{InputsTo}
 use Rattle.latest.proofs.Laws.{inputs-none, inputs-all, input_only}
 use Rattle.latest.proofs.store_inputs.Goals as goal

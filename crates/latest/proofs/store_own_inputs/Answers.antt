@@ -2,17 +2,16 @@
 -- Assumes nothing.
 use mathlib.Core.Path.{◌≡◌, refl, ap, ◌∙◌}
 use mathlib.Core.Bool.{false}
-use Prim.Native.Nat.{◌+◌, ◌*◌, ◌-◌, ◌≤◌, ◌<◌}
-use native.Mathlib.Nat.{le-mul_of_pos_right}
+use Prim.Native.Nat.{◌+◌, ◌*◌, ◌<◌}
 use native.Mathlib.Omega.{arith}
-use lib.ListN.{length, get_or, take, length-set}
+use lib.ListN.{length, get_or, length-set}
 use Rattle.circuit.specs.Circuit.{all_inputs}
 use Rattle.circuit.specs.WellFormed.{WellFormed}
 use Rattle.circuit.specs.declared.Head.{Head}
 use Rattle.circuit.proofs.Frames.{inputs_are, not_after_first}
 use Rattle.source.specs.Source.{head_of, sourced, Spreads}
 use Rattle.source.proofs.Sources.{well, is_whole, is_spread}
-use Rattle.latest.proofs.Laws.{own_inputs_whole, placed, placed-none, placed-more, placed-all}
+use Rattle.latest.proofs.Laws.{own_inputs_whole, placed-none, placed-more, placed-all}
 use Rattle.latest.proofs.store_own_inputs.Goals as goal
 
 -- ---- a circuit as it stands
@@ -38,42 +37,9 @@ returns-then-source c =
     let own : c.args.source.own.base ≡ c.args.source.base = ap (λ (h : Head). h.base) O.own_is in
     own_inputs_whole c.args.source _ _ c.if-source.true (omega (arith, (known).head_is.base_is, all-inputs)) c.store_inputs.ensures.frames
 
-pub overflow_sub-count : goal.overflow_sub-count
-overflow_sub-count c =
-    let spreads : c.args.source.whole ≡ false → Spreads c.requires.by_index.0 c.args.source =
-    λ e. is_spread _ _ c.requires.by_index.1 e
-    in
-    omega (arith, (spreads c.if-source.false).network.head_is.base_is)
-
 pub loop-i-init : goal.loop-i-init
 loop-i-init c =
     (omega arith, refl, placed-none c.args.source c.args.latest.now (omega (arith, c.requires.most_signals_in_bounds)))
-
-pub bounds-source-i : goal.bounds-source-i
-bounds-source-i c =
-    let spreads : c.args.source.whole ≡ false → Spreads c.requires.by_index.0 c.args.source =
-    λ e. is_spread _ _ c.requires.by_index.1 e
-    in
-    let of-turn : Spreads c.requires.by_index.0 c.args.source =
-    spreads c.if-source.false
-    in
-    let few : c.loop-i.i < 16 =
-    let P = of-turn in omega (arith, c.loop-i-test.true, P.network.head_is.base_is, P.network.headed.inputs-to)
-    in
-    few
-
-pub overflow_cast-source : goal.overflow_cast-source
-overflow_cast-source c =
-    let spreads : c.args.source.whole ≡ false → Spreads c.requires.by_index.0 c.args.source =
-    λ e. is_spread _ _ c.requires.by_index.1 e
-    in
-    let of-turn : Spreads c.requires.by_index.0 c.args.source =
-    spreads c.if-source.false
-    in
-    let inside : get_or c.args.source.places c.loop-i.i 0 < 16 =
-    let P = of-turn in omega (arith, P.places_in c.loop-i.i (omega (arith, c.loop-i-test.true, P.network.head_is.base_is)), P.sizes.bits-to)
-    in
-    omega (arith, inside)
 
 pub output_frame-requires : goal.output_frame-requires
 output_frame-requires c =
@@ -90,48 +56,6 @@ output_frame-requires c =
       le_outputs = omega (arith, (of-turn).sizes, inside);
       not_after = not_after_first _ _;
     }
-
-pub overflow_cast-latest : goal.overflow_cast-latest
-overflow_cast-latest c =
-    let spreads : c.args.source.whole ≡ false → Spreads c.requires.by_index.0 c.args.source =
-    λ e. is_spread _ _ c.requires.by_index.1 e
-    in
-    let of-turn : Spreads c.requires.by_index.0 c.args.source =
-    spreads c.if-source.false
-    in
-    let inside : get_or c.args.source.places c.loop-i.i 0 < 16 =
-    let P = of-turn in omega (arith, P.places_in c.loop-i.i (omega (arith, c.loop-i-test.true, P.network.head_is.base_is)), P.sizes.bits-to)
-    in
-    omega (arith, inside, c.output_frame.ensures.only.0, le-mul_of_pos_right (c.output_frame.result - 1) (of-turn).sizes.inputs_from)
-
-pub overflow_add-latest : goal.overflow_add-latest
-overflow_add-latest c =
-    let spreads : c.args.source.whole ≡ false → Spreads c.requires.by_index.0 c.args.source =
-    λ e. is_spread _ _ c.requires.by_index.1 e
-    in
-    let of-turn : Spreads c.requires.by_index.0 c.args.source =
-    spreads c.if-source.false
-    in
-    let few : c.loop-i.i < 16 =
-    let P = of-turn in omega (arith, c.loop-i-test.true, P.network.head_is.base_is, P.network.headed.inputs-to)
-    in
-    omega (arith, few)
-
-pub bounds-latest-i : goal.bounds-latest-i
-bounds-latest-i c =
-    let spreads : c.args.source.whole ≡ false → Spreads c.requires.by_index.0 c.args.source =
-    λ e. is_spread _ _ c.requires.by_index.1 e
-    in
-    let of-turn : Spreads c.requires.by_index.0 c.args.source =
-    spreads c.if-source.false
-    in
-    let few : c.loop-i.i < 16 =
-    let P = of-turn in omega (arith, c.loop-i-test.true, P.network.head_is.base_is, P.network.headed.inputs-to)
-    in
-    let room : 1 + c.loop-i.i < length c.loop-i.latest =
-    omega (arith, few, c.loop-i.invariant.1, length-set c.args.latest.now 0 0, c.requires.most_signals_in_bounds)
-    in
-    room
 
 pub loop-i-preserved : goal.loop-i-preserved
 loop-i-preserved c =

@@ -1,11 +1,10 @@
 -- `latest::store_signals` meets its contract. The invariant: the latest frames of the signals before gate g are stored.
 -- Assumes nothing.
-use mathlib.Core.Path.{◌≡◌, refl, ap, ◌∙◌}
-use Prim.Native.Nat.{ℕ, ◌+◌, ◌-◌, ◌/◌, ◌≤◌, ◌<◌}
+use mathlib.Core.Path.{refl, ap, ◌∙◌}
+use Prim.Native.Nat.{ℕ, ◌+◌, ◌/◌, ◌<◌}
 use native.Mathlib.Omega.{arith}
 use lib.ListN.{length, take, set, length-set}
 use Rattle.circuit.specs.Lists.{grown}
-use Rattle.circuit.specs.Limits.{most_signals}
 use Rattle.circuit.specs.Circuit.{gates}
 use Rattle.circuit.specs.WellFormed.{WellFormed}
 use Rattle.circuit.proofs.Laws.{signals_all}
@@ -24,77 +23,6 @@ store_own_inputs-requires c =
 pub loop-g-init : goal.loop-g-init
 loop-g-init c =
     (omega arith, omega (arith, c.store_own_inputs.auto.latest, c.requires.most_signals_in_bounds), refl, latest-none c.args.circuit.now c.store_own_inputs.new.latest c.args.source.own.base)
-
-pub read_gate-gate-requires : goal.read_gate-gate-requires
-read_gate-gate-requires c =
-    let known : WellFormed c.args.circuit.now c.args.source.own =
-    own_well _ _ c.requires.source_of
-    in
-    let gate : c.loop-g.g < gates c.args.circuit.now =
-    omega (arith, c, known)
-    in
-    record {
-      well_formed = known;
-      g_bound = gate;
-    }
-
-pub bounds-latest-left : goal.bounds-latest-left
-bounds-latest-left c =
-    let known : WellFormed c.args.circuit.now c.args.source.own =
-    own_well _ _ c.requires.source_of
-    in
-    let gate : c.loop-g.g < gates c.args.circuit.now =
-    omega (arith, c, known)
-    in
-    let room : c.args.source.own.base + c.loop-g.g < most_signals =
-    omega (arith, gate, known)
-    in
-    let left_in : c.read_gate-gate.result.left / 2 < c.args.source.own.base + c.loop-g.g =
-    omega (arith, c.read_gate-gate.ensures.left-before, known)
-    in
-    omega (arith, left_in, room, c.loop-g.invariant.1)
-
-pub bounds-latest-right : goal.bounds-latest-right
-bounds-latest-right c =
-    let known : WellFormed c.args.circuit.now c.args.source.own =
-    own_well _ _ c.requires.source_of
-    in
-    let gate : c.loop-g.g < gates c.args.circuit.now =
-    omega (arith, c, known)
-    in
-    let room : c.args.source.own.base + c.loop-g.g < most_signals =
-    omega (arith, gate, known)
-    in
-    let right_in : c.read_gate-gate.result.right / 2 < c.args.source.own.base + c.loop-g.g =
-    omega (arith, c.read_gate-gate.ensures.right_before, known)
-    in
-    omega (arith, right_in, room, c.loop-g.invariant.1)
-
-pub overflow_add-latest : goal.overflow_add-latest
-overflow_add-latest c =
-    let known : WellFormed c.args.circuit.now c.args.source.own =
-    own_well _ _ c.requires.source_of
-    in
-    let gate : c.loop-g.g < gates c.args.circuit.now =
-    omega (arith, c, known)
-    in
-    let room : c.args.source.own.base + c.loop-g.g < most_signals =
-    omega (arith, gate, known)
-    in
-    omega (arith, room)
-
-pub bounds-latest-base : goal.bounds-latest-base
-bounds-latest-base c =
-    let known : WellFormed c.args.circuit.now c.args.source.own =
-    own_well _ _ c.requires.source_of
-    in
-    let gate : c.loop-g.g < gates c.args.circuit.now =
-    omega (arith, c, known)
-    in
-    let room : c.args.source.own.base + c.loop-g.g < most_signals =
-    omega (arith, gate, known)
-    in
-    omega (arith, room, c.loop-g.invariant.1)
 
 pub loop-g-preserved : goal.loop-g-preserved
 loop-g-preserved c =

@@ -4,7 +4,7 @@ use mathlib.Core.Path.{◌≡◌, ap, ◌∙◌}
 use mathlib.Core.List.{List, ◌++◌, append-nil}
 use Prim.Native.Nat.{ℕ}
 use native.Mathlib.Omega.{arith}
-use lib.ListN.{length, drop, set, replicate, length-set, length-append, length-drop, length-replicate}
+use lib.ListN.{length, drop, set, replicate, length-append, length-drop, length-replicate}
 use lib.Seq.{drop-length}
 use borrow.Author.Fill.{fill_none, fill_more}
 use Rattle.lent.proofs.clear.Goals as goal
@@ -12,24 +12,6 @@ use Rattle.lent.proofs.clear.Goals as goal
 pub loop-i-init : goal.loop-i-init
 loop-i-init c =
     (omega arith, fill_none _ 0)
-
-pub offset_bounds-scratch-i : goal.offset_bounds-scratch-i
-offset_bounds-scratch-i c =
-    let len : length c.loop-i.scratch ≡ length c.args.scratch.now =
-    ap length c.loop-i.invariant.1 ∙ simp (length-append, length-drop, length-replicate) (omega (arith, c.loop-i.invariant.0))
-    in
-    omega (arith, len, c.well_formed)
-
-pub overflow_add-i : goal.overflow_add-i
-overflow_add-i c =
-    let len : length c.loop-i.scratch ≡ length c.args.scratch.now =
-    ap length c.loop-i.invariant.1 ∙ simp (length-append, length-drop, length-replicate) (omega (arith, c.loop-i.invariant.0))
-    in
-    omega (arith, len, c.well_formed)
-
-pub loop-i-smaller : goal.loop-i-smaller
-loop-i-smaller c =
-    simp length-set (omega arith)
 
 pub loop-i-preserved : goal.loop-i-preserved
 loop-i-preserved c =

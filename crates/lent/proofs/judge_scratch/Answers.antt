@@ -1,18 +1,12 @@
 -- `lent::judge_scratch` meets its contract.
 -- Assumes nothing.
 use mathlib.Core.Path.{refl}
-use native.Mathlib.Omega.{arith}
-use lib.ListN.{length-take}
 use Rattle.lent.proofs.Needed.{part_cleared, takes_none, takes_all}
 use Rattle.lent.proofs.judge_scratch.Goals as goal
 
 pub returns-then-scratch-needed : goal.returns-then-scratch-needed
 returns-then-scratch-needed c =
     takes_none _ _ _ _ c.scratch_needed-needed.ensures c.if-scratch-needed.true refl
-
-pub slice_bounds-clear-end-2 : goal.slice_bounds-clear-end-2
-slice_bounds-clear-end-2 c =
-    rw (length-take) (omega (arith, c.if-scratch-needed.false))
 
 pub returns : goal.returns
 returns c =

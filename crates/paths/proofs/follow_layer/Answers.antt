@@ -1,19 +1,17 @@
 -- `paths::follow_layer` meets its contract. The invariant: the numbers are those with the entries of the states so far.
 -- Assumes nothing.
 use mathlib.Core.Path.{◌≡◌, sym, ap, ◌∙◌}
-use mathlib.Core.List.{List}
-use Prim.Native.Nat.{ℕ, suc, ◌+◌, ◌*◌, ◌-◌, ◌^◌, ◌≤◌}
+use Prim.Native.Nat.{ℕ, suc, ◌+◌, ◌*◌, ◌^◌}
 use native.Mathlib.Nat.{zero-mul}
 use native.Mathlib.Numerals.{add-one}
 use native.Mathlib.Omega.{arith}
 use Rattle.words.specs.Words.{stored, Held}
 use Rattle.sizes.specs.Sizes.{inputs}
 use Rattle.table.specs.Table.{states}
-use Rattle.table.specs.Sound.{Sound}
 use Rattle.table.proofs.Parts.{count_in}
 use Rattle.paths.specs.Places.{reach_head}
 use Rattle.paths.specs.Progress.{so_far, Following}
-use Rattle.paths.proofs.Numbers.{kept_length, following, further, layer_done}
+use Rattle.paths.proofs.Numbers.{following, further, layer_done}
 use Rattle.paths.proofs.follow_layer.Goals as goal
 
 pub states_of-states-requires : goal.states_of-states-requires
@@ -34,10 +32,6 @@ follow_state-requires c =
       layer_bound = (c.requires.layer_bound.0, c.requires.layer_bound.1, omega (arith, c.loop-s-test.true, c.states_of-states.ensures.0));
       following = now-following;
     }
-
-pub overflow_step-s : goal.overflow_step-s
-overflow_step-s c =
-    omega (arith, c.loop-s-test.true, c.states_of-states.ensures.1)
 
 pub loop-s-preserved : goal.loop-s-preserved
 loop-s-preserved c =

@@ -2,33 +2,22 @@
 -- Assumes nothing.
 use mathlib.Core.Path.{◌≡◌, sym, ap, ◌∙◌}
 use mathlib.Core.List.{List}
-use Prim.Native.Nat.{ℕ, suc, ◌+◌, ◌-◌, ◌≤◌}
+use Prim.Native.Nat.{ℕ, suc, ◌+◌}
 use native.Mathlib.Numerals.{add-one}
 use native.Mathlib.Omega.{arith}
 use Rattle.words.specs.Words.{stored, Held}
 use Rattle.sizes.specs.Sizes.{frames}
-use Rattle.table.specs.Sound.{Sound}
 use Rattle.table.specs.declared.Layout.{Layout}
 use Rattle.paths.specs.Places.{reach_head}
 use Rattle.paths.specs.Progress.{so_far, layer_of}
 use Rattle.paths.specs.declared.Layer.{Layer}
-use Rattle.paths.proofs.Numbers.{kept_length, following, further}
+use Rattle.paths.proofs.Numbers.{following, further}
 use Rattle.paths.proofs.follow_layers.Goals as goal
 
 pub loop-t-init : goal.loop-t-init
 unfolding Held
 loop-t-init c =
     (omega arith, sym c.requires.following.held)
-
-pub read-layer-requires : goal.read-layer-requires
-read-layer-requires c =
-    let frames_is : c.args.layout.frames ≡ frames c.args.table.now =
-    ap (λ (l : Layout). l.frames) c.requires.layout_value
-    in
-    record {
-      table_headed = c.requires.following.sound.headed;
-      layout_value = (c.requires.layout_value, omega (arith, c.loop-t-test.true, frames_is));
-    }
 
 pub follow_layer-requires : goal.follow_layer-requires
 follow_layer-requires c =
@@ -43,13 +32,6 @@ follow_layer-requires c =
       layer_bound = (omega (arith, e, c.loop-t-test.true, frames_is), c.read-layer.ensures ∙ ap (layer_of c.args.table.now) (sym e));
       following = following c.args.table.now c.requires.following.sound v c.loop-t.res c.read-layer.result.layer 0 c.requires.following.room (c.loop-t.invariant.1 ∙ ap (λ (t : ℕ). stored 4 v (reach_head c.args.table.now) (so_far c.args.table.now t 0)) (sym e));
     }
-
-pub overflow_step-t : goal.overflow_step-t
-overflow_step-t c =
-    let frames_is : c.args.layout.frames ≡ frames c.args.table.now =
-    ap (λ (l : Layout). l.frames) c.requires.layout_value
-    in
-    omega (arith, c.loop-t-test.true, frames_is, c.requires.following.sound.headed.sized)
 
 pub loop-t-preserved : goal.loop-t-preserved
 loop-t-preserved c =

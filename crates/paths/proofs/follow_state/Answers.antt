@@ -1,16 +1,13 @@
 -- `paths::follow_state` meets its contract: the numbers of a state whose layer was reached are the whole ones.
 -- Assumes nothing.
 use mathlib.Core.Path.{◌≡◌, sym, ap, ap₂, ◌∙◌}
-use mathlib.Core.List.{List}
 use Prim.Native.Nat.{ℕ, ◌+◌, ◌*◌, ◌^◌, ◌≤◌}
 use native.Mathlib.Nat.{le_refl}
 use native.Mathlib.Omega.{arith}
-use borrow.Author.Rules.{rules}
 use lib.ListN.{length}
 use Rattle.words.specs.Words.{number_at, stored, Held}
 use Rattle.sizes.specs.Sizes.{inputs, frames}
 use Rattle.table.specs.Table.{machine}
-use Rattle.table.specs.Sound.{Sound}
 use Rattle.paths.specs.Paths.{histories, smallest}
 use Rattle.paths.specs.Places.{reach_head, histories_at, gap}
 use Rattle.paths.specs.Progress.{so_far}
@@ -18,26 +15,6 @@ use Rattle.paths.proofs.Places.{LayerIs, layer_is, state_at}
 use Rattle.paths.proofs.Following.{whole_histories, whole_smallest}
 use Rattle.paths.proofs.Numbers.{histories_there, smallest_there, histories_in, skipped}
 use Rattle.paths.proofs.follow_state.Goals as goal
-
-pub overflow_mul-at : goal.overflow_mul-at
-unfolding Held
-overflow_mul-at c =
-    let layer : LayerIs c.args.table.now c.args.layer.layer c.args.layer =
-    layer_is c.args.table.now c.requires.following.sound.headed c.args.layer.layer c.args.layer c.requires.layer_bound.1
-    in
-    let at_is : c.args.layer.from + 4 * c.args.s ≡ histories_at c.args.table.now c.args.layer.layer c.args.s =
-    omega (arith, layer.from_is, state_at c.args.table.now c.args.layer.layer c.args.s)
-    in
-    let held : c.args.res.now ≡ stored 4 c.args.res.now (reach_head c.args.table.now) (so_far c.args.table.now c.args.layer.layer (c.args.s * (2 ^ inputs c.args.table.now))) =
-    sym c.requires.following.held
-    in
-    let inner : c.args.layer.layer ≤ frames c.args.table.now =
-    omega (arith, c.requires.layer_bound.0)
-    in
-    let there : (histories_at c.args.table.now c.args.layer.layer c.args.s + gap c.args.table.now + 4 ≤ length c.args.res.now) × (4 ≤ gap c.args.table.now) =
-    histories_in c.args.table.now c.requires.following.sound c.args.layer.layer (c.args.s * (2 ^ inputs c.args.table.now)) c.args.res.now c.args.res.now c.requires.following.room held c.args.layer.layer c.args.s inner c.requires.layer_bound.2
-    in
-    omega (arith, at_is, there, c.well_formed)
 
 pub overflow_add-at : goal.overflow_add-at
 unfolding Held

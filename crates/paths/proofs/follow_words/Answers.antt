@@ -2,7 +2,7 @@
 -- Assumes nothing.
 use mathlib.Core.Path.{◌≡◌, sym, ap, ap₂, ◌∙◌}
 use mathlib.Core.List.{List}
-use Prim.Native.Nat.{ℕ, suc, ◌+◌, ◌*◌, ◌-◌, ◌^◌, ◌≤◌, ◌<◌}
+use Prim.Native.Nat.{ℕ, suc, ◌+◌, ◌*◌, ◌^◌, ◌≤◌, ◌<◌}
 use native.Mathlib.Nat.{suc-mul}
 use native.Mathlib.Omega.{arith}
 use lib.ListN.{length}
@@ -10,34 +10,12 @@ use Rattle.words.specs.Words.{word_at, number_at, stored, Held}
 use Rattle.words.proofs.Laws.{stored-length}
 use Rattle.sizes.specs.Sizes.{inputs}
 use Rattle.table.specs.Table.{nexts_at, entry_at, machine}
-use Rattle.table.specs.Sound.{Sound}
-use Rattle.table.proofs.Offsets.{row_small}
 use Rattle.paths.specs.Paths.{histories, smallest}
 use Rattle.paths.specs.Places.{reach_head, histories_at, gap}
 use Rattle.paths.specs.Progress.{so_far, added}
 use Rattle.paths.proofs.Places.{LayerIs, layer_is, state_at, next-at, next_inside}
 use Rattle.paths.proofs.Numbers.{words_some, so_far_length, histories_in, sum_fits, entry_added, smallest_in}
 use Rattle.paths.proofs.follow_words.Goals as goal
-
-pub overflow_mul-nexts : goal.overflow_mul-nexts
-overflow_mul-nexts c =
-    let layer : LayerIs c.args.table.now c.args.layer.layer c.args.layer =
-    layer_is c.args.table.now c.requires.following.sound.headed c.args.layer.layer c.args.layer c.requires.layer_bound.1
-    in
-    let row-few : c.args.s * c.args.layer.words ≤ 16777216 =
-    row_small _ _ (omega (arith, c.requires.layer_bound.2, c.requires.following.sound.headed.states-to c.args.layer.layer (omega (arith, c.requires.layer_bound.0)))) layer.words-to
-    in
-    omega (arith, row-few)
-
-pub overflow_mul-nexts-2 : goal.overflow_mul-nexts-2
-overflow_mul-nexts-2 c =
-    let layer : LayerIs c.args.table.now c.args.layer.layer c.args.layer =
-    layer_is c.args.table.now c.requires.following.sound.headed c.args.layer.layer c.args.layer c.requires.layer_bound.1
-    in
-    let row-few : c.args.s * c.args.layer.words ≤ 16777216 =
-    row_small _ _ (omega (arith, c.requires.layer_bound.2, c.requires.following.sound.headed.states-to c.args.layer.layer (omega (arith, c.requires.layer_bound.0)))) layer.words-to
-    in
-    omega (arith, row-few)
 
 pub overflow_add-nexts : goal.overflow_add-nexts
 overflow_add-nexts c =
@@ -82,13 +60,6 @@ unfolding Held
 loop-w-init c =
     let e : c.args.s * (2 ^ inputs c.args.table.now) ≡ c.args.s * (2 ^ inputs c.args.table.now) + 0 = omega arith in
     (omega arith, sym c.requires.following.held ∙ ap (λ (e : ℕ). stored 4 c.args.res.now (reach_head c.args.table.now) (so_far c.args.table.now c.args.layer.layer e)) e)
-
-pub overflow_mul-w : goal.overflow_mul-w
-overflow_mul-w c =
-    let layer : LayerIs c.args.table.now c.args.layer.layer c.args.layer =
-    layer_is c.args.table.now c.requires.following.sound.headed c.args.layer.layer c.args.layer c.requires.layer_bound.1
-    in
-    omega (arith, c.loop-w-test.true, layer.words-to)
 
 pub overflow_add-nexts-in-loop-w : goal.overflow_add-nexts-in-loop-w
 overflow_add-nexts-in-loop-w c =
@@ -205,13 +176,6 @@ add_histories-requires c =
       le_gap = (omega (arith, layer.gap_is, there), omega (arith, layer.gap_is, there, at_is, len));
       count_bound = (omega (arith, fits, ap (number_at 4 c.loop-w.res) at_is, c.requires.count_nonzero), omega (arith, first_small c.loop-w.w c.loop-w-test.true));
     }
-
-pub overflow_step-w : goal.overflow_step-w
-overflow_step-w c =
-    let layer : LayerIs c.args.table.now c.args.layer.layer c.args.layer =
-    layer_is c.args.table.now c.requires.following.sound.headed c.args.layer.layer c.args.layer c.requires.layer_bound.1
-    in
-    omega (arith, c.loop-w-test.true, layer.words-to)
 
 pub loop-w-preserved : goal.loop-w-preserved
 loop-w-preserved c =

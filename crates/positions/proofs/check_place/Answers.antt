@@ -3,7 +3,6 @@
 use mathlib.Core.List.{List}
 use Prim.Native.Nat.{ℕ}
 use native.Mathlib.Omega.{arith}
-use borrow.Author.Rules.{rules}
 use Rattle.table.proofs.Offsets.{Laid, laid}
 use Rattle.positions.proofs.Positions.{place_above, place_within}
 use Rattle.positions.proofs.check_place.Goals as goal

@@ -1,7 +1,6 @@
 -- `positions::check_position` meets its contract: its judgements follow one another as the definition's do.
 -- Assumes nothing.
 use mathlib.Core.Path.{ap, ◌∙◌}
-use borrow.Author.Rules.{rules}
 use Rattle.verdict.specs.Judgements.{figures, and_then}
 use Rattle.table.proofs.Offsets.{laid}
 use Rattle.positions.proofs.Positions.{position_stages}

@@ -1,8 +1,7 @@
 -- `price::price` meets its contract: the table's check is the only judgement, and an accepted table gives the rest what it requires.
 -- Assumes nothing.
 use mathlib.Core.Path.{◌≡◌, ap, ap₂, ◌∙◌}
-use mathlib.Core.List.{List}
-use Prim.Native.Nat.{ℕ, ◌+◌, ◌^◌, ◌<◌}
+use Prim.Native.Nat.{◌+◌, ◌^◌, ◌<◌}
 use native.Mathlib.Omega.{arith}
 use Rattle.verdict.specs.Judgements.{answer}
 use Rattle.verdict.proofs.Laws.{accepts}
@@ -17,7 +16,6 @@ use Rattle.price.specs.Price.{charged, states_cents, risen, price}
 use Rattle.price.proofs.Bands.{cents_most}
 use Rattle.price.proofs.Prices.{price_answers, refusal_answers}
 use Rattle.price.proofs.Theorems.{quoted, never_falls, folded_cheapest}
-use borrow.Author.Rules.{rules}
 use Rattle.price.proofs.price.Goals as goal
 
 pub returns-in-Refused : goal.returns-in-Refused

@@ -4,7 +4,6 @@ use native.Mathlib.Omega.{arith}
 use borrow.Author.Tests.{lt-ltb, le-ltb}
 use Rattle.price.specs.Tariff.{plain_frames}
 use Rattle.price.specs.Price.{rise, risen}
-use borrow.Author.Rules.{rules}
 use Rattle.price.proofs.risen.Goals as goal
 
 pub returns-then-frames-le-PLAIN_FRAMES : goal.returns-then-frames-le-PLAIN_FRAMES

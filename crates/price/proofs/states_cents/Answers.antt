@@ -4,8 +4,6 @@ use mathlib.Core.Path.{◌≡◌}
 use Prim.Native.Nat.{ℕ, ◌+◌, ◌*◌, ◌-◌, ◌≤◌, ◌<◌, min}
 use native.Mathlib.Omega.{arith}
 use lib.ListN.{length, get_or, drop}
-use Rattle.price.specs.Price.{states_cents}
-use Rattle.price.specs.declared.Band.{Band}
 use Rattle.price.proofs.Bands.{tariff, walked, walk_on, walked_all, cents_most}
 use Rattle.price.proofs.states_cents.Goals as goal
 use Rattle.price.proofs.states_cents.Goals.{then-left-band, else-left-band}
@@ -21,24 +19,6 @@ pub loop-i-init : goal.loop-i-init
 loop-i-init c =
     (omega arith, omega arith, omega (arith, walked_all c.args.states (omega arith)))
 
-pub bounds-i-i : goal.bounds-i-i
-bounds-i-i c =
-    c.loop-i-test.true
-
-pub overflow_mul-cents : goal.overflow_mul-cents
-overflow_mul-cents c =
-    let taken_is : c.if-left-band.taken ≡ min c.loop-i.left (get_or tariff c.loop-i.i (record { width = 0; cents = 0 })).width =
-    elim c.if-left-band.branch [
-      | then-left-band w ↦ less _ _ _ w.if-left-band.true w.taken-is
-      | else-left-band w ↦ more _ _ _ w.if-left-band.false w.taken-is
-    ]
-    in
-    let step : walked (drop c.loop-i.i tariff) c.loop-i.left
-    ≡ c.if-left-band.taken * (get_or tariff c.loop-i.i (record { width = 0; cents = 0 })).cents + walked (drop (c.loop-i.i + 1) tariff) (c.loop-i.left - c.if-left-band.taken) =
-    walk_on tariff _ _ _ _ c.loop-i-test.true taken_is
-    in
-    omega (arith, step, cents_most c.args.states)
-
 pub overflow_add-cents : goal.overflow_add-cents
 overflow_add-cents c =
     let taken_is : c.if-left-band.taken ≡ min c.loop-i.left (get_or tariff c.loop-i.i (record { width = 0; cents = 0 })).width =
@@ -52,16 +32,6 @@ overflow_add-cents c =
     walk_on tariff _ _ _ _ c.loop-i-test.true taken_is
     in
     omega (arith, step, cents_most c.args.states)
-
-pub overflow_sub-left : goal.overflow_sub-left
-overflow_sub-left c =
-    let taken_is : c.if-left-band.taken ≡ min c.loop-i.left (get_or tariff c.loop-i.i (record { width = 0; cents = 0 })).width =
-    elim c.if-left-band.branch [
-      | then-left-band w ↦ less _ _ _ w.if-left-band.true w.taken-is
-      | else-left-band w ↦ more _ _ _ w.if-left-band.false w.taken-is
-    ]
-    in
-    omega (arith, taken_is)
 
 pub loop-i-preserved : goal.loop-i-preserved
 loop-i-preserved c =

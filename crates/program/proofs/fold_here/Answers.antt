@@ -1,6 +1,6 @@
 -- `program::fold_here` meets its contract: folding says the same of the scratch and the records that are lent, whose lengths are known.
 -- Assumes nothing.
-use mathlib.Core.Path.{◌≡◌, sym, ap₂, ◌∙◌}
+use mathlib.Core.Path.{sym, ap₂, ◌∙◌}
 use Prim.Native.Nat.{ℕ}
 use lib.ListN.{length}
 use Rattle.folded.specs.Folded.{fold_checked, fold_result}

@@ -1,7 +1,7 @@
 -- `reach::clear` meets its contract. The invariant: the zeros so far are stored.
 -- Assumes nothing.
 use mathlib.Core.Path.{◌≡◌, refl, sym, ap, ◌∙◌}
-use Prim.Native.Nat.{ℕ, ◌-◌, ◌≤◌}
+use Prim.Native.Nat.{ℕ}
 use native.Mathlib.Omega.{arith}
 use lib.ListN.{length}
 use Rattle.words.specs.Words.{stored}
@@ -15,14 +15,6 @@ pub loop-i-init : goal.loop-i-init
 unfolding join tabulate
 loop-i-init c =
     (omega arith, sym (stored-none 4 _ _))
-
-pub overflow_mul-i : goal.overflow_mul-i
-overflow_mul-i c =
-    omega (arith, c.requires, c.well_formed)
-
-pub overflow_add-from : goal.overflow_add-from
-overflow_add-from c =
-    omega (arith, c.requires, c.well_formed)
 
 pub store32-requires : goal.store32-requires
 store32-requires c =

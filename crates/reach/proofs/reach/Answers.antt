@@ -1,11 +1,9 @@
 -- `reach::reach` meets its contract: each return is a case of the definition.
 -- Assumes nothing.
 use mathlib.Core.Path.{◌≡◌, ap, ◌∙◌}
-use mathlib.Core.List.{List}
 use Prim.Native.Nat.{ℕ, suc, ◌+◌, ◌*◌, ◌≤◌}
 use native.Mathlib.Numerals.{add-one}
 use native.Mathlib.Omega.{arith}
-use borrow.Author.Rules.{rules}
 use lib.ListN.{length}
 use Rattle.verdict.specs.Judgements.{figures}
 use Rattle.verdict.proofs.Laws.{accepts}

@@ -2,7 +2,7 @@
 -- Assumes nothing.
 use mathlib.Core.Path.{◌≡◌, refl, sym, ap, ap₂, ◌∙◌}
 use mathlib.Core.List.{List, [], ◌∷◌}
-use Prim.Native.Nat.{ℕ, suc, ◌+◌, ◌*◌, ◌-◌, ◌≤◌}
+use Prim.Native.Nat.{ℕ, suc, ◌+◌, ◌*◌, ◌≤◌}
 use native.Mathlib.Omega.{arith}
 use lib.ListN.{length}
 use Rattle.words.specs.Words.{stored}
@@ -17,36 +17,14 @@ use Rattle.reach.proofs.Stored.{tabulated_more}
 use Rattle.paths.proofs.Places.{head_is}
 use Rattle.reach.proofs.store_head.Goals as goal
 
-pub overflow_cast-last : goal.overflow_cast-last
-overflow_cast-last c =
-    omega (arith, c.requires.table_headed.sized, c.requires.last_value.0)
-
 pub store-requires : goal.store-requires
 store-requires c =
     omega (arith, c.requires.last_value.1, head_is c.args.table.now)
-
-pub overflow_add-count : goal.overflow_add-count
-overflow_add-count c =
-    omega (arith, c.requires.table_headed.sized, c.requires.last_value.0)
 
 pub loop-t-init : goal.loop-t-init
 unfolding join tabulate
 loop-t-init c =
     (omega arith, sym (stored-none 2 _ _))
-
-pub overflow_mul-t : goal.overflow_mul-t
-overflow_mul-t c =
-    let room : 4 + 2 * c.args.last ≤ length c.args.res.now =
-    omega (arith, c.requires.last_value, head_is c.args.table.now)
-    in
-    omega (arith, room, c.well_formed, c.loop-t-test.true)
-
-pub overflow_add-t : goal.overflow_add-t
-overflow_add-t c =
-    let room : 4 + 2 * c.args.last ≤ length c.args.res.now =
-    omega (arith, c.requires.last_value, head_is c.args.table.now)
-    in
-    omega (arith, room, c.well_formed, c.loop-t-test.true)
 
 pub states_of-requires : goal.states_of-requires
 states_of-requires c =

@@ -1,36 +1,18 @@
 -- `simulate::sequence_numbers` meets its contract. The invariant: the numbers of the first k sequences are stored.
 -- Assumes nothing.
-use mathlib.Core.Path.{◌≡◌, refl, sym, ap, ◌∙◌}
-use Prim.Native.Nat.{ℕ, ◌+◌, ◌*◌, ◌-◌, ◌^◌, ◌≤◌, ◌<◌}
+use mathlib.Core.Path.{refl, sym, ap, ◌∙◌}
+use Prim.Native.Nat.{◌^◌}
 use native.Mathlib.Nat.{zero-mul, suc-mul}
 use native.Mathlib.Omega.{arith}
-use lib.ListN.{length, get_or, length-set}
+use lib.ListN.{length-set}
 use Rattle.layered.specs.Histories.{history_number}
-use Rattle.simulate.specs.Limits.{most_sequences}
 use Rattle.simulate.specs.Simulate.{sequence_at}
-use Rattle.simulate.proofs.Sequences.{ends_before, part_is, part_fed, front_more}
+use Rattle.simulate.proofs.Sequences.{part_is, part_fed, front_more}
 use Rattle.simulate.proofs.sequence_numbers.Goals as goal
 
 pub loop-k-init : goal.loop-k-init
 loop-k-init c =
     (omega arith, refl, sym (zero-mul c.args.frames), λ i h. absurd (omega arith))
-
-pub overflow_add-end : goal.overflow_add-end
-overflow_add-end c =
-    let ends : c.loop-k.at + c.args.frames ≤ length c.args.words.now =
-    omega (arith, ends_before c.args.frames c.loop-k.k c.args.count c.loop-k-test.true, c.requires.fed.as_many, c.loop-k.invariant.2)
-    in
-    omega (arith, ends)
-
-pub offset_bounds-words-at : goal.offset_bounds-words-at
-offset_bounds-words-at c =
-    let ends : c.loop-k.at + c.args.frames ≤ length c.args.words.now =
-    omega (arith, ends_before c.args.frames c.loop-k.k c.args.count c.loop-k-test.true, c.requires.fed.as_many, c.loop-k.invariant.2)
-    in
-    omega (arith, ends)
-
-pub slice_bounds-sequence_number-end : goal.slice_bounds-sequence_number-end
-slice_bounds-sequence_number-end c = omega (arith, ends_before c.args.frames c.loop-k.k c.args.count c.loop-k-test.true, c.requires.fed.as_many, c.loop-k.invariant.2)
 
 pub sequence_number-requires : goal.sequence_number-requires
 sequence_number-requires c =
@@ -39,14 +21,6 @@ sequence_number-requires c =
       inputs_le_most_bits = (c.requires.inputs_le_most_bits.0, f.0);
       fed = f.1;
     }
-
-pub offset_bounds-numbers-k : goal.offset_bounds-numbers-k
-offset_bounds-numbers-k c =
-    omega (arith, c, c.requires)
-
-pub bounds-numbers-k : goal.bounds-numbers-k
-bounds-numbers-k c =
-    omega (arith, c, c.requires)
 
 pub loop-k-preserved : goal.loop-k-preserved
 loop-k-preserved c = (

@@ -8,7 +8,6 @@ use Rattle.circuit.specs.WellFormed.{Accepted}
 use Rattle.circuit.proofs.Accepted.{well_formed, accepted}
 use Rattle.simulate.proofs.Judged.{SequencesFed}
 use Rattle.simulate.proofs.Simulation.{refused_circuit, refused_sequences, sequences_fed, accepted_all}
-use borrow.Author.Rules.{rules}
 use Rattle.simulate.proofs.simulate.Goals as goal
 
 pub returns-in_default : goal.returns-in_default

@@ -1,9 +1,8 @@
 -- `simulate::write_outputs` meets its contract. The invariant: the outputs on the first k sequences are written, and the rest is as before.
 -- Assumes nothing.
 use mathlib.Core.Path.{◌≡◌, refl, sym, ap, ◌∙◌}
-use mathlib.Core.List.{List, ◌++◌}
-use Prim.Native.Nat.{ℕ, ◌+◌, ◌*◌, ◌-◌, ◌≤◌}
-use native.Mathlib.Nat.{mul-le-mul_right}
+use mathlib.Core.List.{◌++◌}
+use Prim.Native.Nat.{◌+◌, ◌*◌, ◌≤◌}
 use native.Mathlib.Omega.{arith}
 use borrow.Author.Rules.{rules}
 use lib.ListN.{length, get_or, take, drop}
@@ -14,7 +13,7 @@ use Rattle.circuit.specs.Limits.{most_signals}
 use Rattle.lanes.proofs.Laws.{uses_none, room_ready}
 use Rattle.simulate.specs.Limits.{most_sequences}
 use Rattle.simulate.specs.Simulate.{all_output_words}
-use Rattle.simulate.proofs.Sequences.{ends_before, ends_small, part_length, fed_by, all_fit, outputs-at, nothing_written, outputs-length, outputs-more}
+use Rattle.simulate.proofs.Sequences.{ends_before, part_length, fed_by, all_fit, outputs-at, nothing_written, outputs-length, outputs-more}
 use Rattle.simulate.proofs.write_outputs.Goals as goal
 
 pub sequence_numbers-sequences-requires : goal.sequence_numbers-sequences-requires
@@ -26,23 +25,6 @@ sequence_numbers-sequences-requires c =
       inputs_le_most_bits = (omega (arith, c.requires), inputs-to, omega (arith, c.requires), omega (arith, c.requires));
       fed = fed_by c.args.circuit.now c.args.head c.requires.well_formed.headed c.requires.well_formed.head_is c.args.count c.args.words.now c.requires.fed;
     }
-
-pub slice_bounds-sequences-end : goal.slice_bounds-sequences-end
-slice_bounds-sequences-end c =
-    let numbers_length : length c.sequence_numbers-sequences.result ≡ most_sequences =
-    search rules
-    in
-    omega (arith, numbers_length, c.requires)
-
-pub slice_bounds-gather-end : goal.slice_bounds-gather-end
-slice_bounds-gather-end c =
-    let numbers_length : length c.sequence_numbers-sequences.result ≡ most_sequences =
-    search rules
-    in
-    let gathered : c.args.count ≡ length (take c.args.count c.sequence_numbers-sequences.result) =
-    sym (length-take-le _ _ (omega (arith, numbers_length, c.requires)))
-    in
-    gathered
 
 pub gather-numbers-requires : goal.gather-numbers-requires
 gather-numbers-requires c =
@@ -65,44 +47,6 @@ store_signals-requires c =
 pub loop-k-init : goal.loop-k-init
 loop-k-init c =
     (omega arith, sym (nothing_written c.args.circuit.now c.args.words.now c.args.res.now))
-
-pub overflow_mul-at : goal.overflow_mul-at
-overflow_mul-at c =
-    let small : c.loop-k.k * c.args.head.frames + c.args.head.frames ≤ 512 =
-    ends_small c.args.head.frames c.loop-k.k c.args.count c.loop-k-test.true c.requires.count_le_most_sequences.0 (omega (arith, c.requires))
-    in
-    omega (arith, small)
-
-pub overflow_add-end : goal.overflow_add-end
-overflow_add-end c =
-    let small : c.loop-k.k * c.args.head.frames + c.args.head.frames ≤ 512 =
-    ends_small c.args.head.frames c.loop-k.k c.args.count c.loop-k-test.true c.requires.count_le_most_sequences.0 (omega (arith, c.requires))
-    in
-    omega (arith, small)
-
-pub slice_bounds-pack_frames-end : goal.slice_bounds-pack_frames-end
-slice_bounds-pack_frames-end c =
-    let room-length : length c.room-lanes.result ≡ most_signals =
-    search rules
-    in
-    let lanes-length : length c.store_signals.new.lanes ≡ most_signals =
-    c.store_signals.auto.lanes ∙ room-length
-    in
-    sym lanes-length
-
-pub offset_bounds-res-at : goal.offset_bounds-res-at
-offset_bounds-res-at c =
-    let small : c.loop-k.k * c.args.head.frames + c.args.head.frames ≤ 512 =
-    ends_small c.args.head.frames c.loop-k.k c.args.count c.loop-k-test.true c.requires.count_le_most_sequences.0 (omega (arith, c.requires))
-    in
-    omega (arith, small)
-
-pub slice_bounds-pack_frames-end-in-loop-k : goal.slice_bounds-pack_frames-end-in-loop-k
-slice_bounds-pack_frames-end-in-loop-k c =
-    let kept_length : length c.loop-k.res ≡ length c.args.res.now =
-    ap length c.loop-k.invariant.1 ∙ outputs-length c.args.circuit.now c.args.words.now c.args.res.now c.loop-k.k (omega (arith, c.requires, ends_before (framesOf c.args.circuit.now) c.loop-k.k c.args.count c.loop-k-test.true))
-    in
-    rw c.requires.well_formed.head_is.frames_is (omega (arith, kept_length, c.requires, ends_before (framesOf c.args.circuit.now) c.loop-k.k c.args.count c.loop-k-test.true))
 
 pub pack_frames-requires : goal.pack_frames-requires
 pack_frames-requires c =

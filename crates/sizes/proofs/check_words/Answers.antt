@@ -3,7 +3,7 @@
 use mathlib.Core.Path.{◌≡◌, sym, ap, ◌∙◌}
 use mathlib.Core.Bool.{Bool}
 use mathlib.Core.List.{List}
-use Prim.Native.Nat.{ℕ, ◌-◌, ◌^◌, ◌≤◌}
+use Prim.Native.Nat.{ℕ, ◌-◌, ◌^◌}
 use native.Mathlib.Omega.{arith}
 use borrow.Author.Tests.{le-leb, lt-leb}
 use lib.ListN.{length, get_or}
@@ -11,7 +11,6 @@ use lib.Dec.{leb}
 use Rattle.verdict.specs.Judgements.{answer, refuse_first}
 use Rattle.verdict.proofs.Laws.{first_here, first_later, first-none}
 use Rattle.sizes.specs.Sizes.{words_checked}
-use borrow.Author.Rules.{rules}
 use Rattle.sizes.proofs.check_words.Goals as goal
 
 -- word t is too large

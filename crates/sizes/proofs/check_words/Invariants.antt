@@ -1,17 +1,13 @@
 -- `sizes::check_words` meets its contract. The invariant: what the definition says of all words is what it says of those from t on.
 -- Assumes nothing.
-use mathlib.Core.Path.{◌≡◌, sym, ap, ◌∙◌}
+use mathlib.Core.Path.{◌≡◌}
 use mathlib.Core.Bool.{Bool}
 use mathlib.Core.List.{List}
 use Prim.Native.Nat.{ℕ, ◌-◌, ◌^◌, ◌≤◌}
-use native.Mathlib.Omega.{arith}
-use borrow.Author.Tests.{le-leb, lt-leb}
 use lib.ListN.{length, get_or}
 use lib.Dec.{leb}
 use Rattle.verdict.specs.Judgements.{answer, refuse_first}
-use Rattle.verdict.proofs.Laws.{first_here, first_later, first-none}
 use Rattle.sizes.specs.Sizes.{words_checked}
-use borrow.Author.Rules.{rules}
 use Rattle.sizes.proofs.check_words.Given as goal
 
 -- word t is too large

@@ -1,7 +1,6 @@
 -- `sizes::power` meets its contract: the shift does not wrap.
 -- Assumes nothing.
 use Rattle.sizes.proofs.Laws.{power_is}
-use borrow.Author.Rules.{rules}
 use Rattle.sizes.proofs.power.Goals as goal
 
 pub returns : goal.returns

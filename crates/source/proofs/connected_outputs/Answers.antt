@@ -28,66 +28,10 @@ flags b t = listed [] (connects b t) (outputs b)
 small : (b : List ℕ) (t i j : ℕ) → j ≤ 16 → packed (take j (drop i (flags b t))) < 65536
 small b t i j h = packed_below _ 16 (simp length-take (omega arith))
 
-pub overflow_add-end : goal.overflow_add-end
-overflow_add-end c =
-    let known : WellFormed ((sourced c.args.source c.args.circuit.now)) (head_of c.args.source) =
-    well _ _ c.requires.0
-    in
-    omega (arith, known, c.requires.1)
-
-pub overflow_mul-end : goal.overflow_mul-end
-unfolding all_outputs
-overflow_mul-end c =
-    let known : WellFormed ((sourced c.args.source c.args.circuit.now)) (head_of c.args.source) =
-    well _ _ c.requires.0
-    in
-    let frame_outputs : (c.args.source.outputs * (c.args.t + 1) ≡ outputs ((sourced c.args.source c.args.circuit.now)) * c.args.t + outputs ((sourced c.args.source c.args.circuit.now)))
-    × (outputs ((sourced c.args.source c.args.circuit.now)) * c.args.t + outputs ((sourced c.args.source c.args.circuit.now)) ≤ all_outputs ((sourced c.args.source c.args.circuit.now))) =
-    let O = (known).head_is in
-    let l : suc c.args.t ≤ frames ((sourced c.args.source c.args.circuit.now)) = omega (arith, O.frames_is, c.requires.1) in
-    (ap₂ ◌*◌ O.outputs_is (add-one c.args.t) ∙ mul-suc (outputs ((sourced c.args.source c.args.circuit.now))) c.args.t, omega (arith, mul-suc (outputs ((sourced c.args.source c.args.circuit.now))) c.args.t, mul-le-mul_left (outputs ((sourced c.args.source c.args.circuit.now))) l))
-    in
-    omega (arith, frame_outputs, known)
-
 pub loop-j-init : goal.loop-j-init
 unfolding packed
 loop-j-init c =
     (omega arith, refl)
-
-pub overflow_mul-word : goal.overflow_mul-word
-overflow_mul-word c =
-    let known : WellFormed ((sourced c.args.source c.args.circuit.now)) (head_of c.args.source) =
-    well _ _ c.requires.0
-    in
-    omega (arith, c.loop-j.invariant, small (sourced c.args.source c.args.circuit.now) c.args.t (c.args.source.outputs - c.loop-j.j) c.loop-j.j (omega (arith, known)))
-
-pub overflow_sub-end : goal.overflow_sub-end
-unfolding all_outputs
-overflow_sub-end c =
-    let known : WellFormed ((sourced c.args.source c.args.circuit.now)) (head_of c.args.source) =
-    well _ _ c.requires.0
-    in
-    let frame_outputs : (c.args.source.outputs * (c.args.t + 1) ≡ outputs ((sourced c.args.source c.args.circuit.now)) * c.args.t + outputs ((sourced c.args.source c.args.circuit.now)))
-    × (outputs ((sourced c.args.source c.args.circuit.now)) * c.args.t + outputs ((sourced c.args.source c.args.circuit.now)) ≤ all_outputs ((sourced c.args.source c.args.circuit.now))) =
-    let O = (known).head_is in
-    let l : suc c.args.t ≤ frames ((sourced c.args.source c.args.circuit.now)) = omega (arith, O.frames_is, c.requires.1) in
-    (ap₂ ◌*◌ O.outputs_is (add-one c.args.t) ∙ mul-suc (outputs ((sourced c.args.source c.args.circuit.now))) c.args.t, omega (arith, mul-suc (outputs ((sourced c.args.source c.args.circuit.now))) c.args.t, mul-le-mul_left (outputs ((sourced c.args.source c.args.circuit.now))) l))
-    in
-    omega (arith, frame_outputs, known)
-
-pub overflow_sub-end-in-loop-j : goal.overflow_sub-end-in-loop-j
-unfolding all_outputs
-overflow_sub-end-in-loop-j c =
-    let known : WellFormed ((sourced c.args.source c.args.circuit.now)) (head_of c.args.source) =
-    well _ _ c.requires.0
-    in
-    let frame_outputs : (c.args.source.outputs * (c.args.t + 1) ≡ outputs ((sourced c.args.source c.args.circuit.now)) * c.args.t + outputs ((sourced c.args.source c.args.circuit.now)))
-    × (outputs ((sourced c.args.source c.args.circuit.now)) * c.args.t + outputs ((sourced c.args.source c.args.circuit.now)) ≤ all_outputs ((sourced c.args.source c.args.circuit.now))) =
-    let O = (known).head_is in
-    let l : suc c.args.t ≤ frames ((sourced c.args.source c.args.circuit.now)) = omega (arith, O.frames_is, c.requires.1) in
-    (ap₂ ◌*◌ O.outputs_is (add-one c.args.t) ∙ mul-suc (outputs ((sourced c.args.source c.args.circuit.now))) c.args.t, omega (arith, mul-suc (outputs ((sourced c.args.source c.args.circuit.now))) c.args.t, mul-le-mul_left (outputs ((sourced c.args.source c.args.circuit.now))) l))
-    in
-    omega (arith, frame_outputs, known)
 
 pub is_connected-requires : goal.is_connected-requires
 unfolding all_outputs
@@ -102,13 +46,6 @@ is_connected-requires c =
     (ap₂ ◌*◌ O.outputs_is (add-one c.args.t) ∙ mul-suc (outputs ((sourced c.args.source c.args.circuit.now))) c.args.t, omega (arith, mul-suc (outputs ((sourced c.args.source c.args.circuit.now))) c.args.t, mul-le-mul_left (outputs ((sourced c.args.source c.args.circuit.now))) l))
     in
     (c.requires.0, omega (arith, frame_outputs, known))
-
-pub overflow_add-word : goal.overflow_add-word
-overflow_add-word c =
-    let known : WellFormed ((sourced c.args.source c.args.circuit.now)) (head_of c.args.source) =
-    well _ _ c.requires.0
-    in
-    omega (arith, c.loop-j.invariant, small (sourced c.args.source c.args.circuit.now) c.args.t (c.args.source.outputs - c.loop-j.j) c.loop-j.j (omega (arith, known)))
 
 pub loop-j-preserved : goal.loop-j-preserved
 unfolding all_outputs
@@ -154,3 +91,17 @@ returns c =
     let z : m - c.loop-j.j ≡ 0 = omega arith in
     let n : length (flags b c.args.t) ≤ c.loop-j.j = omega (arith, known, listed-length (connects b c.args.t) (outputs b)) in
     (c.loop-j.invariant.1 ∙ ap (λ i. packed (take c.loop-j.j (drop i (flags b c.args.t)))) z ∙ ap packed (take_all c.loop-j.j (flags b c.args.t) n), omega (arith, c.loop-j.invariant, small b c.args.t (m - c.loop-j.j) c.loop-j.j (omega (arith, known))))
+
+pub overflow_mul-word : goal.overflow_mul-word
+overflow_mul-word c =
+    let known : WellFormed ((sourced c.args.source c.args.circuit.now)) (head_of c.args.source) =
+    well _ _ c.requires.0
+    in
+    omega (arith, c.loop-j.invariant, small (sourced c.args.source c.args.circuit.now) c.args.t (c.args.source.outputs - c.loop-j.j) c.loop-j.j (omega (arith, known)))
+
+pub overflow_add-word : goal.overflow_add-word
+overflow_add-word c =
+    let known : WellFormed ((sourced c.args.source c.args.circuit.now)) (head_of c.args.source) =
+    well _ _ c.requires.0
+    in
+    omega (arith, c.loop-j.invariant, small (sourced c.args.source c.args.circuit.now) c.args.t (c.args.source.outputs - c.loop-j.j) c.loop-j.j (omega (arith, known)))

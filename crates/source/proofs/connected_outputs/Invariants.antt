@@ -3,23 +3,17 @@
 use mathlib.Core.Path.{◌≡◌}
 use mathlib.Core.Bool.{Bool}
 use mathlib.Core.List.{List, []}
-use Prim.Native.Nat.{ℕ, ◌-◌, ◌≤◌, ◌<◌}
-use native.Mathlib.Omega.{arith}
-use lib.ListN.{take, drop, length-take}
+use Prim.Native.Nat.{ℕ, ◌-◌, ◌≤◌}
+use lib.ListN.{take, drop}
 use Rattle.sizes.specs.Sizes.{outputs}
 use Rattle.circuit.specs.Lists.{listed, packed}
 use Rattle.circuit.specs.Circuit.{connects}
 use Rattle.source.specs.Source.{sourced}
-use Rattle.circuit.proofs.Laws.{packed_below}
 use Rattle.source.proofs.connected_outputs.Given as goal
 
 -- which outputs of the frame are connected
 abbrev flags : List ℕ → (t : ℕ) → List Bool
 flags b t = listed [] (connects b t) (outputs b)
-
--- the word of a part of the flags is small
-small : (b : List ℕ) (t i j : ℕ) → j ≤ 16 → packed (take j (drop i (flags b t))) < 65536
-small b t i j h = packed_below _ 16 (simp length-take (omega arith))
 
 abbrev pub invariant-loop-j : goal.invariant-loop-j
 invariant-loop-j l =

@@ -16,13 +16,6 @@ pub returns-then-own-k : goal.returns-then-own-k
 returns-then-own-k c =
     none_there _ _ c.args.q _ c.requires.1 c.item_at-k.ensures c.requires.0 c.if-own-k.true
 
-pub overflow_sub-own : goal.overflow_sub-own
-overflow_sub-own c =
-    let own : WellFormed c.args.circuit.now c.args.source.own =
-    own_well _ _ c.requires.0
-    in
-    omega (arith, own)
-
 pub is_unconnected-requires : goal.is_unconnected-requires
 is_unconnected-requires c =
     let own : WellFormed c.args.circuit.now c.args.source.own =

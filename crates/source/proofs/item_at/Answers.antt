@@ -2,7 +2,6 @@
 -- Assumes nothing.
 use mathlib.Core.Path.{◌≡◌}
 use mathlib.Core.Bool.{false}
-use Prim.Native.Nat.{◌<◌}
 use native.Mathlib.Omega.{arith}
 use lib.Dec.{eqb}
 use lib.ListN.{get_or}
@@ -19,34 +18,9 @@ pub loop-k-init : goal.loop-k-init
 loop-k-init c =
     (omega arith, λ i h. absurd (omega arith))
 
-pub offset_bounds-source-k : goal.offset_bounds-source-k
-offset_bounds-source-k c =
-    let few : c.loop-k.k < 16 =
-    omega (arith, c.loop-k-test.true, c.requires c.if-source.false)
-    in
-    omega (arith, few)
-
-pub bounds-source-k : goal.bounds-source-k
-bounds-source-k c =
-    let few : c.loop-k.k < 16 =
-    omega (arith, c.loop-k-test.true, c.requires c.if-source.false)
-    in
-    few
-
 pub returns-then-source-k : goal.returns-then-source-k
 returns-then-source-k c =
     item-found _ _ c.if-source.false c.loop-k.k c.loop-k-test.true c.loop-k.invariant.1 (eq-eqb _ _ c.if-source-k.true)
-
-pub overflow_step-k : goal.overflow_step-k
-overflow_step-k c =
-    let few : c.loop-k.k < 16 =
-    omega (arith, c.loop-k-test.true, c.requires c.if-source.false)
-    in
-    omega (arith, few)
-
-pub loop-k-smaller : goal.loop-k-smaller
-loop-k-smaller c =
-    omega (arith, c.loop-k-test.true)
 
 pub loop-k-preserved : goal.loop-k-preserved
 loop-k-preserved c =

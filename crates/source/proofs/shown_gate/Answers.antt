@@ -21,6 +21,14 @@ item_at-requires c =
     in
     few_items _ _ (source)
 
+pub returns-then-is_connected : goal.returns-then-is_connected
+returns-then-is_connected c =
+    shows-item _ _ c.requires.1 c.requires.0 c.args.q c.item_at.result c.requires.2 c.item_at.ensures (sym c.if-is_connected.true ∙ c.is_connected.ensures) _ refl refl
+
+pub returns : goal.returns
+returns c =
+    shows-none _ _ c.requires.1 c.requires.0 c.args.q _ c.requires.2 refl (sym c.if-is_connected.false ∙ c.is_connected.ensures) _ refl refl
+
 pub overflow_add-shown : goal.overflow_add-shown
 overflow_add-shown c =
     let few : c.args.source.base + (c.args.source.own.gates - c.args.source.own.total + c.item_at.result) < 65536 =
@@ -41,11 +49,3 @@ overflow_mul-result c =
     omega (arith, c.requires.1.network, c.requires.1.few, c.requires.1.base_is, c.requires.1.sizes.bits-to, c.item_at.ensures, item_most c.args.circuit.now c.args.source c.requires.0 c.args.q)
     in
     omega (arith, few)
-
-pub returns-then-is_connected : goal.returns-then-is_connected
-returns-then-is_connected c =
-    shows-item _ _ c.requires.1 c.requires.0 c.args.q c.item_at.result c.requires.2 c.item_at.ensures (sym c.if-is_connected.true ∙ c.is_connected.ensures) _ refl refl
-
-pub returns : goal.returns
-returns c =
-    shows-none _ _ c.requires.1 c.requires.0 c.args.q _ c.requires.2 refl (sym c.if-is_connected.false ∙ c.is_connected.ensures) _ refl refl

@@ -14,20 +14,6 @@ pub returns-then-signal-eq0 : goal.returns-then-signal-eq0
 returns-then-signal-eq0 c =
     (stands_constant _ _ _ _ c.requires.first_from c.requires.base_from c.if-signal-eq0.true, omega arith)
 
-pub overflow_cast-result : goal.overflow_cast-result
-overflow_cast-result c =
-    let low : get_or c.args.places.now (c.args.signal - 1) 0 < 16 =
-    c.requires.places-to (c.args.signal - 1) (omega (arith, c.if-first-signal.false, c.if-signal-eq0.false))
-    in
-    omega (arith, low)
-
-pub overflow_add-result-2 : goal.overflow_add-result-2
-overflow_add-result-2 c =
-    let low : get_or c.args.places.now (c.args.signal - 1) 0 < 16 =
-    c.requires.places-to (c.args.signal - 1) (omega (arith, c.if-first-signal.false, c.if-signal-eq0.false))
-    in
-    omega (arith, low)
-
 pub returns : goal.returns
 returns c =
     let low : get_or c.args.places.now (c.args.signal - 1) 0 < 16 =

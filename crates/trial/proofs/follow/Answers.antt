@@ -1,7 +1,7 @@
 -- `trial::follow` meets its contract.
 -- Assumes nothing.
 use mathlib.Core.Path.{◌≡◌, refl}
-use Prim.Native.Nat.{ℕ, ◌+◌, ◌*◌, ◌-◌, ◌/◌, ◌^◌, ◌≤◌, ◌<◌}
+use Prim.Native.Nat.{◌+◌, ◌*◌, ◌-◌, ◌/◌, ◌^◌, ◌≤◌, ◌<◌}
 use native.Mathlib.Nat.{div-le_self}
 use native.Mathlib.Omega.{arith}
 use Rattle.trial.proofs.Following.{Turn, shift_small, along_start, along_next, along_end, turn}
@@ -18,9 +18,6 @@ loop-i-init c =
 
 pub overflow_sub-shift : goal.overflow_sub-shift
 overflow_sub-shift c =
-    let prefix : ℕ =
-    c.args.h / 2 ^ (c.loop-i.shift - c.args.sought.inputs)
-    in
     let facts : Turn c.args.sought c.args.table.now c.args.starts.now c.loop-i.i c.loop-i.shift c.loop-i.target c.loop-i.state c.loop-i.before ((c.args.h / 2 ^ (c.loop-i.shift - c.args.sought.inputs))) =
     turn _ _ _ c.args.chosen.now c.requires.held c.requires.candidate c.args.t c.args.h c.requires.t_le_frames.0 c.requires.t_le_frames.1 _ _ _ _ _ _ c.loop-i.invariant (omega arith)
     in
@@ -28,9 +25,6 @@ overflow_sub-shift c =
 
 pub overflow_shr-prefix : goal.overflow_shr-prefix
 overflow_shr-prefix c =
-    let prefix : ℕ =
-    c.args.h / 2 ^ (c.loop-i.shift - c.args.sought.inputs)
-    in
     let facts : Turn c.args.sought c.args.table.now c.args.starts.now c.loop-i.i c.loop-i.shift c.loop-i.target c.loop-i.state c.loop-i.before ((c.args.h / 2 ^ (c.loop-i.shift - c.args.sought.inputs))) =
     turn _ _ _ c.args.chosen.now c.requires.held c.requires.candidate c.args.t c.args.h c.requires.t_le_frames.0 c.requires.t_le_frames.1 _ _ _ _ _ _ c.loop-i.invariant (omega arith)
     in
@@ -38,9 +32,6 @@ overflow_shr-prefix c =
 
 pub overflow_mul-word : goal.overflow_mul-word
 overflow_mul-word c =
-    let prefix : ℕ =
-    c.args.h / 2 ^ (c.loop-i.shift - c.args.sought.inputs)
-    in
     let facts : Turn c.args.sought c.args.table.now c.args.starts.now c.loop-i.i c.loop-i.shift c.loop-i.target c.loop-i.state c.loop-i.before ((c.args.h / 2 ^ (c.loop-i.shift - c.args.sought.inputs))) =
     turn _ _ _ c.args.chosen.now c.requires.held c.requires.candidate c.args.t c.args.h c.requires.t_le_frames.0 c.requires.t_le_frames.1 _ _ _ _ _ _ c.loop-i.invariant (omega arith)
     in
@@ -51,9 +42,6 @@ overflow_mul-word c =
 
 pub overflow_sub-word : goal.overflow_sub-word
 overflow_sub-word c =
-    let prefix : ℕ =
-    c.args.h / 2 ^ (c.loop-i.shift - c.args.sought.inputs)
-    in
     let facts : Turn c.args.sought c.args.table.now c.args.starts.now c.loop-i.i c.loop-i.shift c.loop-i.target c.loop-i.state c.loop-i.before ((c.args.h / 2 ^ (c.loop-i.shift - c.args.sought.inputs))) =
     turn _ _ _ c.args.chosen.now c.requires.held c.requires.candidate c.args.t c.args.h c.requires.t_le_frames.0 c.requires.t_le_frames.1 _ _ _ _ _ _ c.loop-i.invariant (omega arith)
     in
@@ -61,9 +49,6 @@ overflow_sub-word c =
 
 pub overflow_mul-entry : goal.overflow_mul-entry
 overflow_mul-entry c =
-    let prefix : ℕ =
-    c.args.h / 2 ^ (c.loop-i.shift - c.args.sought.inputs)
-    in
     let facts : Turn c.args.sought c.args.table.now c.args.starts.now c.loop-i.i c.loop-i.shift c.loop-i.target c.loop-i.state c.loop-i.before ((c.args.h / 2 ^ (c.loop-i.shift - c.args.sought.inputs))) =
     turn _ _ _ c.args.chosen.now c.requires.held c.requires.candidate c.args.t c.args.h c.requires.t_le_frames.0 c.requires.t_le_frames.1 _ _ _ _ _ _ c.loop-i.invariant (omega arith)
     in
@@ -71,9 +56,6 @@ overflow_mul-entry c =
 
 pub overflow_add-entry : goal.overflow_add-entry
 overflow_add-entry c =
-    let prefix : ℕ =
-    c.args.h / 2 ^ (c.loop-i.shift - c.args.sought.inputs)
-    in
     let facts : Turn c.args.sought c.args.table.now c.args.starts.now c.loop-i.i c.loop-i.shift c.loop-i.target c.loop-i.state c.loop-i.before ((c.args.h / 2 ^ (c.loop-i.shift - c.args.sought.inputs))) =
     turn _ _ _ c.args.chosen.now c.requires.held c.requires.candidate c.args.t c.args.h c.requires.t_le_frames.0 c.requires.t_le_frames.1 _ _ _ _ _ _ c.loop-i.invariant (omega arith)
     in
@@ -81,9 +63,6 @@ overflow_add-entry c =
 
 pub overflow_add-used : goal.overflow_add-used
 overflow_add-used c =
-    let prefix : ℕ =
-    c.args.h / 2 ^ (c.loop-i.shift - c.args.sought.inputs)
-    in
     let facts : Turn c.args.sought c.args.table.now c.args.starts.now c.loop-i.i c.loop-i.shift c.loop-i.target c.loop-i.state c.loop-i.before ((c.args.h / 2 ^ (c.loop-i.shift - c.args.sought.inputs))) =
     turn _ _ _ c.args.chosen.now c.requires.held c.requires.candidate c.args.t c.args.h c.requires.t_le_frames.0 c.requires.t_le_frames.1 _ _ _ _ _ _ c.loop-i.invariant (omega arith)
     in
@@ -91,9 +70,6 @@ overflow_add-used c =
 
 pub offset_bounds-starts-i : goal.offset_bounds-starts-i
 offset_bounds-starts-i c =
-    let prefix : ℕ =
-    c.args.h / 2 ^ (c.loop-i.shift - c.args.sought.inputs)
-    in
     let facts : Turn c.args.sought c.args.table.now c.args.starts.now c.loop-i.i c.loop-i.shift c.loop-i.target c.loop-i.state c.loop-i.before ((c.args.h / 2 ^ (c.loop-i.shift - c.args.sought.inputs))) =
     turn _ _ _ c.args.chosen.now c.requires.held c.requires.candidate c.args.t c.args.h c.requires.t_le_frames.0 c.requires.t_le_frames.1 _ _ _ _ _ _ c.loop-i.invariant (omega arith)
     in
@@ -101,9 +77,6 @@ offset_bounds-starts-i c =
 
 pub bounds-starts-i : goal.bounds-starts-i
 bounds-starts-i c =
-    let prefix : ℕ =
-    c.args.h / 2 ^ (c.loop-i.shift - c.args.sought.inputs)
-    in
     let facts : Turn c.args.sought c.args.table.now c.args.starts.now c.loop-i.i c.loop-i.shift c.loop-i.target c.loop-i.state c.loop-i.before ((c.args.h / 2 ^ (c.loop-i.shift - c.args.sought.inputs))) =
     turn _ _ _ c.args.chosen.now c.requires.held c.requires.candidate c.args.t c.args.h c.requires.t_le_frames.0 c.requires.t_le_frames.1 _ _ _ _ _ _ c.loop-i.invariant (omega arith)
     in
@@ -111,9 +84,6 @@ bounds-starts-i c =
 
 pub overflow_mul-target : goal.overflow_mul-target
 overflow_mul-target c =
-    let prefix : ℕ =
-    c.args.h / 2 ^ (c.loop-i.shift - c.args.sought.inputs)
-    in
     let facts : Turn c.args.sought c.args.table.now c.args.starts.now c.loop-i.i c.loop-i.shift c.loop-i.target c.loop-i.state c.loop-i.before ((c.args.h / 2 ^ (c.loop-i.shift - c.args.sought.inputs))) =
     turn _ _ _ c.args.chosen.now c.requires.held c.requires.candidate c.args.t c.args.h c.requires.t_le_frames.0 c.requires.t_le_frames.1 _ _ _ _ _ _ c.loop-i.invariant (omega arith)
     in
@@ -121,9 +91,6 @@ overflow_mul-target c =
 
 pub overflow_add-target : goal.overflow_add-target
 overflow_add-target c =
-    let prefix : ℕ =
-    c.args.h / 2 ^ (c.loop-i.shift - c.args.sought.inputs)
-    in
     let facts : Turn c.args.sought c.args.table.now c.args.starts.now c.loop-i.i c.loop-i.shift c.loop-i.target c.loop-i.state c.loop-i.before ((c.args.h / 2 ^ (c.loop-i.shift - c.args.sought.inputs))) =
     turn _ _ _ c.args.chosen.now c.requires.held c.requires.candidate c.args.t c.args.h c.requires.t_le_frames.0 c.requires.t_le_frames.1 _ _ _ _ _ _ c.loop-i.invariant (omega arith)
     in
@@ -131,9 +98,6 @@ overflow_add-target c =
 
 pub overflow_mul-target-in-loop-i : goal.overflow_mul-target-in-loop-i
 overflow_mul-target-in-loop-i c =
-    let prefix : ℕ =
-    c.args.h / 2 ^ (c.loop-i.shift - c.args.sought.inputs)
-    in
     let facts : Turn c.args.sought c.args.table.now c.args.starts.now c.loop-i.i c.loop-i.shift c.loop-i.target c.loop-i.state c.loop-i.before ((c.args.h / 2 ^ (c.loop-i.shift - c.args.sought.inputs))) =
     turn _ _ _ c.args.chosen.now c.requires.held c.requires.candidate c.args.t c.args.h c.requires.t_le_frames.0 c.requires.t_le_frames.1 _ _ _ _ _ _ c.loop-i.invariant (omega arith)
     in
@@ -141,9 +105,6 @@ overflow_mul-target-in-loop-i c =
 
 pub overflow_add-starts : goal.overflow_add-starts
 overflow_add-starts c =
-    let prefix : ℕ =
-    c.args.h / 2 ^ (c.loop-i.shift - c.args.sought.inputs)
-    in
     let facts : Turn c.args.sought c.args.table.now c.args.starts.now c.loop-i.i c.loop-i.shift c.loop-i.target c.loop-i.state c.loop-i.before ((c.args.h / 2 ^ (c.loop-i.shift - c.args.sought.inputs))) =
     turn _ _ _ c.args.chosen.now c.requires.held c.requires.candidate c.args.t c.args.h c.requires.t_le_frames.0 c.requires.t_le_frames.1 _ _ _ _ _ _ c.loop-i.invariant (omega arith)
     in
@@ -151,9 +112,6 @@ overflow_add-starts c =
 
 pub overflow_add-sought : goal.overflow_add-sought
 overflow_add-sought c =
-    let prefix : ℕ =
-    c.args.h / 2 ^ (c.loop-i.shift - c.args.sought.inputs)
-    in
     let facts : Turn c.args.sought c.args.table.now c.args.starts.now c.loop-i.i c.loop-i.shift c.loop-i.target c.loop-i.state c.loop-i.before ((c.args.h / 2 ^ (c.loop-i.shift - c.args.sought.inputs))) =
     turn _ _ _ c.args.chosen.now c.requires.held c.requires.candidate c.args.t c.args.h c.requires.t_le_frames.0 c.requires.t_le_frames.1 _ _ _ _ _ _ c.loop-i.invariant (omega arith)
     in
@@ -161,9 +119,6 @@ overflow_add-sought c =
 
 pub read-target-requires : goal.read-target-requires
 read-target-requires c =
-    let prefix : ℕ =
-    c.args.h / 2 ^ (c.loop-i.shift - c.args.sought.inputs)
-    in
     let facts : Turn c.args.sought c.args.table.now c.args.starts.now c.loop-i.i c.loop-i.shift c.loop-i.target c.loop-i.state c.loop-i.before ((c.args.h / 2 ^ (c.loop-i.shift - c.args.sought.inputs))) =
     turn _ _ _ c.args.chosen.now c.requires.held c.requires.candidate c.args.t c.args.h c.requires.t_le_frames.0 c.requires.t_le_frames.1 _ _ _ _ _ _ c.loop-i.invariant (omega arith)
     in
@@ -171,9 +126,6 @@ read-target-requires c =
 
 pub offset_bounds-chosen-entry : goal.offset_bounds-chosen-entry
 offset_bounds-chosen-entry c =
-    let prefix : ℕ =
-    c.args.h / 2 ^ (c.loop-i.shift - c.args.sought.inputs)
-    in
     let facts : Turn c.args.sought c.args.table.now c.args.starts.now c.loop-i.i c.loop-i.shift c.loop-i.target c.loop-i.state c.loop-i.before ((c.args.h / 2 ^ (c.loop-i.shift - c.args.sought.inputs))) =
     turn _ _ _ c.args.chosen.now c.requires.held c.requires.candidate c.args.t c.args.h c.requires.t_le_frames.0 c.requires.t_le_frames.1 _ _ _ _ _ _ c.loop-i.invariant (omega arith)
     in
@@ -181,9 +133,6 @@ offset_bounds-chosen-entry c =
 
 pub bounds-chosen-entry : goal.bounds-chosen-entry
 bounds-chosen-entry c =
-    let prefix : ℕ =
-    c.args.h / 2 ^ (c.loop-i.shift - c.args.sought.inputs)
-    in
     let facts : Turn c.args.sought c.args.table.now c.args.starts.now c.loop-i.i c.loop-i.shift c.loop-i.target c.loop-i.state c.loop-i.before ((c.args.h / 2 ^ (c.loop-i.shift - c.args.sought.inputs))) =
     turn _ _ _ c.args.chosen.now c.requires.held c.requires.candidate c.args.t c.args.h c.requires.t_le_frames.0 c.requires.t_le_frames.1 _ _ _ _ _ _ c.loop-i.invariant (omega arith)
     in
@@ -195,9 +144,6 @@ overflow_cast-state c =
 
 pub overflow_step-i : goal.overflow_step-i
 overflow_step-i c =
-    let prefix : ℕ =
-    c.args.h / 2 ^ (c.loop-i.shift - c.args.sought.inputs)
-    in
     let facts : Turn c.args.sought c.args.table.now c.args.starts.now c.loop-i.i c.loop-i.shift c.loop-i.target c.loop-i.state c.loop-i.before ((c.args.h / 2 ^ (c.loop-i.shift - c.args.sought.inputs))) =
     turn _ _ _ c.args.chosen.now c.requires.held c.requires.candidate c.args.t c.args.h c.requires.t_le_frames.0 c.requires.t_le_frames.1 _ _ _ _ _ _ c.loop-i.invariant (omega arith)
     in
@@ -205,9 +151,6 @@ overflow_step-i c =
 
 pub loop-i-preserved : goal.loop-i-preserved
 loop-i-preserved c =
-    let prefix : ℕ =
-    c.args.h / 2 ^ (c.loop-i.shift - c.args.sought.inputs)
-    in
     let facts : Turn c.args.sought c.args.table.now c.args.starts.now c.loop-i.i c.loop-i.shift c.loop-i.target c.loop-i.state c.loop-i.before ((c.args.h / 2 ^ (c.loop-i.shift - c.args.sought.inputs))) =
     turn _ _ _ c.args.chosen.now c.requires.held c.requires.candidate c.args.t c.args.h c.requires.t_le_frames.0 c.requires.t_le_frames.1 _ _ _ _ _ _ c.loop-i.invariant (omega arith)
     in

@@ -1,8 +1,8 @@
 -- `unfold::write_circuit` meets its contract.
 -- Assumes nothing.
 use mathlib.Core.Path.{◌≡◌, sym, ap, ◌∙◌}
-use mathlib.Core.List.{List, ◌∷◌, []}
-use Prim.Native.Nat.{ℕ, ◌+◌, ◌*◌, ◌^◌}
+use mathlib.Core.List.{◌∷◌, []}
+use Prim.Native.Nat.{◌+◌, ◌*◌, ◌^◌}
 use native.Mathlib.Omega.{arith}
 use lib.ListN.{length}
 use Rattle.words.specs.Words.{stored}
@@ -53,9 +53,6 @@ pub draw-requires : goal.draw-requires
 draw-requires c =
     let sized : Sized 8 c.args.sizes.inputs c.args.sizes.outputs c.args.sizes.frames =
     rw c.requires.layout_value.1 c.requires.sound.headed.sized
-    in
-    let r₁ : List ℕ =
-    c.store_all.new.bytes
     in
     let length₁ : length ((c.store_all.new.bytes)) ≡ length c.args.res.now =
     ap length c.store_all.ensures ∙ stored-length 2 _ 0 _ (omega (arith, c.requires.gates_le_most_gates.1))

@@ -6,7 +6,6 @@ use Prim.Native.Nat.{ℕ, ◌+◌, ◌/◌}
 use native.Mathlib.Omega.{arith}
 use Rattle.words.specs.Words.{stored}
 use Rattle.words.proofs.Laws.{stored-join, stored_low}
-use borrow.Author.Rules.{rules}
 use Rattle.words.proofs.store32.Goals as goal
 
 pub returns : goal.returns

@@ -1,9 +1,16 @@
 -- `write::next_row` meets its contract.
 -- Assumes nothing.
 use native.Mathlib.Omega.{arith}
-use Prim.Native.Nat.{◌+◌}
 use Rattle.write.proofs.Rows.{RowSafe, row_safe, row_same, row_more}
 use Rattle.write.proofs.next_row.Goals as goal
+
+pub returns-then-state-writing : goal.returns-then-state-writing
+returns-then-state-writing c =
+    row_same c.args.layout c.args.counts.now c.args.writing (omega arith)
+
+pub returns : goal.returns
+returns c =
+    row_more c.args.layout c.args.counts.now c.args.writing (omega arith)
 
 pub overflow_add-state : goal.overflow_add-state
 overflow_add-state c =
@@ -11,28 +18,6 @@ overflow_add-state c =
     row_safe c.args.layout c.args.writing c.requires.0
     in
     omega (arith, safe)
-
-pub returns-then-state-writing : goal.returns-then-state-writing
-returns-then-state-writing c =
-    row_same c.args.layout c.args.counts.now c.args.writing (omega arith)
-
-pub offset_bounds-counts-layer : goal.offset_bounds-counts-layer
-offset_bounds-counts-layer c =
-    let safe : RowSafe c.args.layout c.args.writing =
-    row_safe c.args.layout c.args.writing c.requires.0
-    in
-    omega (arith, safe)
-
-pub bounds-counts-layer : goal.bounds-counts-layer
-bounds-counts-layer c =
-    let safe : RowSafe c.args.layout c.args.writing =
-    row_safe c.args.layout c.args.writing c.requires.0
-    in
-    omega (arith, safe, c.requires.1)
-
-pub overflow_cast-result : goal.overflow_cast-result
-overflow_cast-result c =
-    omega (arith, c.type_inv.counts (c.args.writing.layer + 1))
 
 pub overflow_mul-result : goal.overflow_mul-result
 overflow_mul-result c =
@@ -47,7 +32,3 @@ overflow_add-result c =
     row_safe c.args.layout c.args.writing c.requires.0
     in
     omega (arith, safe)
-
-pub returns : goal.returns
-returns c =
-    row_more c.args.layout c.args.counts.now c.args.writing (omega arith)

@@ -30,42 +30,6 @@ unfolding total
 loop-t-init c =
     (omega arith, refl, omega arith)
 
-pub offset_bounds-counts-t : goal.offset_bounds-counts-t
-offset_bounds-counts-t c =
-    let frames-few : c.args.layout.frames ≤ 16 =
-    frames-to _ c.requires.0
-    in
-    omega (arith, c.loop-t-test.true, frames-few)
-
-pub bounds-counts-t : goal.bounds-counts-t
-bounds-counts-t c =
-    let frames-few : c.args.layout.frames ≤ 16 =
-    frames-to _ c.requires.0
-    in
-    omega (arith, c.loop-t-test.true, frames-few, c.requires.1)
-
-pub overflow_cast-states : goal.overflow_cast-states
-overflow_cast-states c =
-    omega (arith, c.type_inv.counts c.loop-t.t)
-
-pub overflow_add-states : goal.overflow_add-states
-overflow_add-states c =
-    let frames-few : c.args.layout.frames ≤ 16 =
-    frames-to _ c.requires.0
-    in
-    omega (arith, c.type_inv.counts c.loop-t.t, c.loop-t.invariant.2, c.loop-t-test.true, frames-few)
-
-pub overflow_step-t : goal.overflow_step-t
-overflow_step-t c =
-    let frames-few : c.args.layout.frames ≤ 16 =
-    frames-to _ c.requires.0
-    in
-    omega (arith, c.loop-t-test.true, frames-few)
-
-pub loop-t-smaller : goal.loop-t-smaller
-loop-t-smaller c =
-    omega (arith, c.loop-t-test.true)
-
 pub loop-t-preserved : goal.loop-t-preserved
 loop-t-preserved c = (
   omega (arith, c.loop-t-test.true),
@@ -79,6 +43,10 @@ head_length-requires c =
     frames-to _ c.requires.0
     in
     frames-few
+
+pub returns : goal.returns
+returns c =
+    summed _ _ _ _ c.loop-t.t c.head_length.ensures (omega (arith, c.loop-t.invariant.0)) c.loop-t.invariant.1
 
 pub overflow_mul-result : goal.overflow_mul-result
 overflow_mul-result c =
@@ -94,7 +62,3 @@ overflow_add-result c =
     frames-to _ c.requires.0
     in
     omega (arith, entries_few _ c.requires.0 _ _ c.loop-t.invariant.0 c.loop-t.invariant.2, c.head_length.ensures, head_length_lem c.args.layout.frames, frames-few)
-
-pub returns : goal.returns
-returns c =
-    summed _ _ _ _ c.loop-t.t c.head_length.ensures (omega (arith, c.loop-t.invariant.0)) c.loop-t.invariant.1

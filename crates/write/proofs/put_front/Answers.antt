@@ -2,7 +2,6 @@
 -- Assumes nothing.
 use mathlib.Core.Path.{sym, ap, ◌∙◌, subst}
 use Prim.Native.Nat.{◌-◌}
-use native.Mathlib.Omega.{arith}
 use Rattle.sizes.specs.Sizes.{inputs, outputs, frames}
 use Rattle.circuit.specs.Theorems.{response}
 use Rattle.source.specs.Source.{sourced}
@@ -18,10 +17,6 @@ put_head-requires c =
       counts_to = subst (λ cs. CountsTo (inputs b) (outputs b) (frames b) (response b) cs (frames b - 1)) (sym c.counts_of-counts.ensures) c.requires.1;
       circuit_in_bounds = c.requires.2;
     }
-
-pub head_length-requires : goal.head_length-requires
-head_length-requires c =
-    omega (arith, well _ _ c.requires.0)
 
 pub returns : goal.returns
 returns c =

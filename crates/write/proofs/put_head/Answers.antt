@@ -18,49 +18,9 @@ use Rattle.write.proofs.put_head.Goals as goal
 first-words : (n m t : ℕ) (b : List ℕ) → n ≡ inputs b → m ≡ outputs b → t ≡ frames b → n ∷ m ∷ t ∷ [] ≡ inputs b ∷ outputs b ∷ frames b ∷ []
 first-words n m t b e f g = ap₂ (λ (x : ℕ) (l : List ℕ). x ∷ l) e (ap₂ (λ (x y : ℕ). x ∷ y ∷ []) f g)
 
-pub overflow_cast-sizes : goal.overflow_cast-sizes
-overflow_cast-sizes c =
-    let b₀ : List ℕ =
-    sourced c.args.source c.args.circuit.now
-    in
-    let known : WellFormed ((sourced c.args.source c.args.circuit.now)) (head_of c.args.source) =
-    well _ _ c.requires.source_of
-    in
-    omega (arith, known)
-
-pub overflow_cast-sizes-2 : goal.overflow_cast-sizes-2
-overflow_cast-sizes-2 c =
-    let b₀ : List ℕ =
-    sourced c.args.source c.args.circuit.now
-    in
-    let known : WellFormed ((sourced c.args.source c.args.circuit.now)) (head_of c.args.source) =
-    well _ _ c.requires.source_of
-    in
-    omega (arith, known)
-
-pub overflow_cast-sizes-3 : goal.overflow_cast-sizes-3
-overflow_cast-sizes-3 c =
-    let b₀ : List ℕ =
-    sourced c.args.source c.args.circuit.now
-    in
-    let known : WellFormed ((sourced c.args.source c.args.circuit.now)) (head_of c.args.source) =
-    well _ _ c.requires.source_of
-    in
-    omega (arith, known)
-
 pub store_all-requires : goal.store_all-requires
 store_all-requires c =
     (omega arith, omega (arith, head_length_lem (frames (sourced c.args.source c.args.circuit.now)), c.requires.circuit_in_bounds))
-
-pub overflow_add-layers : goal.overflow_add-layers
-overflow_add-layers c =
-    let b₀ : List ℕ =
-    sourced c.args.source c.args.circuit.now
-    in
-    let known : WellFormed ((sourced c.args.source c.args.circuit.now)) (head_of c.args.source) =
-    well _ _ c.requires.source_of
-    in
-    omega (arith, known)
 
 pub store_all-requires-2 : goal.store_all-requires-2
 store_all-requires-2 c =

@@ -8,60 +8,14 @@ use lib.ListN.{replicate, length, get_or, take, drop, length-append, length-take
 use Rattle.words.specs.Words.{stored}
 use Rattle.words.proofs.Laws.{stored-none, stored-length, stored-behind}
 use Rattle.explore.specs.Explore.{layer_at}
-use Rattle.explore.proofs.Layers.{layer_next, half_to, frames-to}
-use Rattle.write.proofs.Nexts.{layer_one, nexts_in, nexts-none, nexts_layer, part_lent, entries-to, part_in, from_to, next_room, nexts_whole}
+use Rattle.explore.proofs.Layers.{layer_next, half_to}
+use Rattle.write.proofs.Nexts.{layer_one, nexts_in, nexts-none, nexts_layer, part_lent, part_in, from_to, next_room, nexts_whole}
 use Rattle.write.proofs.put_nexts.Goals as goal
-
-pub overflow_sub-last : goal.overflow_sub-last
-overflow_sub-last c =
-    c.requires.laid.frames_from
 
 pub loop-t-init : goal.loop-t-init
 loop-t-init c =
     let z = nexts-none c.args.layout c.args.scratch.now c.args.counts.now in
     (omega arith, sym (layer_one _), omega (arith, ap length z), sym (ap (stored 2 c.args.res.now c.args.at) z ∙ stored-none 2 _ _))
-
-pub offset_bounds-counts-t : goal.offset_bounds-counts-t
-offset_bounds-counts-t c =
-    let inside : c.loop-t.t < c.args.layout.frames = omega (arith, c.loop-t.invariant.0, c.requires.laid.frames_from) in
-    let frames-few : c.args.layout.frames ≤ 16 = frames-to _ c.requires.laid in
-    omega (arith, inside, frames-few)
-
-pub bounds-counts-t : goal.bounds-counts-t
-bounds-counts-t c =
-    let inside : c.loop-t.t < c.args.layout.frames = omega (arith, c.loop-t.invariant.0, c.requires.laid.frames_from) in
-    let frames-few : c.args.layout.frames ≤ 16 = frames-to _ c.requires.laid in
-    omega (arith, inside, frames-few, c.requires.counted.places)
-
-pub overflow_cast-count : goal.overflow_cast-count
-overflow_cast-count c =
-    omega (arith, c.type_inv.counts c.loop-t.t)
-
-pub overflow_mul-count : goal.overflow_mul-count
-overflow_mul-count c =
-    let inside : c.loop-t.t < c.args.layout.frames = omega (arith, c.loop-t.invariant.0, c.requires.laid.frames_from) in
-    let few : get_or c.args.counts.now c.loop-t.t 0 * c.args.layout.fan ≤ 2147483648 = entries-to _ _ _ _ _ c.requires c.loop-t.t inside in
-    omega (arith, few)
-
-pub overflow_add-half : goal.overflow_add-half
-overflow_add-half c =
-    let more : suc c.loop-t.t < c.args.layout.frames = omega (arith, c.loop-t-test.true) in
-    let from-few : (layer_at c.args.layout.fan (suc c.loop-t.t) ≤ 65536) × (layer_at c.args.layout.fan (suc c.loop-t.t) * c.args.layout.fan + 1 ≤ 131072) = from_to _ _ _ _ _ c.requires c.loop-t.t more in
-    let half-few : c.args.layout.half ≤ 65536 = half_to _ c.requires.laid in
-    omega (arith, from-few.0, half-few, c.loop-t.invariant.1)
-
-pub offset_bounds-scratch-half : goal.offset_bounds-scratch-half
-offset_bounds-scratch-half c =
-    let more : suc c.loop-t.t < c.args.layout.frames = omega (arith, c.loop-t-test.true) in
-    let from-few : (layer_at c.args.layout.fan (suc c.loop-t.t) ≤ 65536) × (layer_at c.args.layout.fan (suc c.loop-t.t) * c.args.layout.fan + 1 ≤ 131072) = from_to _ _ _ _ _ c.requires c.loop-t.t more in
-    let half-few : c.args.layout.half ≤ 65536 = half_to _ c.requires.laid in
-    omega (arith, from-few.0, half-few, c.loop-t.invariant.1)
-
-pub slice_bounds-store_all-count : goal.slice_bounds-store_all-count
-slice_bounds-store_all-count c =
-    let more : suc c.loop-t.t < c.args.layout.frames = omega (arith, c.loop-t-test.true) in
-    let part : c.args.layout.half + layer_at c.args.layout.fan (suc c.loop-t.t) + get_or c.args.counts.now c.loop-t.t 0 * c.args.layout.fan ≤ length c.args.scratch.now = part_in _ _ _ _ _ c.requires c.loop-t.t more in
-    omega (arith, part, c.loop-t.invariant.1)
 
 pub store_all-requires : goal.store_all-requires
 store_all-requires c =
@@ -71,38 +25,6 @@ store_all-requires c =
     let more : suc c.loop-t.t < c.args.layout.frames = omega (arith, c.loop-t-test.true) in
     let part : c.args.layout.half + layer_at c.args.layout.fan (suc c.loop-t.t) + get_or c.args.counts.now c.loop-t.t 0 * c.args.layout.fan ≤ length c.args.scratch.now = part_in _ _ _ _ _ c.requires c.loop-t.t more in
     (rw (length-take, length-drop) (omega (arith, part, c.loop-t.invariant.1)), omega (arith, fits, len, c.loop-t.invariant.2))
-
-pub overflow_mul-from : goal.overflow_mul-from
-overflow_mul-from c =
-    let more : suc c.loop-t.t < c.args.layout.frames = omega (arith, c.loop-t-test.true) in
-    let from-few : (layer_at c.args.layout.fan (suc c.loop-t.t) ≤ 65536) × (layer_at c.args.layout.fan (suc c.loop-t.t) * c.args.layout.fan + 1 ≤ 131072) = from_to _ _ _ _ _ c.requires c.loop-t.t more in
-    let next_from : c.loop-t.from * c.args.layout.fan + 1 ≡ layer_at c.args.layout.fan (suc c.loop-t.t) * c.args.layout.fan + 1 = ap (λ (f : ℕ). f * c.args.layout.fan + 1) c.loop-t.invariant.1 in
-    omega (arith, from-few.1, next_from)
-
-pub overflow_add-from : goal.overflow_add-from
-overflow_add-from c =
-    let more : suc c.loop-t.t < c.args.layout.frames = omega (arith, c.loop-t-test.true) in
-    let from-few : (layer_at c.args.layout.fan (suc c.loop-t.t) ≤ 65536) × (layer_at c.args.layout.fan (suc c.loop-t.t) * c.args.layout.fan + 1 ≤ 131072) = from_to _ _ _ _ _ c.requires c.loop-t.t more in
-    let next_from : c.loop-t.from * c.args.layout.fan + 1 ≡ layer_at c.args.layout.fan (suc c.loop-t.t) * c.args.layout.fan + 1 = ap (λ (f : ℕ). f * c.args.layout.fan + 1) c.loop-t.invariant.1 in
-    omega (arith, from-few.1, next_from)
-
-pub overflow_mul-end : goal.overflow_mul-end
-overflow_mul-end c =
-    let inside : c.loop-t.t < c.args.layout.frames = omega (arith, c.loop-t.invariant.0, c.requires.laid.frames_from) in
-    let few : get_or c.args.counts.now c.loop-t.t 0 * c.args.layout.fan ≤ 2147483648 = entries-to _ _ _ _ _ c.requires c.loop-t.t inside in
-    omega (arith, few)
-
-pub overflow_add-end : goal.overflow_add-end
-overflow_add-end c =
-    let inside : c.loop-t.t < c.args.layout.frames = omega (arith, c.loop-t.invariant.0, c.requires.laid.frames_from) in
-    let fits : c.args.at + 2 * length (nexts_in c.args.layout c.args.scratch.now c.args.counts.now c.loop-t.t) + 2 * (get_or c.args.counts.now c.loop-t.t 0 * c.args.layout.fan) ≤ length c.args.res.now = next_room _ _ _ _ _ c.requires c.loop-t.t inside in
-    omega (arith, fits, c.loop-t.invariant.2, c.well_formed)
-
-pub overflow_step-t : goal.overflow_step-t
-overflow_step-t c =
-    let inside : c.loop-t.t < c.args.layout.frames = omega (arith, c.loop-t.invariant.0, c.requires.laid.frames_from) in
-    let frames-few : c.args.layout.frames ≤ 16 = frames-to _ c.requires.laid in
-    omega (arith, inside, frames-few)
 
 pub loop-t-preserved : goal.loop-t-preserved
 loop-t-preserved c =
@@ -125,32 +47,6 @@ loop-t-preserved c =
           ∙ ap (stored 2 c.args.res.now c.args.at) (sym e),
     )
 
-pub offset_bounds-counts-last : goal.offset_bounds-counts-last
-offset_bounds-counts-last c =
-    let frames-few : c.args.layout.frames ≤ 16 = frames-to _ c.requires.laid in
-    omega (arith, frames-few)
-
-pub bounds-counts-last : goal.bounds-counts-last
-bounds-counts-last c =
-    let frames-few : c.args.layout.frames ≤ 16 = frames-to _ c.requires.laid in
-    omega (arith, frames-few, c.requires.counted.places)
-
-pub overflow_cast-counts : goal.overflow_cast-counts
-overflow_cast-counts c =
-    omega (arith, c.type_inv.counts (c.args.layout.frames - 1))
-
-pub overflow_mul-counts : goal.overflow_mul-counts
-overflow_mul-counts c =
-    let inside : c.loop-t.t < c.args.layout.frames = omega (arith, c.loop-t.invariant.0, c.requires.laid.frames_from) in
-    let few : get_or c.args.counts.now c.loop-t.t 0 * c.args.layout.fan ≤ 2147483648 = entries-to _ _ _ _ _ c.requires c.loop-t.t inside in
-    let at_last : c.loop-t.t ≡ c.args.layout.frames - 1 =
-    omega (arith, c.loop-t.invariant.0)
-    in
-    let last-few : get_or c.args.counts.now (c.args.layout.frames - 1) 0 * c.args.layout.fan ≤ 2147483648 =
-    rw (sym (at_last)) few
-    in
-    omega (arith, last-few)
-
 pub put_zeros-requires : goal.put_zeros-requires
 put_zeros-requires c =
     let inside : c.loop-t.t < c.args.layout.frames = omega (arith, c.loop-t.invariant.0, c.requires.laid.frames_from) in
@@ -171,6 +67,46 @@ returns c =
     nexts_whole c.args.layout c.args.scratch.now c.args.counts.now c.args.res.now c.args.at N c.loop-t.t c.loop-t.end c.loop-t.res c.put_zeros.new.res
     (omega (arith, at_last, c.requires.laid.frames_from)) c.loop-t.invariant.2 c.loop-t.invariant.3
     (c.put_zeros.ensures ∙ ap (λ (t : ℕ). stored 2 c.loop-t.res c.loop-t.end (replicate (get_or c.args.counts.now t 0 * c.args.layout.fan) 0)) (sym (at_last)))
+
+pub overflow_add-half : goal.overflow_add-half
+overflow_add-half c =
+    let more : suc c.loop-t.t < c.args.layout.frames = omega (arith, c.loop-t-test.true) in
+    let from-few : (layer_at c.args.layout.fan (suc c.loop-t.t) ≤ 65536) × (layer_at c.args.layout.fan (suc c.loop-t.t) * c.args.layout.fan + 1 ≤ 131072) = from_to _ _ _ _ _ c.requires c.loop-t.t more in
+    let half-few : c.args.layout.half ≤ 65536 = half_to _ c.requires.laid in
+    omega (arith, from-few.0, half-few, c.loop-t.invariant.1)
+
+pub offset_bounds-scratch-half : goal.offset_bounds-scratch-half
+offset_bounds-scratch-half c =
+    let more : suc c.loop-t.t < c.args.layout.frames = omega (arith, c.loop-t-test.true) in
+    let from-few : (layer_at c.args.layout.fan (suc c.loop-t.t) ≤ 65536) × (layer_at c.args.layout.fan (suc c.loop-t.t) * c.args.layout.fan + 1 ≤ 131072) = from_to _ _ _ _ _ c.requires c.loop-t.t more in
+    let half-few : c.args.layout.half ≤ 65536 = half_to _ c.requires.laid in
+    omega (arith, from-few.0, half-few, c.loop-t.invariant.1)
+
+pub slice_bounds-store_all-count : goal.slice_bounds-store_all-count
+slice_bounds-store_all-count c =
+    let more : suc c.loop-t.t < c.args.layout.frames = omega (arith, c.loop-t-test.true) in
+    let part : c.args.layout.half + layer_at c.args.layout.fan (suc c.loop-t.t) + get_or c.args.counts.now c.loop-t.t 0 * c.args.layout.fan ≤ length c.args.scratch.now = part_in _ _ _ _ _ c.requires c.loop-t.t more in
+    omega (arith, part, c.loop-t.invariant.1)
+
+pub overflow_mul-from : goal.overflow_mul-from
+overflow_mul-from c =
+    let more : suc c.loop-t.t < c.args.layout.frames = omega (arith, c.loop-t-test.true) in
+    let from-few : (layer_at c.args.layout.fan (suc c.loop-t.t) ≤ 65536) × (layer_at c.args.layout.fan (suc c.loop-t.t) * c.args.layout.fan + 1 ≤ 131072) = from_to _ _ _ _ _ c.requires c.loop-t.t more in
+    let next_from : c.loop-t.from * c.args.layout.fan + 1 ≡ layer_at c.args.layout.fan (suc c.loop-t.t) * c.args.layout.fan + 1 = ap (λ (f : ℕ). f * c.args.layout.fan + 1) c.loop-t.invariant.1 in
+    omega (arith, from-few.1, next_from)
+
+pub overflow_add-from : goal.overflow_add-from
+overflow_add-from c =
+    let more : suc c.loop-t.t < c.args.layout.frames = omega (arith, c.loop-t-test.true) in
+    let from-few : (layer_at c.args.layout.fan (suc c.loop-t.t) ≤ 65536) × (layer_at c.args.layout.fan (suc c.loop-t.t) * c.args.layout.fan + 1 ≤ 131072) = from_to _ _ _ _ _ c.requires c.loop-t.t more in
+    let next_from : c.loop-t.from * c.args.layout.fan + 1 ≡ layer_at c.args.layout.fan (suc c.loop-t.t) * c.args.layout.fan + 1 = ap (λ (f : ℕ). f * c.args.layout.fan + 1) c.loop-t.invariant.1 in
+    omega (arith, from-few.1, next_from)
+
+pub overflow_add-end : goal.overflow_add-end
+overflow_add-end c =
+    let inside : c.loop-t.t < c.args.layout.frames = omega (arith, c.loop-t.invariant.0, c.requires.laid.frames_from) in
+    let fits : c.args.at + 2 * length (nexts_in c.args.layout c.args.scratch.now c.args.counts.now c.loop-t.t) + 2 * (get_or c.args.counts.now c.loop-t.t 0 * c.args.layout.fan) ≤ length c.args.res.now = next_room _ _ _ _ _ c.requires c.loop-t.t inside in
+    omega (arith, fits, c.loop-t.invariant.2, c.well_formed)
 
 pub slice_bounds-store_all-start : goal.slice_bounds-store_all-start
 slice_bounds-store_all-start c =

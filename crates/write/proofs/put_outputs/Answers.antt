@@ -31,12 +31,6 @@ next_row-next-requires c =
     let room = row_room _ _ _ _ _ _ _ c.requires _ _ _ (c.loop-writing.invariant c.requires) c.loop-writing-test.true in
     (at_row _ _ _ _ _ _ _ c.requires _ _ _ (c.loop-writing.invariant c.requires) c.loop-writing-test.true, c.requires.counted.places, omega (arith, room, c.well_formed))
 
-pub loop-writing-smaller : goal.loop-writing-smaller
-loop-writing-smaller c =
-    let room = row_room _ _ _ _ _ _ _ c.requires _ _ _ (c.loop-writing.invariant c.requires) c.loop-writing-test.true in
-    let step = ap (λ (w : Writing). w.to) c.next_row-next.ensures ∙ row-to c.args.layout c.args.counts.now c.loop-writing.writing in
-    omega (arith, room, step, two_words c.args.layout c.requires.laid, c.put_row.auto.res, c.loop-writing.auto.res)
-
 pub loop-writing-preserved : goal.loop-writing-preserved
 loop-writing-preserved c =
     λ W.
@@ -48,3 +42,9 @@ returns c =
     λ W.
     let doing = c.loop-writing.invariant W in
     (doing_ends _ _ _ _ _ _ _ W _ _ _ doing c.loop-writing-test.false, doing.kept)
+
+pub loop-writing-smaller : goal.loop-writing-smaller
+loop-writing-smaller c =
+    let room = row_room _ _ _ _ _ _ _ c.requires _ _ _ (c.loop-writing.invariant c.requires) c.loop-writing-test.true in
+    let step = ap (λ (w : Writing). w.to) c.next_row-next.ensures ∙ row-to c.args.layout c.args.counts.now c.loop-writing.writing in
+    omega (arith, room, step, two_words c.args.layout c.requires.laid, c.put_row.auto.res, c.loop-writing.auto.res)

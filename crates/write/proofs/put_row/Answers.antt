@@ -27,28 +27,6 @@ unfolding join tabulate
 loop-w-init c =
     (omega arith, sym (stored-none 2 _ _))
 
-pub overflow_mul-from : goal.overflow_mul-from
-overflow_mul-from c =
-    let columns : c.loop-w.w * c.args.layout.outputs + c.args.layout.outputs ≤ c.args.layout.fan * c.args.layout.outputs =
-    columns_in c.loop-w.w c.args.layout.fan c.args.layout.outputs c.loop-w-test.true
-    in
-    omega (arith, columns, c.requires.1, c.well_formed)
-
-pub overflow_add-from : goal.overflow_add-from
-overflow_add-from c =
-    let columns : c.loop-w.w * c.args.layout.outputs + c.args.layout.outputs ≤ c.args.layout.fan * c.args.layout.outputs =
-    columns_in c.loop-w.w c.args.layout.fan c.args.layout.outputs c.loop-w-test.true
-    in
-    omega (arith, columns, c.requires.1, c.well_formed)
-
-pub overflow_mul-w : goal.overflow_mul-w
-overflow_mul-w c =
-    omega (arith, c.requires.2, c.well_formed)
-
-pub overflow_add-to : goal.overflow_add-to
-overflow_add-to c =
-    omega (arith, c.requires.2, c.well_formed)
-
 pub word_of-requires : goal.word_of-requires
 word_of-requires c =
     let columns : c.loop-w.w * c.args.layout.outputs + c.args.layout.outputs ≤ c.args.layout.fan * c.args.layout.outputs =

@@ -14,14 +14,6 @@ pub loop-i-init : goal.loop-i-init
 loop-i-init c =
     (omega arith, sym (stored-none 2 _ _))
 
-pub overflow_mul-i : goal.overflow_mul-i
-overflow_mul-i c =
-    omega (arith, c.requires, c.well_formed)
-
-pub overflow_add-at : goal.overflow_add-at
-overflow_add-at c =
-    omega (arith, c.requires, c.well_formed)
-
 pub store-requires : goal.store-requires
 store-requires c =
     let room : c.args.at + 2 * length {A = ℕ} (replicate c.loop-i.i 0) ≤ length c.args.res.now =
@@ -31,10 +23,6 @@ store-requires c =
     ap length c.loop-i.invariant.1 ∙ stored-length 2 _ _ _ (room)
     in
     omega (arith, c.requires, len)
-
-pub overflow_step-i : goal.overflow_step-i
-overflow_step-i c =
-    omega (arith, c.requires, c.well_formed)
 
 pub loop-i-preserved : goal.loop-i-preserved
 loop-i-preserved c =

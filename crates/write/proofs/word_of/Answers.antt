@@ -34,22 +34,6 @@ loop-k-init c =
     let z : c.args.outputs - c.args.outputs ≡ 0 = omega arith in
     (omega arith, rw z)
 
-pub overflow_mul-word : goal.overflow_mul-word
-overflow_mul-word c =
-    let small : c.loop-k.word < 32768 =
-    let p = packed_below (take (c.args.outputs - c.loop-k.k) (drop c.loop-k.k (bitsIn c.args.work.now c.args.from c.args.outputs))) 15 (simp length-take (omega arith)) in
-    omega (arith, p)
-    in
-    omega (arith, small)
-
-pub overflow_add-word-in-loop-k : goal.overflow_add-word-in-loop-k
-overflow_add-word-in-loop-k c =
-    let small : c.loop-k.word < 32768 =
-    let p = packed_below (take (c.args.outputs - c.loop-k.k) (drop c.loop-k.k (bitsIn c.args.work.now c.args.from c.args.outputs))) 15 (simp length-take (omega arith)) in
-    omega (arith, p)
-    in
-    omega (arith, small, byte-most (eqb (get_or c.args.work.now (c.args.from + (c.loop-k.k - 1)) 0) 1))
-
 pub loop-k-preserved : goal.loop-k-preserved
 loop-k-preserved c =
     let v = bitsIn c.args.work.now c.args.from c.args.outputs in
@@ -69,3 +53,19 @@ returns c =
     let z : c.loop-k.k ≡ 0 = omega arith in
     c.loop-k.invariant.1 ∙ ap₂ (λ (x y : ℕ). packed (take x (drop y (bitsIn c.args.work.now c.args.from c.args.outputs)))) x z
     ∙ ap packed (take_all c.args.outputs (listed [] f c.args.outputs) (omega (arith, listed-length f c.args.outputs)))
+
+pub overflow_mul-word : goal.overflow_mul-word
+overflow_mul-word c =
+    let small : c.loop-k.word < 32768 =
+    let p = packed_below (take (c.args.outputs - c.loop-k.k) (drop c.loop-k.k (bitsIn c.args.work.now c.args.from c.args.outputs))) 15 (simp length-take (omega arith)) in
+    omega (arith, p)
+    in
+    omega (arith, small)
+
+pub overflow_add-word-in-loop-k : goal.overflow_add-word-in-loop-k
+overflow_add-word-in-loop-k c =
+    let small : c.loop-k.word < 32768 =
+    let p = packed_below (take (c.args.outputs - c.loop-k.k) (drop c.loop-k.k (bitsIn c.args.work.now c.args.from c.args.outputs))) 15 (simp length-take (omega arith)) in
+    omega (arith, p)
+    in
+    omega (arith, small, byte-most (eqb (get_or c.args.work.now (c.args.from + (c.loop-k.k - 1)) 0) 1))

@@ -19,9 +19,6 @@ states_of-requires c =
 
 pub overflow_mul-edges : goal.overflow_mul-edges
 overflow_mul-edges c =
-    let b₀ : List ℕ =
-    c.args.table.now
-    in
     let layout_of : Laid ((c.args.table.now)) c.args.layout =
     laid ((c.args.table.now)) c.args.layout c.requires.table_headed c.requires.layout_value.0
     in
@@ -29,9 +26,6 @@ overflow_mul-edges c =
 
 pub entries_below-below-requires : goal.entries_below-below-requires
 entries_below-below-requires c =
-    let b₀ : List ℕ =
-    c.args.table.now
-    in
     let layout_of : Laid ((c.args.table.now)) c.args.layout =
     laid ((c.args.table.now)) c.args.layout c.requires.table_headed c.requires.layout_value.0
     in
@@ -42,9 +36,6 @@ entries_below-below-requires c =
 
 pub overflow_add-result : goal.overflow_add-result
 overflow_add-result c =
-    let b₀ : List ℕ =
-    c.args.table.now
-    in
     let layout_of : Laid ((c.args.table.now)) c.args.layout =
     laid ((c.args.table.now)) c.args.layout c.requires.table_headed c.requires.layout_value.0
     in
@@ -52,9 +43,6 @@ overflow_add-result c =
 
 pub overflow_add-result-2 : goal.overflow_add-result-2
 overflow_add-result-2 c =
-    let b₀ : List ℕ =
-    c.args.table.now
-    in
     let layout_of : Laid ((c.args.table.now)) c.args.layout =
     laid ((c.args.table.now)) c.args.layout c.requires.table_headed c.requires.layout_value.0
     in
@@ -62,9 +50,6 @@ overflow_add-result-2 c =
 
 pub returns : goal.returns
 returns c =
-    let b₀ : List ℕ =
-    c.args.table.now
-    in
     let layout_of : Laid ((c.args.table.now)) c.args.layout =
     laid ((c.args.table.now)) c.args.layout c.requires.table_headed c.requires.layout_value.0
     in

@@ -1,9 +1,8 @@
 -- `paths::Layer::read` meets its contract.
 -- Assumes nothing.
 use mathlib.Core.List.{List}
-use Prim.Native.Nat.{ℕ, ◌+◌, ◌*◌, ◌≤◌}
+use Prim.Native.Nat.{ℕ, ◌+◌, ◌*◌}
 use native.Mathlib.Omega.{arith}
-use borrow.Author.Rules.{rules}
 use Rattle.table.proofs.Offsets.{Laid, laid}
 use Rattle.table.proofs.Parts.{count_in}
 use Rattle.paths.proofs.Places.{from_is, to_is, gap_is}
@@ -27,13 +26,6 @@ pub states_of-states-requires : goal.states_of-states-requires
 states_of-states-requires c =
     count_in c.args.table.now c.requires.table_headed c.args.t (omega (arith, c.requires.layout_value.1))
 
-pub overflow_add-layout : goal.overflow_add-layout
-overflow_add-layout c =
-    let layout_of : Laid c.args.table.now c.args.layout =
-    laid c.args.table.now c.args.layout c.requires.table_headed c.requires.layout_value.0
-    in
-    omega (arith, layout_of.frames-to)
-
 pub states_below-all-requires : goal.states_below-all-requires
 states_below-all-requires c =
     let layout_of : Laid c.args.table.now c.args.layout =
@@ -49,39 +41,12 @@ head_bytes-requires c =
     in
     layout_of.frames-to
 
-pub overflow_add-from : goal.overflow_add-from
-overflow_add-from c =
-    let layout_of : Laid c.args.table.now c.args.layout =
-    laid c.args.table.now c.args.layout c.requires.table_headed c.requires.layout_value.0
-    in
-    let small : c.head_bytes.result + 4 * c.states_below-below.result ≤ 36 + 262144 * 17 =
-    omega (arith, c.head_bytes.ensures, layout_of.frames-to, c.states_below-below.ensures.1, c.requires.layout_value.1, c.requires.table_headed.sized)
-    in
-    omega (arith, small)
-
 pub overflow_add-result : goal.overflow_add-result
 overflow_add-result c =
     let layout_of : Laid c.args.table.now c.args.layout =
     laid c.args.table.now c.args.layout c.requires.table_headed c.requires.layout_value.0
     in
     omega (arith, layout_of.end_at, c.well_formed, c.entries_below-entries.ensures.1)
-
-pub overflow_add-result-2 : goal.overflow_add-result-2
-overflow_add-result-2 c =
-    let layout_of : Laid c.args.table.now c.args.layout =
-    laid c.args.table.now c.args.layout c.requires.table_headed c.requires.layout_value.0
-    in
-    let small : c.head_bytes.result + 4 * c.states_below-below.result ≤ 36 + 262144 * 17 =
-    omega (arith, c.head_bytes.ensures, layout_of.frames-to, c.states_below-below.ensures.1, c.requires.layout_value.1, c.requires.table_headed.sized)
-    in
-    omega (arith, small, c.states_of-states.ensures.1)
-
-pub overflow_mul-result-3 : goal.overflow_mul-result-3
-overflow_mul-result-3 c =
-    let layout_of : Laid c.args.table.now c.args.layout =
-    laid c.args.table.now c.args.layout c.requires.table_headed c.requires.layout_value.0
-    in
-    omega (arith, c.states_below-all.ensures.1, layout_of.frames-to)
 
 pub returns : goal.returns
 returns c =

@@ -2,7 +2,6 @@
 -- Assumes nothing.
 use mathlib.Core.Path.{sym, ap, ◌∙◌}
 use Rattle.price.specs.Price.{price_figures}
-use borrow.Author.Rules.{rules}
 use Rattle.price.proofs.Priced.figures.Goals as goal
 
 pub returns-in-Cents : goal.returns-in-Cents

@@ -7,7 +7,6 @@ use lib.Dec.{lit<}
 use borrow.Author.Tests.{lt-ltb, le-ltb}
 use Rattle.sizes.specs.Sizes.{outside, sizes_checked}
 use Rattle.sizes.proofs.Laws.{inside}
-use borrow.Author.Rules.{rules}
 use Rattle.sizes.proofs.Sizes.check.Goals as goal
 
 pub returns-then-is_outside : goal.returns-then-is_outside

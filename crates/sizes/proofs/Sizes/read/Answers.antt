@@ -1,7 +1,6 @@
 -- `sizes::Sizes::read` meets its contract.
 -- Assumes nothing.
 use Rattle.sizes.specs.Sizes.{inputs, outputs, frames}
-use borrow.Author.Rules.{rules}
 use Rattle.sizes.proofs.Sizes.read.Goals as goal
 
 pub returns : goal.returns

@@ -1,6 +1,5 @@
 use mathlib.Core.Path.{sym, ap}
 use Rattle.verdict.specs.Judgements.{refusal_figures}
-use borrow.Author.Rules.{rules}
 use Rattle.verdict.proofs.Refusal.figures.Goals as goal
 
 pub returns-in-Length : goal.returns-in-Length

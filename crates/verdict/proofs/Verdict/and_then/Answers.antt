@@ -1,7 +1,6 @@
 -- `verdict::Verdict::and_then` meets its contract.
 -- Assumes nothing.
 use mathlib.Core.Path.{refl}
-use borrow.Author.Rules.{rules}
 use Rattle.verdict.proofs.Laws.{stop, go_on}
 use Rattle.verdict.proofs.Verdict.and_then.Goals as goal
 

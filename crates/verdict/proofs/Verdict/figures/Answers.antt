@@ -1,7 +1,6 @@
 -- `verdict::Verdict::figures` meets its contract.
 -- Assumes nothing.
 use mathlib.Core.Path.{sym, ap}
-use borrow.Author.Rules.{rules}
 use Rattle.verdict.specs.Judgements.{figures}
 use Rattle.verdict.proofs.Verdict.figures.Goals as goal
 

@@ -2,7 +2,6 @@
 -- Assumes nothing.
 use mathlib.Core.Path.{sym, ap}
 use mathlib.Core.Bool.{Bool, cond}
-use borrow.Author.Rules.{rules}
 use Rattle.verdict.specs.Judgements.{answer, refusal_figures}
 use Rattle.verdict.proofs.Verdict.refuse_if.Goals as goal
 
