@@ -1,1 +1,1 @@
--- The proofs of `tff`: a module for each callee of a walk.
+-- The proofs of `tff`: of each function, by the laws of `answers`.

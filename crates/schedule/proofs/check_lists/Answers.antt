@@ -1,20 +1,41 @@
 -- `schedule::check_lists` meets its contract: each return is an outcome of the definition.
 -- Assumes nothing.
 use mathlib.Core.Path.{◌≡◌, ap, ap₂, ◌∙◌}
-use mathlib.Core.Bool.{cond}
-use Prim.Native.Nat.{ℕ, ◌+◌, ◌≤◌}
+use mathlib.Core.Bool.{Bool, cond}
+use mathlib.Core.List.{List}
+use Prim.Native.Nat.{ℕ, ◌+◌, ◌-◌, ◌≤◌}
 use native.Mathlib.Nat.{mul-le-mul}
 use native.Mathlib.Omega.{arith}
 use lib.Dec.{ltb}
 use lib.ListN.{length}
 use Rattle.verdict.specs.Judgements.{answer}
+use Rattle.layered.specs.Search.{least}
 use Rattle.circuit.specs.Circuit.{all_inputs, all_outputs}
-use Rattle.schedule.proofs.Lists.{found-to, outside_at, inputs_wrong, outputs_wrong, outside-found, taken_found}
+use Rattle.circuit.specs.WellFormed.{CircuitHeaded, HeadOf}
+use Rattle.circuit.specs.declared.Head.{Head}
+use Rattle.schedule.proofs.Lists.{found-to, joined_at, inputs_wrong, outputs_wrong, outside-found, taken_found}
 use Rattle.schedule.proofs.check_lists.Goals as goal
 
+-- as many places as the network has inputs and outputs: few enough for `joined`
+module _ (c : List ℕ) (h : CircuitHeaded c) (own : Head) (O : HeadOf c own) (ins outs : List ℕ) where
+  inputs-many : length ins ≡ own.base - 1 → length ins ≡ all_inputs c
+  inputs-many e = omega (arith, O.base_is)
+
+  outputs-many : length outs ≡ own.total → length outs ≡ all_outputs c
+  outputs-many e = omega (arith, O.total_is)
+
+  few : length ins ≡ own.base - 1 → length outs ≡ own.total → (length ins ≤ 16) × (length outs ≤ 4352)
+  few e o = (omega (arith, inputs-many e, h.inputs-to), omega (arith, outputs-many o, h.outputs-to, h.gates-to))
+
+  joinable : length ins ≡ own.base - 1 → length outs ≡ own.total → (r : ℕ) (p : ℕ → Bool) → r ≡ least (length outs) p → (length ins ≤ 16) × (r ≤ 4352)
+  joinable e o r p q = let f = few e o in (f.0, omega (arith, found-to _ r p q, f.1))
+
+-- what is found in either list
+found : (a : ℕ) (p : ℕ → Bool) (d : ℕ) (q : ℕ → Bool) (x y r : ℕ) → x ≡ least a p → y ≡ least d q → r ≡ cond (ltb x a) x (a + y) → r ≡ joined_at a p d q
+found a p d q x y r i o e = e ∙ ap₂ (λ x y. cond (ltb x a) x (a + y)) i o
+
 pub read-own-requires : goal.read-own-requires
-read-own-requires c =
-    c.requires.circuit_headed
+read-own-requires c = c.requires.circuit_headed
 
 pub returns-then-count-own : goal.returns-then-count-own
 returns-then-count-own c =
@@ -22,10 +43,8 @@ returns-then-count-own c =
 
 pub returns-then-shown-own : goal.returns-then-shown-own
 returns-then-shown-own c =
-    let inputs-many : length c.args.inputs.now ≡ all_inputs c.args.network.now =
-    omega (arith, c.if-count-own.false, c.read-own.ensures.base_is)
-    in
-    outputs_wrong _ _ _ _ _ _ (inputs-many) (λ o. c.if-shown-own.true (omega (arith, c.read-own.ensures.total_is, o)))
+    outputs_wrong _ _ _ _ _ _ (inputs-many _ c.requires.circuit_headed _ c.read-own.ensures _ c.args.outputs.now c.if-count-own.false)
+    (λ o. c.if-shown-own.true (omega (arith, c.read-own.ensures.total_is, o)))
 
 pub overflow_mul-sizes-2 : goal.overflow_mul-sizes-2
 overflow_mul-sizes-2 c =
@@ -33,96 +52,33 @@ overflow_mul-sizes-2 c =
 
 pub joined-outside-requires : goal.joined-outside-requires
 joined-outside-requires c =
-    let inputs-many : length c.args.inputs.now ≡ all_inputs c.args.network.now =
-    omega (arith, c.if-count-own.false, c.read-own.ensures.base_is)
-    in
-    let outputs-many : length c.args.outputs.now ≡ all_outputs c.args.network.now =
-    omega (arith, c.if-shown-own.false, c.read-own.ensures.total_is)
-    in
-    let few_inputs : length c.args.inputs.now ≤ 16 =
-    omega (arith, inputs-many, c.requires.circuit_headed.inputs-to)
-    in
-    let few_outputs : length c.args.outputs.now ≤ 4352 =
-    omega (arith, outputs-many, c.requires.circuit_headed.outputs-to, c.requires.circuit_headed.gates-to)
-    in
-    (few_inputs, omega (arith, found-to _ _ _ c.first_outside-2.ensures, few_outputs))
+    joinable _ c.requires.circuit_headed _ c.read-own.ensures _ c.args.outputs.now c.if-count-own.false c.if-shown-own.false _ _ c.first_outside-2.ensures
 
 pub overflow_add-count : goal.overflow_add-count
 overflow_add-count c =
-    let inputs-many : length c.args.inputs.now ≡ all_inputs c.args.network.now =
-    omega (arith, c.if-count-own.false, c.read-own.ensures.base_is)
-    in
-    let outputs-many : length c.args.outputs.now ≡ all_outputs c.args.network.now =
-    omega (arith, c.if-shown-own.false, c.read-own.ensures.total_is)
-    in
-    let few_inputs : length c.args.inputs.now ≤ 16 =
-    omega (arith, inputs-many, c.requires.circuit_headed.inputs-to)
-    in
-    let few_outputs : length c.args.outputs.now ≤ 4352 =
-    omega (arith, outputs-many, c.requires.circuit_headed.outputs-to, c.requires.circuit_headed.gates-to)
-    in
-    omega (arith, few_inputs, few_outputs)
+    omega (arith, few _ c.requires.circuit_headed _ c.read-own.ensures _ c.args.outputs.now c.if-count-own.false c.if-shown-own.false)
 
 pub returns-then-outside-count : goal.returns-then-outside-count
 returns-then-outside-count c =
-    let inputs-many : length c.args.inputs.now ≡ all_inputs c.args.network.now =
-    omega (arith, c.if-count-own.false, c.read-own.ensures.base_is)
-    in
-    let outputs-many : length c.args.outputs.now ≡ all_outputs c.args.network.now =
-    omega (arith, c.if-shown-own.false, c.read-own.ensures.total_is)
-    in
-    let outside-is : c.joined-outside.result ≡ outside_at c.args.network.now c.args.sizes.inputs c.args.sizes.outputs c.args.sizes.frames c.args.inputs.now c.args.outputs.now =
-    let a : ℕ = length c.args.inputs.now in
-    c.joined-outside.ensures ∙ ap₂ (λ x y. cond (ltb x a) x (a + y)) c.first_outside.ensures c.first_outside-2.ensures
-    in
-    ap (answer 19) (outside-is) ∙ outside-found _ _ _ _ _ _ (inputs-many) (outputs-many) (omega (arith, outside-is, c.if-outside-count.true))
+    let i = inputs-many _ c.requires.circuit_headed _ c.read-own.ensures _ c.args.outputs.now c.if-count-own.false in
+    let o = outputs-many _ c.requires.circuit_headed _ c.read-own.ensures c.args.inputs.now _ c.if-shown-own.false in
+    let e = found _ _ _ _ _ _ c.joined-outside.result c.first_outside.ensures c.first_outside-2.ensures c.joined-outside.ensures in
+    ap (answer 19) e ∙ outside-found _ _ _ _ _ _ i o (omega (arith, e, c.if-outside-count.true))
 
 pub joined-taken-requires : goal.joined-taken-requires
 joined-taken-requires c =
-    let inputs-many : length c.args.inputs.now ≡ all_inputs c.args.network.now =
-    omega (arith, c.if-count-own.false, c.read-own.ensures.base_is)
-    in
-    let outputs-many : length c.args.outputs.now ≡ all_outputs c.args.network.now =
-    omega (arith, c.if-shown-own.false, c.read-own.ensures.total_is)
-    in
-    let few_inputs : length c.args.inputs.now ≤ 16 =
-    omega (arith, inputs-many, c.requires.circuit_headed.inputs-to)
-    in
-    let few_outputs : length c.args.outputs.now ≤ 4352 =
-    omega (arith, outputs-many, c.requires.circuit_headed.outputs-to, c.requires.circuit_headed.gates-to)
-    in
-    (few_inputs, omega (arith, found-to _ _ _ c.first_repeated-2.ensures, few_outputs))
+    joinable _ c.requires.circuit_headed _ c.read-own.ensures _ c.args.outputs.now c.if-count-own.false c.if-shown-own.false _ _ c.first_repeated-2.ensures
 
 pub overflow_add-count-2 : goal.overflow_add-count-2
 overflow_add-count-2 c =
-    let inputs-many : length c.args.inputs.now ≡ all_inputs c.args.network.now =
-    omega (arith, c.if-count-own.false, c.read-own.ensures.base_is)
-    in
-    let outputs-many : length c.args.outputs.now ≡ all_outputs c.args.network.now =
-    omega (arith, c.if-shown-own.false, c.read-own.ensures.total_is)
-    in
-    let few_inputs : length c.args.inputs.now ≤ 16 =
-    omega (arith, inputs-many, c.requires.circuit_headed.inputs-to)
-    in
-    let few_outputs : length c.args.outputs.now ≤ 4352 =
-    omega (arith, outputs-many, c.requires.circuit_headed.outputs-to, c.requires.circuit_headed.gates-to)
-    in
-    omega (arith, few_inputs, few_outputs)
+    omega (arith, few _ c.requires.circuit_headed _ c.read-own.ensures _ c.args.outputs.now c.if-count-own.false c.if-shown-own.false)
 
 pub returns : goal.returns
 returns c =
-    let inputs-many : length c.args.inputs.now ≡ all_inputs c.args.network.now =
-    omega (arith, c.if-count-own.false, c.read-own.ensures.base_is)
-    in
-    let outputs-many : length c.args.outputs.now ≡ all_outputs c.args.network.now =
-    omega (arith, c.if-shown-own.false, c.read-own.ensures.total_is)
-    in
-    let outside-is : c.joined-outside.result ≡ outside_at c.args.network.now c.args.sizes.inputs c.args.sizes.outputs c.args.sizes.frames c.args.inputs.now c.args.outputs.now =
-    let a : ℕ = length c.args.inputs.now in
-    c.joined-outside.ensures ∙ ap₂ (λ x y. cond (ltb x a) x (a + y)) c.first_outside.ensures c.first_outside-2.ensures
-    in
-    let a : ℕ = length c.args.inputs.now in
-    let d : ℕ = length c.args.outputs.now in
+    let i = inputs-many _ c.requires.circuit_headed _ c.read-own.ensures _ c.args.outputs.now c.if-count-own.false in
+    let o = outputs-many _ c.requires.circuit_headed _ c.read-own.ensures c.args.inputs.now _ c.if-shown-own.false in
+    let e = found _ _ _ _ _ _ c.joined-outside.result c.first_outside.ensures c.first_outside-2.ensures c.joined-outside.ensures in
     c.refuse_if.ensures
-    ∙ ap (λ k. cond (ltb k (a + d)) (answer 20 k) (answer 0 0)) (c.joined-taken.ensures ∙ ap₂ (λ x y. cond (ltb x a) x (a + y)) c.first_repeated.ensures c.first_repeated-2.ensures)
-    ∙ taken_found _ _ _ _ _ _ (inputs-many) (outputs-many) (omega (arith, outside-is, c.if-outside-count.false))
+    ∙ ap (λ k. cond (ltb k (length c.args.inputs.now + length c.args.outputs.now)) (answer 20 k) (answer 0 0))
+    (found _ _ _ _ _ _ _ c.first_repeated.ensures c.first_repeated-2.ensures c.joined-taken.ensures)
+    ∙ taken_found _ _ _ _ _ _ i o (omega (arith, e, c.if-outside-count.false))
