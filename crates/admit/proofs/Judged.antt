@@ -13,7 +13,7 @@ use Rattle.verdict.specs.declared.Figures.{Figures}
 use Rattle.verdict.specs.declared.Refusal.TheVariants.{Nodes}
 use Rattle.verdict.specs.declared.Verdict.{Verdict}
 use Rattle.verdict.specs.declared.Verdict.TheVariants.{Refused}
-use Rattle.verdict.proofs.Laws.{refuse-then}
+use Rattle.verdict.proofs.Laws.{refuse_then}
 use Rattle.sizes.specs.Sizes.{frames}
 use Rattle.table.specs.Table.{states}
 use Rattle.layered.specs.Search.{equal}
@@ -91,5 +91,5 @@ module _ (b : List ℕ) (h : Head) (W : WellFormed b h) (survey : Survey) (w : W
   unfolding Judges room_checked
   judges_counted x agreed f g v l ex ea ef eg ev records at =
       rw (counted_passed b h W survey records at (place_is b h W survey records at l))
-      (ev ∙ ap₂ and_then ef (eg ∙ ap (λ (x : ℕ). cond (ltb room x) (answer 7 x) (answer 0 x)) ex) ∙ refuse-then (not agreed) 14 0 _ refl
+      (ev ∙ ap₂ and_then ef (eg ∙ ap (λ (x : ℕ). cond (ltb room x) (answer 7 x) (answer 0 x)) ex) ∙ refuse_then (not agreed) 14 0 _ refl
       ∙ ap (λ (t : Bool). refuse (not t) 14 0 (room_checked b room)) ea)

@@ -22,10 +22,10 @@ unfoldable pub WantedOf : (numbers : List ℕ) → Wanted → Type 0
 WantedOf numbers w = (plan : List ℕ) → length plan ≡ 21 → agreed_on w plan ≡ equal numbers plan
 
 -- what is judged once the nodes are counted: 14, then 7
-abbrev pub table_checked : (b : List ℕ) → Wanted → (resultRoom : ℕ) → Figures
-table_checked b w resultRoom = refuse (not (agreed_on w (folded_plan b))) 14 0 (room_checked b resultRoom)
+abbrev pub table_checked : (b : List ℕ) → Wanted → (result_room : ℕ) → Figures
+table_checked b w result_room = refuse (not (agreed_on w (folded_plan b))) 14 0 (room_checked b result_room)
 
 -- what is judged of a circuit that was surveyed, however many records there were, where its place is the first for which they are too few
-unfoldable pub Judges : (b : List ℕ) → Survey → Wanted → (resultRoom : ℕ) → Verdict → Type 0
-Judges b survey w resultRoom r = (records : ℕ) → survey.place ≡ first_over (all_inputs b) (min records most_records) (gates b) (signal_on b)
-    → figures r ≡ and_then (nodes_checked b records) (table_checked b w resultRoom)
+unfoldable pub Judges : (b : List ℕ) → Survey → Wanted → (result_room : ℕ) → Verdict → Type 0
+Judges b survey w result_room r = (records : ℕ) → survey.place ≡ first_over (all_inputs b) (min records most_records) (gates b) (signal_on b)
+    → figures r ≡ and_then (nodes_checked b records) (table_checked b w result_room)

@@ -38,6 +38,6 @@ module _ {A : Type 0} (count : ℕ) (answer : List ℕ) where
   unfolding lent_after
   lent_kept after before h = rw (lt-ltb _ _ h)
 
-  pub lent-left : (now after before : A) → count ≤ length answer → now ≡ after → now ≡ lent_after count answer after before
+  pub lent_left : (now after before : A) → count ≤ length answer → now ≡ after → now ≡ lent_after count answer after before
   unfolding lent_after
-  lent-left now after before h e = rw (le-ltb _ _ h) e
+  lent_left now after before h e = rw (le-ltb _ _ h) e

@@ -20,7 +20,7 @@ use Rattle.sizes.specs.Sizes.{inputs, frames}
 use Rattle.circuit.specs.Circuit.{gates, all_inputs}
 use Rattle.circuit.specs.WellFormed.{CircuitHeaded, WellFormed, Formed}
 use Rattle.circuit.specs.declared.Head.{Head}
-use Rattle.circuit.proofs.Accepted.{accepted as circuitAccepted}
+use Rattle.circuit.proofs.Accepted.{accepted as accepted_circuit}
 use Rattle.source.specs.Source.{sourced, WholeOf, SourceOf}
 use Rattle.source.specs.declared.Source.{Source}
 use Rattle.source.proofs.Sources.{sourced_whole, whole_source}
@@ -70,13 +70,13 @@ plan_length_lem (Refused r) = refl
 abbrev pub zeros : ℕ → List ℕ
 zeros n = replicate n 0
 
-pub zeros-length : (n : ℕ) → length (zeros n) ≡ n
-zeros-length n = length-replicate {A = ℕ} n 0
+pub zeros_length : (n : ℕ) → length (zeros n) ≡ n
+zeros_length n = length-replicate {A = ℕ} n 0
 
-pub zeros-at : (n i : ℕ) → get_or (zeros n) i 0 ≡ 0
-zeros-at zero i = refl
-zeros-at (suc n) zero = refl
-zeros-at (suc n) (suc i) = zeros-at n i
+pub zeros_at : (n i : ℕ) → get_or (zeros n) i 0 ≡ 0
+zeros_at zero i = refl
+zeros_at (suc n) zero = refl
+zeros_at (suc n) (suc i) = zeros_at n i
 
 -- how the numbers needed are counted when a circuit is surveyed
 pub needed_as : (b : List ℕ) → 2 * (2 ^ inputs b) ^ frames b ≡ scratch_needed b
@@ -85,21 +85,21 @@ needed_as b = ap (λ n. 2 * n) (sym (pow-mul 2 (inputs b) (frames b)))
 
 -- within what is needed a cleared scratch is zero, and beyond it is as before
 module _ (b s : List ℕ) where
-  pub cleared-zero : (j : ℕ) → j < scratch_needed b → get_or (cleared b s) j 0 ≡ 0
+  pub cleared_zero : (j : ℕ) → j < scratch_needed b → get_or (cleared b s) j 0 ≡ 0
   unfolding cleared
-  cleared-zero j l = get_or-append (zeros (scratch_needed b)) (drop (scratch_needed b) s) 0 j (omega (arith, zeros-length (scratch_needed b))) ∙ zeros-at (scratch_needed b) j
+  cleared_zero j l = get_or-append (zeros (scratch_needed b)) (drop (scratch_needed b) s) 0 j (omega (arith, zeros_length (scratch_needed b))) ∙ zeros_at (scratch_needed b) j
 
-  pub cleared-beyond : (i : ℕ) → get_or (cleared b s) (scratch_needed b + i) 0 ≡ get_or s (scratch_needed b + i) 0
+  pub cleared_beyond : (i : ℕ) → get_or (cleared b s) (scratch_needed b + i) 0 ≡ get_or s (scratch_needed b + i) 0
   unfolding cleared
-  cleared-beyond i =
-      ap (λ n. get_or (cleared b s) (n + i) 0) (sym (zeros-length (scratch_needed b)))
+  cleared_beyond i =
+      ap (λ n. get_or (cleared b s) (n + i) 0) (sym (zeros_length (scratch_needed b)))
       ∙ get_or-append-add (zeros (scratch_needed b)) (drop (scratch_needed b) s) i 0
       ∙ get_or-drop (scratch_needed b) s i 0
 
   -- two scratches that agree beyond what is needed are the same when they are cleared
-  pub cleared-same : (r : List ℕ) → length r ≡ length s → ((i : ℕ) → get_or r (scratch_needed b + i) 0 ≡ get_or s (scratch_needed b + i) 0) → cleared b r ≡ cleared b s
+  pub cleared_same : (r : List ℕ) → length r ≡ length s → ((i : ℕ) → get_or r (scratch_needed b + i) 0 ≡ get_or s (scratch_needed b + i) 0) → cleared b r ≡ cleared b s
   unfolding cleared
-  cleared-same r l e = ap (λ (t : List ℕ). zeros (scratch_needed b) ++ t) (ext_get_or 0 (drop (scratch_needed b) r) (drop (scratch_needed b) s)
+  cleared_same r l e = ap (λ (t : List ℕ). zeros (scratch_needed b) ++ t) (ext_get_or 0 (drop (scratch_needed b) r) (drop (scratch_needed b) s)
       (length-drop (scratch_needed b) r ∙ ap (λ n. n - scratch_needed b) l ∙ sym (length-drop (scratch_needed b) s))
       (λ i _. get_or-drop (scratch_needed b) r i 0 ∙ e i ∙ sym (get_or-drop (scratch_needed b) s i 0)))
 
@@ -141,7 +141,7 @@ module _ (b s : List ℕ) (ys : List Node) (v : Verdict) (judged : figures v ≡
     judged_passed = scratch_passed b (length s) (ap (λ (f : Figures). eqb f.number 0) (sym judged) ∙ yes)
 
     pub headed_all : Formed b
-    headed_all = (circuitAccepted b _ (scratch_tells b (length s) judged_passed).0).form
+    headed_all = (accepted_circuit b _ (scratch_tells b (length s) judged_passed).0).form
 
     pub headed : CircuitHeaded b
     headed = headed_all.head
@@ -156,18 +156,18 @@ module _ (b s : List ℕ) (ys : List Node) (v : Verdict) (judged : figures v ≡
 
       pub surveyable : (ws : List ℕ) → ws ≡ replicate work_length 0 → Surveyable b s₁ ws
       surveyable ws e = let t = scratch_tells b (length s) judged_passed in record {
-        accepted = circuitAccepted b _ t.0;
+        accepted = accepted_circuit b _ t.0;
         room = omega (arith, needed_as b, t.1, l₁);
-        clean = λ j l. ap (λ (r : List ℕ). get_or r j 0) s₁_is ∙ cleared-zero b s j (omega (arith, needed_as b));
-        zeros = λ i. ap (λ (r : List ℕ). get_or r i 0) e ∙ zeros-at work_length i;
-        space = omega (arith, ap length e ∙ zeros-length work_length);
+        clean = λ j l. ap (λ (r : List ℕ). get_or r j 0) s₁_is ∙ cleared_zero b s j (omega (arith, needed_as b));
+        zeros = λ i. ap (λ (r : List ℕ). get_or r i 0) e ∙ zeros_at work_length i;
+        space = omega (arith, ap length e ∙ zeros_length work_length);
       }
 
       -- after the survey
       module _ (ns : List Node) (s₂ ws : List ℕ) (found : Survey) (l₂ : length s₂ ≡ length s) (S : Surveyed b (length ys) ns s₁ s₂ ws found) where
         pub found_is : Found b found
         found_is = record {
-          accepted = circuitAccepted b _ (scratch_tells b (length s) judged_passed).0;
+          accepted = accepted_circuit b _ (scratch_tells b (length s) judged_passed).0;
           most = omega (arith, S.place_is, first_most b (min (length ys) most_records));
           counted = λ e. (S.known e).counted;
         }
@@ -175,11 +175,11 @@ module _ (b s : List ℕ) (ys : List Node) (v : Verdict) (judged : figures v ≡
         pub still_passed : scratch_checked b (length s₂) ≡ answer 0 0
         still_passed = ap (scratch_checked b) l₂ ∙ judged_passed
 
-        pub left-cleared : (s₃ : List ℕ) → s₃ ≡ cleared b s₂ → s₃ ≡ scratch_after b s
-        left-cleared s₃ e = e ∙ cleared-same b s s₂ l₂ beyond ∙ sym (used b s judged_passed)
+        pub left_cleared : (s₃ : List ℕ) → s₃ ≡ cleared b s₂ → s₃ ≡ scratch_after b s
+        left_cleared s₃ e = e ∙ cleared_same b s s₂ l₂ beyond ∙ sym (used b s judged_passed)
           where
             beyond : (i : ℕ) → get_or s₂ (scratch_needed b + i) 0 ≡ get_or s (scratch_needed b + i) 0
-            beyond i = S.beyond (scratch_needed b + i) (omega (arith, needed_as b)) ∙ ap (λ (r : List ℕ). get_or r (scratch_needed b + i) 0) s₁_is ∙ cleared-beyond b s i
+            beyond i = S.beyond (scratch_needed b + i) (omega (arith, needed_as b)) ∙ ap (λ (r : List ℕ). get_or r (scratch_needed b + i) 0) s₁_is ∙ cleared_beyond b s i
 
         pub left_empty : (zs : List Node) → length ns ≡ length ys → zs ≡ replicate (length ns) none → zs ≡ nodes_after b (length s) ys
         left_empty zs l e = e ∙ ap (λ n. replicate n none) l ∙ sym (records_used b (length s) ys judged_passed)
@@ -194,8 +194,8 @@ module _ (b : List ℕ) (h : Source) where
   pub sourced_survey : (s ws : List ℕ) → Formed b → WholeOf b h → Surveyable b s ws → SourceOf b h × Surveyable (sourced h b) s ws
   sourced_survey s ws F O S = (whole_source b h F O, subst (λ b. Surveyable b s ws) (sym (sourced_whole b h O.whole_is)) S)
 
-  pub sourced-found : (survey : Survey) → Formed b → WholeOf b h → Found b survey → SourceOf b h × Found (sourced h b) survey
-  sourced-found survey F O S = (whole_source b h F O, subst (λ b. Found b survey) (sym (sourced_whole b h O.whole_is)) S)
+  pub sourced_found : (survey : Survey) → Formed b → WholeOf b h → Found b survey → SourceOf b h × Found (sourced h b) survey
+  sourced_found survey F O S = (whole_source b h F O, subst (λ b. Found b survey) (sym (sourced_whole b h O.whole_is)) S)
 
   pub sourced_answers : WholeOf b h → (survey : Survey) (a : Asked) → Answers (sourced h b) survey a → Answers b survey a
   sourced_answers O survey a = subst (λ b. Answers b survey a) (sourced_whole b h O.whole_is)

@@ -17,7 +17,7 @@ use Rattle.layered.proofs.Lists.{tabulated}
 use Rattle.circuit.specs.WellFormed.{CircuitHeaded, Accepted}
 use Rattle.circuit.specs.Theorems.{response}
 use Rattle.layered.specs.States.{count}
-use Rattle.layered.proofs.States.{count-last}
+use Rattle.layered.proofs.States.{count_last}
 use Rattle.folded.specs.Folded.{folded_bytes}
 use Rattle.folded.specs.Planned.{counts_to, folded_plan}
 use Rattle.folded.proofs.Plans.{folded_plan_lem}
@@ -37,7 +37,7 @@ counts_back l e = sym (tabulated 17 (λ i. get_or l i 0) l e (λ i h. refl))
 -- the counts of a circuit's layers: of the last too, and 0 beyond it
 pub counts_are : (b counts : List ℕ) → 1 ≤ frames b → Counted b counts → (t : ℕ) → t ≤ frames b → get_or counts t 0 ≡ state_count b t
 counts_are b counts h C t l = ⊎_elim
-    (λ e. ap (λ t. get_or counts t 0) e ∙ C.last ∙ sym (count-last (2 ^ inputs b) (frames b) (response b) (pow_pos (inputs b))) ∙ ap (state_count b) (sym e))
+    (λ e. ap (λ t. get_or counts t 0) e ∙ C.last ∙ sym (count_last (2 ^ inputs b) (frames b) (response b) (pow_pos (inputs b))) ∙ ap (state_count b) (sym e))
     (λ k. C.known t (omega arith))
     (eq-or-lt_of_le l)
 
@@ -69,4 +69,4 @@ two_words n h = pow_mono {i = 1} h
 
 -- the bits of t words
 pub bits_below : (b : List ℕ) → CircuitHeaded b → (t : ℕ) → t ≤ frames b → inputs b * t ≤ 16
-bits_below b H t h = omega (arith, mul-le-mul_left (inputs b) h, H.sizes.bits-to)
+bits_below b H t h = omega (arith, mul-le-mul_left (inputs b) h, H.sizes.bits_to)

@@ -9,7 +9,7 @@ use lib.Dec.{eqb}
 use lib.Pow.{pow_pos, pow_mono, pow-add, split, high, low, mod-mod-pow, ones_split}
 use lib.Bits.{bit_and, and_block, and_mask, and_le_r}
 use Rattle.circuit.specs.Lists.{bit, block_start}
-use Rattle.circuit.proofs.Bits.{bit-zero, bit-none, bit_not}
+use Rattle.circuit.proofs.Bits.{bit_zero, bit_none, bit_not}
 use Rattle.lanes.specs.Limits.{lane_bits, lane_count}
 use Rattle.lanes.proofs.Bits.{bit_low, bit_high}
 
@@ -21,14 +21,14 @@ starts b zero = 0
 starts b (suc k) = starts b k * 2 ^ b + 1
 
 -- one block more: p is 2 ^ b, and o a block of ones
-ones-more : (s p o q : ℕ) → s * o ≡ q → (s * p + 1) * o ≡ q * p + o
-ones-more s p o q e = omega (arith, ap (λ x. x * p) e)
+ones_more : (s p o q : ℕ) → s * o ≡ q → (s * p + 1) * o ≡ q * p + o
+ones_more s p o q e = omega (arith, ap (λ x. x * p) e)
 
 starts_ones : (b k : ℕ) → starts b k * (2 ^ b - 1) ≡ 2 ^ (b * k) - 1
 unfolding starts
 starts_ones b zero = rw (mul-zero b, zero-mul (2 ^ b - 1))
 starts_ones b (suc k) =
-    ones-more (starts b k) (2 ^ b) (2 ^ b - 1) (2 ^ (b * k) - 1) (starts_ones b k)
+    ones_more (starts b k) (2 ^ b) (2 ^ b - 1) (2 ^ (b * k) - 1) (starts_ones b k)
     ∙ sym (ap (λ x. 2 ^ x - 1) (mul-suc b k) ∙ ones_split (b * k) b)
 
 ones_pos : (b : ℕ) → 0 < b → 0 < 2 ^ b - 1
@@ -45,8 +45,8 @@ product_fits b k w x e =
 
 -- a digit times a block of ones is the digit at each place
 digit_ones : (d b j : ℕ) → d < 2 → j < b → bit (d * (2 ^ b - 1)) j ≡ eqb d 1
-digit_ones zero b j hd h = ap (λ x. bit x j) (zero-mul (2 ^ b - 1)) ∙ bit-none j
-digit_ones (suc zero) b j hd h = ap (λ x. bit x j) (omega arith) ∙ bit_not 0 j b h (pow_pos b) ∙ ap not (bit-none j)
+digit_ones zero b j hd h = ap (λ x. bit x j) (zero-mul (2 ^ b - 1)) ∙ bit_none j
+digit_ones (suc zero) b j hd h = ap (λ x. bit x j) (omega arith) ∙ bit_not 0 j b h (pow_pos b) ∙ ap not (bit_none j)
 digit_ones (suc (suc d)) b j hd h = absurd (omega arith)
 
 -- ---- the first block, and the blocks above it
@@ -85,7 +85,7 @@ module _ (b : ℕ) (some : 0 < b) where
       go : Dec (j < b) → ((i : ℕ) → i < b * k → bit rest i ≡ bit (x / 2 ^ b) (i / b * b)) → bit (bit_and x (starts b (suc k)) * (2 ^ b - 1)) j ≡ bit x (j / b * b)
       go (yes l) ih =
           let e : bit_and x (starts b (suc k)) * (2 ^ b - 1) % 2 ^ b ≡ x % 2 * (2 ^ b - 1) = ap (λ y. y % 2 ^ b) (spread_parts x k) ∙ low rest b (first_small x) in
-          bit_low _ b j l ∙ ap (λ y. bit y j) e ∙ digit_ones (x % 2) b j (omega arith) l ∙ sym (bit-zero x)
+          bit_low _ b j l ∙ ap (λ y. bit y j) e ∙ digit_ones (x % 2) b j (omega arith) l ∙ sym (bit_zero x)
           ∙ ap (bit x) (sym (ap (λ q. q * b) (div-eq_of_lt l) ∙ zero-mul b))
       go (no l) ih =
           let i = j - b in
@@ -97,8 +97,8 @@ module _ (b : ℕ) (some : 0 < b) where
 -- ---- blocks of 2 ^ bits lanes
 
 -- all w bits, shifted until b of them are left
-ones-left : (b w : ℕ) → b ≤ w → (2 ^ w - 1) / 2 ^ (w - b) ≡ 2 ^ b - 1
-ones-left b w h =
+ones_left : (b w : ℕ) → b ≤ w → (2 ^ w - 1) / 2 ^ (w - b) ≡ 2 ^ b - 1
+ones_left b w h =
     let e : w ≡ b + (w - b) = omega arith in
     ap (λ i. (2 ^ i - 1) / 2 ^ (w - b)) e ∙ ap (λ x. x / 2 ^ (w - b)) (ones_split b (w - b)) ∙ high (2 ^ b - 1) (w - b) (omega (arith, pow_pos (w - b)))
 
@@ -114,7 +114,7 @@ module _ {bits p : ℕ} (few : bits ≤ lane_bits) (ep : p ≡ 2 ^ bits) where
   block_some = rw ep (pow_pos bits)
 
   ones_are : ones p ≡ 2 ^ p - 1
-  ones_are = ones-left p lane_count block_small
+  ones_are = ones_left p lane_count block_small
 
   pub some_ones : 0 < ones p
   some_ones = rw ones_are (ones_pos p block_some)

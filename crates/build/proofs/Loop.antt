@@ -55,12 +55,12 @@ module _ (b : List ℕ) (h : Head) (ns : List Node) (ws : List ℕ) (m : Shape) 
   count_is = omega (arith, P.formed.head_is.base_is, P.formed.head_is.gates_is)
 
   pub count_few : N + gates b < most_signals
-  count_few = omega (arith, P.formed.headed.inputs-to, P.formed.headed.gates-to)
+  count_few = omega (arith, P.formed.headed.inputs_to, P.formed.headed.gates_to)
 
   pub begins : At 0 ns ws
   begins = record {
     most = omega arith;
-    signals = none_built b h P.formed m.room ns ws (omega (arith, constant_level ns 0 (omega arith), P.formed.headed.inputs-to), omega (arith, constant_level ns 1 (omega arith), P.formed.headed.inputs-to)) (empty_level ns P.empty) P.zeros P.within P.room P.space;
+    signals = none_built b h P.formed m.room ns ws (omega (arith, constant_level ns 0 (omega arith), P.formed.headed.inputs_to), omega (arith, constant_level ns 1 (omega arith), P.formed.headed.inputs_to)) (empty_level ns P.empty) P.zeros P.within P.room P.space;
     nodes_as = refl;
     work_as = refl;
   }
@@ -86,8 +86,8 @@ module _ (b : List ℕ) (h : Head) (ns : List Node) (ws : List ℕ) (m : Shape) 
           es_zs : length es ≡ length zs
           es_zs = es-as ∙ sym t.nodes_as
 
-          vs-us : length vs ≡ length us
-          vs-us = vs-as ∙ sym t.work_as
+          vs_us : length vs ≡ length us
+          vs_us = vs-as ∙ sym t.work_as
 
           made : Makes N m.room most_signals o (nodes_in zs) (nodes_in es) us vs r
           made = subst (λ N. Makes N m.room most_signals o (nodes_in zs) (nodes_in es) us vs r) P.inputs_is (subst (λ c. Makes m.inputs m.room c o (nodes_in zs) (nodes_in es) us vs r) P.cache_is M)
@@ -97,7 +97,7 @@ module _ (b : List ℕ) (h : Head) (ns : List Node) (ws : List ℕ) (m : Shape) 
               let q : suc s ≡ s + 1 = omega arith in
               record {
                 most = omega arith;
-                signals = subst (λ s'. Signals b m.room s' es (set vs (s + 1) r)) q (more_built b h P.formed m.room s zs us t.signals less o O r es vs es_zs vs-us made n);
+                signals = subst (λ s'. Signals b m.room s' es (set vs (s + 1) r)) q (more_built b h P.formed m.room s zs us t.signals less o O r es vs es_zs vs_us made n);
                 nodes_as = es-as;
                 work_as = length-set vs (s + 1) r ∙ vs-as;
               }
@@ -106,6 +106,6 @@ module _ (b : List ℕ) (h : Head) (ns : List Node) (ws : List ℕ) (m : Shape) 
           stops e k d =
               let c : k ≡ cond (ltb s N) 0 (s - N + 1) = d ∙ ap (λ N. cond (ltb s N) 0 (s - N + 1)) P.inputs_is in
               record {
-                place = c ∙ too_few b h P.formed m.room s zs us t.signals less o O r es vs es_zs vs-us made e;
+                place = c ∙ too_few b h P.formed m.room s zs us t.signals less o O r es vs es_zs vs_us made e;
                 signals = λ z. absurd (⊎_elim (λ l. omega (arith, c, z, number_input s N l)) (λ l. omega (arith, c, z, number_gate s N l)) (below_or s N));
               }

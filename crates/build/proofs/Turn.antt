@@ -23,7 +23,7 @@ use Rattle.diagrams.proofs.Building.{Outcome, operand_level, built_none, built_f
 use Rattle.functions.specs.Functions.{signal_on}
 use Rattle.functions.specs.Theorems.{SignalsFamily}
 use Rattle.functions.proofs.Signals.{signals_family}
-use Rattle.circuit.proofs.Literals.{operand-before}
+use Rattle.circuit.proofs.Literals.{operand_before}
 use Rattle.build.proofs.Laws.{number_input, number_gate}
 use Rattle.nodes.specs.declared.Node.{Node}
 use Rattle.layered.proofs.Search.{below_or}
@@ -50,7 +50,7 @@ module _ (b : List ℕ) (h : Head) (W : WellFormed b h) where
   N = all_inputs b
 
   few : N ≤ most_bits
-  few = W.headed.inputs-to
+  few = W.headed.inputs_to
 
   family : Family N (gates b) (operand b (lefts_at b)) (operand b (rights_at b)) (signal_on b)
   unfolding SignalsFamily
@@ -76,17 +76,17 @@ module _ (b : List ℕ) (h : Head) (W : WellFormed b h) where
       a_gate e = ⊎_elim (λ l. absurd (subst T (sym O.input_is ∙ e) (lt→ltb s N l))) (λ l. l) (below_or s N)
 
       signals_in : suc s < most_signals
-      signals_in = omega (arith, few, W.headed.gates-to)
+      signals_in = omega (arith, few, W.headed.gates_to)
 
       module _ (g : ℕ) (at : s ≡ N + g) where
         gate_in_lem : g < gates b
         gate_in_lem = omega arith
 
         left_in : operand b (lefts_at b) g < 2 * suc s
-        left_in = omega (arith, operand-before b (lefts_at b) g (1 + N + g) (W.legal.left g gate_in_lem) refl)
+        left_in = omega (arith, operand_before b (lefts_at b) g (1 + N + g) (W.legal.left g gate_in_lem) refl)
 
         right_in : operand b (rights_at b) g < 2 * suc s
-        right_in = omega (arith, operand-before b (rights_at b) g (1 + N + g) (W.legal.right g gate_in_lem) refl)
+        right_in = omega (arith, operand_before b (rights_at b) g (1 + N + g) (W.legal.right g gate_in_lem) refl)
 
       pub makeable : Makeable N R most_signals ns ws m
       makeable = record {
@@ -123,9 +123,9 @@ module _ (b : List ℕ) (h : Head) (W : WellFormed b h) where
             (operand b (lefts_at b) (s - N)) (operand b (rights_at b) (s - N)) refl refl (subst (λ t. operand b (lefts_at b) (s - N) < 2 * suc t) q (left_in (s - N) q)) (subst (λ t. operand b (rights_at b) (s - N) < 2 * suc t) q (right_in (s - N) q))
             (subst (λ p. Conjoined N R (suc N - N) (nodes_in ns) (nodes_in es) p.f p.a p.g p.b r) p A.and))
 
-        same-before : Makes N R most_signals m (nodes_in ns) (nodes_in es) ws vs r → (i : ℕ) → i < most_signals → get_or vs i 0 ≡ get_or ws i 0
-        same-before (Build.an_input e J d) i l = ap (λ v. get_or v i 0) d
-        same-before (Build.an_and e A) i l = A.before i l
+        same_before : Makes N R most_signals m (nodes_in ns) (nodes_in es) ws vs r → (i : ℕ) → i < most_signals → get_or vs i 0 ≡ get_or ws i 0
+        same_before (Build.an_input e J d) i l = ap (λ v. get_or v i 0) d
+        same_before (Build.an_and e A) i l = A.before i l
 
         still_cached : Makes N R most_signals m (nodes_in ns) (nodes_in es) ws vs r → r ≢ no_id → Cached N (nodes_in es) most_signals vs
         still_cached (Build.an_input e J d) n =
@@ -151,7 +151,7 @@ module _ (b : List ℕ) (h : Head) (W : WellFormed b h) where
             same_set i l (inl e) =
                 ap (λ i. get_or (set vs (s + 1) r) i 0) e ∙ get_or-set_same vs (s + 1) r 0 (omega (arith, signals_in, S.space)) ∙ sym (get_or-set_same ws (s + 1) r 0 (omega (arith, signals_in, S.space)))
                 ∙ ap (λ i. get_or (set ws (s + 1) r) i 0) (sym e)
-            same_set i l (inr d) = get_or-set_other vs (s + 1) i r 0 d ∙ same-before M i (omega (arith, signals_in)) ∙ sym (get_or-set_other ws (s + 1) i r 0 d)
+            same_set i l (inr d) = get_or-set_other vs (s + 1) i r 0 d ∙ same_before M i (omega (arith, signals_in)) ∙ sym (get_or-set_other ws (s + 1) i r 0 d)
 
             cached_after : r ≢ no_id → Cached N (nodes_in es) most_signals (set vs (s + 1) r)
             cached_after n = cached_same N (nodes_in es) most_signals vs (set vs (s + 1) r) (λ i l. get_or-set_other vs (s + 1) i r 0 (λ e. omega (arith, signals_in))) (still_cached M n)

@@ -37,13 +37,13 @@ module _ (b : List ℕ) (H : CircuitHeaded b) (from : ℕ) where
   unfolding part_as_first
   pass_more found at r P D = record {
     low = D.r_from;
-    high = omega (arith, P.high, D.r-to);
+    high = omega (arith, P.high, D.r_to);
     before = λ q x lo hi l. go q x lo hi l (dec_lt x at);
-    there = λ l. ⊎_elim (λ (e : r ≡ found). subst (λ r. looks_ahead b r ≡ true) (sym e) (P.there (omega arith))) (seen l) (eq-or-lt_of_le D.r-to);
+    there = λ l. ⊎_elim (λ (e : r ≡ found). subst (λ r. looks_ahead b r ≡ true) (sym e) (P.there (omega arith))) (seen l) (eq-or-lt_of_le D.r_to);
   }
     where
       go : (q x : ℕ) → from ≤ q → q < r → x < at + lane_count → Dec (x < at) → as_first b q x ≡ true
-      go q x lo hi l (yes m) = P.before q x lo (omega (arith, D.r-to)) m
+      go q x lo hi l (yes m) = P.before q x lo (omega (arith, D.r_to)) m
       go q x lo hi l (no m) =
           let e : at + (x - at) ≡ x = omega arith in
           subst (λ x. as_first b q x ≡ true) e (every_each (λ j. as_first b q (at + j)) lane_count (D.before q lo hi) (x - at) (omega arith))

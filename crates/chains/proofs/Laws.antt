@@ -10,7 +10,7 @@ use lib.Pow.{pow_pos, pow_mono}
 use lib.ListN.{length, get_or}
 use Rattle.circuit.specs.Lists.{bit}
 use Rattle.unfolded.specs.Unfolded.{input_literal, matching}
-use Rattle.circuit.proofs.Lists.{listed-length}
+use Rattle.circuit.proofs.Lists.{listed_length}
 use Rattle.chains.specs.Chains.{match_of, edge_of}
 
 -- frames have few inputs and few words
@@ -37,8 +37,8 @@ inverted_input n t w i e = input_is n t w i false e
 pub words_from : (n w : ℕ) → w ≡ 2 ^ n → 1 ≤ w
 words_from n w e = rw e (pow_pos n)
 
-pub words-to : (n w : ℕ) → w ≡ 2 ^ n → n ≤ 8 → w ≤ 256
-words-to n w e h = rw e (pow_mono {j = 8} h)
+pub words_to : (n w : ℕ) → w ≡ 2 ^ n → n ≤ 8 → w ≤ 256
+words_to n w e h = rw e (pow_mono {j = 8} h)
 
 -- the match chains so far, and one more, are no more than all
 pub match_room : (w words n : ℕ) → w < words → w * n + n ≤ words * n
@@ -46,7 +46,7 @@ match_room w words n h = omega (arith, suc-mul w n, mul-le-mul_right n h)
 
 pub match_length : (n t w : ℕ) → length (matching n t w) ≡ n
 unfolding matching
-match_length n t w = listed-length (input_literal n t w) n
+match_length n t w = listed_length (input_literal n t w) n
 
 -- an edge's two literals
 pub edge_is : (n at words e m : ℕ) (states : List ℕ) → words ≡ 2 ^ n → m ≡ match_of n at (e % words) → (get_or states (e / words) 0, m) ≡ edge_of n at states e

@@ -10,10 +10,10 @@ use native.Mathlib.Omega.{arith}
 use lib.ListN.{length, length-append, length-map}
 use borrow.Author.Tests.{eq-eqb, ne_eqb}
 use Rattle.words.specs.Words.{stored}
-use Rattle.words.proofs.Laws.{stored-none, stored-length, stored_more, stored_comm}
+use Rattle.words.proofs.Laws.{stored_none, stored_length, stored_more, stored_comm}
 use Rattle.circuit.specs.Lists.{listed}
 use Rattle.unfolded.specs.Unfolded.{chain, last_of, chains_from, ending}
-use Rattle.circuit.proofs.Lists.{listed-length, listed_more}
+use Rattle.circuit.proofs.Lists.{listed_length, listed_more}
 use Rattle.unfolded.proofs.Gates.{chain_length, chains_more}
 use Rattle.chains.specs.Chains.{Fits, gates_stored, end_of}
 use Rattle.chains.specs.declared.Target.{Target}
@@ -26,39 +26,39 @@ lefts gs = map (λ g. g.0) gs
 abbrev rights : List (ℕ × ℕ) → List ℕ
 rights gs = map (λ g. g.1) gs
 
-pub gates-none : (G k : ℕ) (v : List ℕ) → gates_stored G k v [] ≡ v
+pub gates_none : (G k : ℕ) (v : List ℕ) → gates_stored G k v [] ≡ v
 unfolding gates_stored
-gates-none G k v = stored-none 2 _ _ ∙ stored-none 2 v _
+gates_none G k v = stored_none 2 _ _ ∙ stored_none 2 v _
 
 -- the result is as long as before
-pub gates-length : (G k : ℕ) (v : List ℕ) (gs : List (ℕ × ℕ)) → k + length gs ≤ G → 8 + 4 * G ≤ length v → length (gates_stored G k v gs) ≡ length v
+pub gates_length : (G k : ℕ) (v : List ℕ) (gs : List (ℕ × ℕ)) → k + length gs ≤ G → 8 + 4 * G ≤ length v → length (gates_stored G k v gs) ≡ length v
 unfolding gates_stored
-gates-length G k v gs h room =
+gates_length G k v gs h room =
     let l : length (lefts gs) ≡ length gs = length-map gs (λ g. g.0) in
     let r : length (rights gs) ≡ length gs = length-map gs (λ g. g.1) in
-    let e : length (stored 2 v (8 + 2 * k) (lefts gs)) ≡ length v = stored-length 2 v (8 + 2 * k) (lefts gs) (omega arith) in
-    stored-length 2 _ (8 + 2 * (G + k)) (rights gs) (omega arith) ∙ e
+    let e : length (stored 2 v (8 + 2 * k) (lefts gs)) ≡ length v = stored_length 2 v (8 + 2 * k) (lefts gs) (omega arith) in
+    stored_length 2 _ (8 + 2 * (G + k)) (rights gs) (omega arith) ∙ e
 
 -- so there is room for what is to come
 pub fits_still : (target : Target) (v w : List ℕ) (k : ℕ) (gs : List (ℕ × ℕ)) → Fits target v → w ≡ gates_stored target.gates k v gs → k + length gs ≤ target.gates
     → Fits target w
 fits_still target v w k gs F e h =
-    let l : length w ≡ length v = ap length e ∙ gates-length target.gates k v gs h F.room in
+    let l : length w ≡ length v = ap length e ∙ gates_length target.gates k v gs h F.room in
     record {
       inputs_from = F.inputs_from;
-      inputs-to = F.inputs-to;
+      inputs_to = F.inputs_to;
       words_are = F.words_are;
-      outputs-to = F.outputs-to;
-      base-to = F.base-to;
-      gates-to = F.gates-to;
+      outputs_to = F.outputs_to;
+      base_to = F.base_to;
+      gates_to = F.gates_to;
       room = omega (arith, F.room);
     }
 
 -- more gates behind those that were stored
-pub gates-append : (G k : ℕ) (v : List ℕ) (gs hs : List (ℕ × ℕ)) (j : ℕ) → j ≡ k + length gs → j + length hs ≤ G → 8 + 4 * G ≤ length v
+pub gates_append : (G k : ℕ) (v : List ℕ) (gs hs : List (ℕ × ℕ)) (j : ℕ) → j ≡ k + length gs → j + length hs ≤ G → 8 + 4 * G ≤ length v
     → gates_stored G j (gates_stored G k v gs) hs ≡ gates_stored G k v (gs ++ hs)
 unfolding gates_stored
-gates-append G k v gs hs j e h room =
+gates_append G k v gs hs j e h room =
     let a : length (lefts gs) ≡ length gs = length-map gs (λ g. g.0) in
     let b : length (rights gs) ≡ length gs = length-map gs (λ g. g.1) in
     let c : length (lefts hs) ≡ length hs = length-map hs (λ g. g.0) in
@@ -67,8 +67,8 @@ gates-append G k v gs hs j e h room =
     let mr : rights (gs ++ hs) ≡ rights gs ++ rights hs = map-append (λ g. g.1) gs hs in
     let x : List ℕ = stored 2 v (8 + 2 * k) (lefts gs) in
     let y : List ℕ = stored 2 v (8 + 2 * k) (lefts (gs ++ hs)) in
-    let n : length x ≡ length v = stored-length 2 v (8 + 2 * k) (lefts gs) (omega arith) in
-    let m : length y ≡ length v = stored-length 2 v (8 + 2 * k) (lefts (gs ++ hs)) (rw ml (omega (arith, length-append (lefts gs) (lefts hs)))) in
+    let n : length x ≡ length v = stored_length 2 v (8 + 2 * k) (lefts gs) (omega arith) in
+    let m : length y ≡ length v = stored_length 2 v (8 + 2 * k) (lefts (gs ++ hs)) (rw ml (omega (arith, length-append (lefts gs) (lefts hs)))) in
     let left : stored 2 x (8 + 2 * j) (lefts hs) ≡ y = stored_more 2 v (8 + 2 * k) (lefts gs) (lefts hs) (8 + 2 * j) (omega arith) (omega arith) ∙ ap (stored 2 v (8 + 2 * k)) (sym ml) in
     ap (λ (w : List ℕ). stored 2 w (8 + 2 * (G + j)) (rights hs))
     (sym (stored_comm 2 x (8 + 2 * j) (lefts hs) (8 + 2 * (G + k)) (rights gs) (omega arith) (omega arith)) ∙ ap (λ (w : List ℕ). stored 2 w (8 + 2 * (G + k)) (rights gs)) left)
@@ -101,7 +101,7 @@ pub chain_more : (G base k : ℕ) (v w : List ℕ) (rs rs' : List ℕ) (j l r : 
     → rs ++ (r ∷ []) ≡ rs' → j < G → 8 + 4 * G ≤ length v → gates_stored G j w ((l, r) ∷ []) ≡ gates_stored G k v (chain (base + k) 1 rs')
 chain_more G base k v w rs rs' j l r ew ej el er h room =
     ap₂ (λ (w : List ℕ) (l : ℕ). gates_stored G j w ((l, r) ∷ [])) ew (el ∙ end_is base k j rs ej)
-    ∙ gates-append G k v (chain (base + k) 1 rs) ((last_of (base + k) 1 rs, r) ∷ []) j (omega (arith, chain_length (base + k) 1 rs)) (omega arith) room
+    ∙ gates_append G k v (chain (base + k) 1 rs) ((last_of (base + k) 1 rs, r) ∷ []) j (omega (arith, chain_length (base + k) 1 rs)) (omega arith) room
     ∙ ap (gates_stored G k v) (sym (chain_snoc (base + k) 1 rs r) ∙ ap (chain (base + k) 1) er)
 
 -- one chain more, of those that each begin with literal 1
@@ -111,7 +111,7 @@ unfolding chains_from
 chains_next G base k v w f i j ew ej h room =
     let e : base + j ≡ base + k + length (chains_from (base + k) f i) = omega arith in
     ap₂ (λ (w : List ℕ) (at : ℕ). gates_stored G j w (chain at 1 (f i))) ew e
-    ∙ gates-append G k v (chains_from (base + k) f i) _ j ej (omega (arith, chain_length (base + k + length (chains_from (base + k) f i)) 1 (f i))) room
+    ∙ gates_append G k v (chains_from (base + k) f i) _ j ej (omega (arith, chain_length (base + k + length (chains_from (base + k) f i)) 1 (f i))) room
     ∙ ap (λ (i : ℕ). gates_stored G k v (chains_from (base + k) f i)) (sym (add-one i))
 
 -- how many gates they are
@@ -141,5 +141,5 @@ pub each_more : (G k : ℕ) (v w : List ℕ) (f : ℕ → ℕ × ℕ) (i j : ℕ
     → gates_stored G j w (g ∷ []) ≡ gates_stored G k v (listed [] f (i + 1))
 each_more G k v w f i j g ew ej eg h room =
     ap (λ (w : List ℕ). gates_stored G j w (g ∷ [])) ew
-    ∙ gates-append G k v (listed [] f i) (g ∷ []) j (omega (arith, listed-length f i)) (omega arith) room
+    ∙ gates_append G k v (listed [] f i) (g ∷ []) j (omega (arith, listed_length f i)) (omega arith) room
     ∙ ap (gates_stored G k v) (listed_more f i g eg)

@@ -12,11 +12,11 @@ use Rattle.chains.specs.declared.Target.{Target}
 -- the circuit is within the limits, and the result v has room for it
 pub record Fits (target : Target) (v : List ℕ) : Type 0 where
   pub inputs_from : 1 ≤ target.inputs
-  pub inputs-to : target.inputs ≤ most_inputs
+  pub inputs_to : target.inputs ≤ most_inputs
   pub words_are : target.words ≡ 2 ^ target.inputs
-  pub outputs-to : target.outputs ≤ most_outputs
-  pub base-to : target.base ≤ 1 + most_bits
-  pub gates-to : target.gates ≤ most_gates
+  pub outputs_to : target.outputs ≤ most_outputs
+  pub base_to : target.base ≤ 1 + most_bits
+  pub gates_to : target.gates ≤ most_gates
   pub room : circuit_head + 4 * target.gates ≤ length v
 
 -- it is the circuit that the table b is drawn as

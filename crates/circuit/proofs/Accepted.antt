@@ -21,12 +21,12 @@ use Rattle.circuit.specs.declared.Head.{Head}
 widen : {a c n m T : ℕ} → a ≤ c → Sized a n m T → Sized c n m T
 widen h z = record {
   inputs_from = z.inputs_from;
-  inputs-to = omega arith;
+  inputs_to = omega arith;
   outputs_from = z.outputs_from;
-  outputs-to = z.outputs-to;
+  outputs_to = z.outputs_to;
   frames_from = z.frames_from;
-  frames-to = z.frames-to;
-  bits-to = z.bits-to;
+  frames_to = z.frames_to;
+  bits_to = z.bits_to;
 }
 
 -- what remains of the head's judgement once the sizes are accepted
@@ -41,20 +41,20 @@ module _ (b : List ℕ) (p : ℕ) where
       let e₄ = passed (not (eqb (length b) (circuit_head + 4 * gates b))) 1 (length b) _ p refl e₃.1 in
       let z = sized most _ _ _ e₂.0 e₂.1 in
       let g = inside (all_outputs b) most_gates (gates b) e₃.0 in (
-        record { sizes = widen h z; inputs-to = z.bits-to; outputs-to = g.0; gates-to = omega (arith, g.1); whole = eqb-true _ _ (not-false _ e₄.0) },
+        record { sizes = widen h z; inputs_to = z.bits_to; outputs_to = g.0; gates_to = omega (arith, g.1); whole = eqb-true _ _ (not-false _ e₄.0) },
         z,
         ltb-false long _ e₀.0,
       )
 
 -- each literal of an array that is accepted is admissible
-all-admissible : (b : List ℕ) (start p : ℕ) → literals_checked b start ≡ answer 0 p → (g : ℕ) → g < gates b → admissible b g (literal_at b start g) ≡ true
+all_admissible : (b : List ℕ) (start p : ℕ) → literals_checked b start ≡ answer 0 p → (g : ℕ) → g < gates b → admissible b g (literal_at b start g) ≡ true
 unfolding literals_checked
-all-admissible b start p e g h =
+all_admissible b start p e g h =
     not-false _
     ((none_found (λ g. not (admissible b g (literal_at b start g))) 3 _ (answer 0 0) p 0 (gates b) refl e).0 g zero-le (omega arith))
 
 pub legal : (b : List ℕ) (p q : ℕ) → literals_checked b (lefts_at b) ≡ answer 0 p → literals_checked b (rights_at b) ≡ answer 0 q → LegalGates b
-legal b p q el er = record { left = all-admissible b (lefts_at b) p el; right = all-admissible b (rights_at b) q er }
+legal b p q el er = record { left = all_admissible b (lefts_at b) p el; right = all_admissible b (rights_at b) q er }
 
 -- no output looks ahead
 pub none_ahead : (b : List ℕ) (p : ℕ) → look_ahead_checked b ≡ answer 0 p → (q : ℕ) → q < all_outputs b → looks_ahead b q ≡ false

@@ -15,12 +15,12 @@ use Rattle.layered.specs.States.{Words}
 use Rattle.layered.specs.Histories.{history_words, history_number}
 use Rattle.layered.proofs.Search.{every_true, every_each, every_fails}
 use Rattle.layered.proofs.Rows.{pow-mul}
-use Rattle.layered.proofs.Histories.{history_below, history-words, history_front, words-number, number-words}
+use Rattle.layered.proofs.Histories.{history_below, history-words, history_front, words_number, number_words}
 use Rattle.circuit.specs.Lists.{block_start}
-use Rattle.circuit.specs.Circuit.{gates, all_inputs, all_outputs, gate_signal, output_signal, frame_of, signal_values, output_word, output_bit, output_on, later_inputs, as_first, looks_ahead}
+use Rattle.circuit.specs.Circuit.{gates, all_inputs, all_outputs, gate_signal, output_signal, frame_of, signal_values, output_word, output_bit, output_on_lem, later_inputs, as_first, looks_ahead}
 use Rattle.circuit.specs.WellFormed.{CircuitHeaded}
 use Rattle.circuit.specs.Theorems.{DependsOnLater}
-use Rattle.circuit.proofs.Bits.{bit-packed}
+use Rattle.circuit.proofs.Bits.{bit_packed}
 
 -- ---- truth values
 
@@ -59,7 +59,7 @@ module _ (b : List ℕ) (H : CircuitHeaded b) (q : ℕ) (h : q < all_outputs b) 
       let vs : List Bool = signal_values b words (gates b) in
       let from : ℕ = output_signal b (m * (q / m)) in
       let at : from + q % m ≡ output_signal b q = omega (arith, output_parts.2) in
-      bit-packed (take m (drop from vs)) (q % m)
+      bit_packed (take m (drop from vs)) (q % m)
       ∙ get_or-take m (drop from vs) (q % m) false output_parts.1
       ∙ get_or-drop from vs (q % m) false
       ∙ ap (λ s. get_or vs s false) at
@@ -101,19 +101,19 @@ module _ (b : List ℕ) (H : CircuitHeaded b) (q : ℕ) (h : q < all_outputs b) 
 
   -- where it looks ahead, there are two sequences: one on which it differs from the first that agrees up to there, and that one
   pub ahead_depends : looks_ahead b q ≡ true → DependsOnLater b q
-  unfolding looks_ahead as_first output_on DependsOnLater
+  unfolding looks_ahead as_first output_on_lem DependsOnLater
   ahead_depends e =
       let (x, l, f) = every_fails (2 ^ all_inputs b) (as_first b q) (not-true _ e) in
       let y : ℕ = block_start (later_inputs b q) x in
       (history_words K (frames b) x, history_words K (frames b) y, is_sequence x, is_sequence y, same_front x, beq_apart _ _ f)
 
   -- where it does not, it is on a sequence what it is on the first that agrees up to there
-  of_first : looks_ahead b q ≡ false → (c : List ℕ) → Words K (frames b) c → output_bit b c q ≡ output_on b q (block_start (later_inputs b q) (history_number K 0 c))
-  unfolding looks_ahead as_first output_on all_inputs
+  of_first : looks_ahead b q ≡ false → (c : List ℕ) → Words K (frames b) c → output_bit b c q ≡ output_on_lem b q (block_start (later_inputs b q) (history_number K 0 c))
+  unfolding looks_ahead as_first output_on_lem all_inputs
   of_first e c W =
       let x : ℕ = history_number K 0 c in
       let l : x < 2 ^ (inputs b * frames b) = rw (pow-mul 2 (inputs b) (frames b)) (history_below W) in
-      ap (λ w. output_bit b w q) (sym (words-number W)) ∙ beq_same _ _ (every_each (as_first b q) (2 ^ all_inputs b) (not-false _ e) x l)
+      ap (λ w. output_bit b w q) (sym (words_number W)) ∙ beq_same _ _ (every_each (as_first b q) (2 ^ all_inputs b) (not-false _ e) x l)
 
   -- sequences that agree up to there are in one block
   one_block : (x y : ℕ) → x < 2 ^ all_inputs b → y < 2 ^ all_inputs b → take t (history_words K (frames b) x) ≡ take t (history_words K (frames b) y)
@@ -121,7 +121,7 @@ module _ (b : List ℕ) (H : CircuitHeaded b) (q : ℕ) (h : q < all_outputs b) 
   one_block x y l k e = sym (number x l) ∙ ap (history_number K 0) (sym (front x) ∙ e ∙ front y) ∙ number y k
     where
       number : (x : ℕ) → x < 2 ^ all_inputs b → history_number K 0 (history_words K t (x / 2 ^ later_inputs b q)) ≡ x / 2 ^ later_inputs b q
-      number x l = (number-words K t (x / 2 ^ later_inputs b q) ((div-lt_iff_lt-mul (pow_pos (later_inputs b q))).1 (rw all_sequences at l))).1
+      number x l = (number_words K t (x / 2 ^ later_inputs b q) ((div-lt_iff_lt-mul (pow_pos (later_inputs b q))).1 (rw all_sequences at l))).1
 
   pub none_depends : looks_ahead b q ≡ false → (c d : List ℕ) → Words K (frames b) c → Words K (frames b) d → take t c ≡ take t d → output_bit b c q ≡ output_bit b d q
   unfolding all_inputs block_start
@@ -129,19 +129,19 @@ module _ (b : List ℕ) (H : CircuitHeaded b) (q : ℕ) (h : q < all_outputs b) 
       let n : ℕ = inputs b in
       let T : ℕ = frames b in
       let below : (c : List ℕ) → Words K T c → history_number K 0 c < 2 ^ (n * T) = λ c W. rw (pow-mul 2 n T) (history_below W) in
-      let words : take t (history_words K T (history_number K 0 c)) ≡ take t (history_words K T (history_number K 0 d)) = ap (take t) (words-number W) ∙ s ∙ ap (take t) (sym (words-number U)) in
+      let words : take t (history_words K T (history_number K 0 c)) ≡ take t (history_words K T (history_number K 0 d)) = ap (take t) (words_number W) ∙ s ∙ ap (take t) (sym (words_number U)) in
       of_first e c W
-      ∙ ap (λ k. output_on b q (k * 2 ^ later_inputs b q)) (one_block (history_number K 0 c) (history_number K 0 d) (below c W) (below d U) words)
+      ∙ ap (λ k. output_on_lem b q (k * 2 ^ later_inputs b q)) (one_block (history_number K 0 c) (history_number K 0 d) (below c W) (below d U) words)
       ∙ sym (of_first e d U)
 
   -- it looks ahead only where two sequences show it
   pub quiet : ((c d : List ℕ) → Words K (frames b) c → Words K (frames b) d → take t c ≡ take t d → output_bit b c q ≡ output_bit b d q) → looks_ahead b q ≡ false
-  unfolding looks_ahead as_first output_on
+  unfolding looks_ahead as_first output_on_lem
   quiet f = ap not (every_true (as_first b q) (2 ^ all_inputs b) (λ x l. same_beq _ _ (f _ _ (is_sequence x) (is_sequence _) (same_front x))))
 
   -- any number is a sequence's: where one shows a difference, the output looks ahead
   pub ahead_seen : (x : ℕ) → as_first b q x ≡ false → looks_ahead b q ≡ true
-  unfolding as_first output_on
+  unfolding as_first output_on_lem
   ahead_seen x f = go (looks_ahead b q) refl
     where
       go : (t : Bool) → looks_ahead b q ≡ t → t ≡ true

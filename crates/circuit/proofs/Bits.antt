@@ -13,13 +13,13 @@ use lib.ListN.{length, get_or}
 use borrow.Author.Tests.{eqb-true, eqb-false}
 use Rattle.circuit.specs.Lists.{bit, packed}
 
-pub bit-zero : (w : ℕ) → bit w 0 ≡ eqb (w % 2) 1
+pub bit_zero : (w : ℕ) → bit w 0 ≡ eqb (w % 2) 1
 unfolding bit
-bit-zero w = ap (λ k. eqb (w / k % 2) 1) (pow-zero 2) ∙ ap (λ k. eqb (k % 2) 1) (div-one w)
+bit_zero w = ap (λ k. eqb (w / k % 2) 1) (pow-zero 2) ∙ ap (λ k. eqb (k % 2) 1) (div-one w)
 
-pub bit-suc : (w j : ℕ) → bit w (suc j) ≡ bit (w / 2) j
+pub bit_suc : (w j : ℕ) → bit w (suc j) ≡ bit (w / 2) j
 unfolding bit
-bit-suc w j = ap (λ k. eqb (k % 2) 1) (ap (λ k. w / k) (pow-suc 2 j ∙ mul_comm (2 ^ j) 2) ∙ sym (div-div-eq-div-mul w 2 (2 ^ j)))
+bit_suc w j = ap (λ k. eqb (k % 2) 1) (ap (λ k. w / k) (pow-suc 2 j ∙ mul_comm (2 ^ j) 2) ∙ sym (div-div-eq-div-mul w 2 (2 ^ j)))
 
 -- the lowest bit as a digit
 pub digit : (w : ℕ) → cond (eqb (w % 2) 1) 1 0 ≡ w % 2
@@ -31,9 +31,9 @@ digit w = go (eqb (w % 2) 1) refl
 
 -- ---- the word of a list of bits
 
-pub bit-none : (j : ℕ) → bit 0 j ≡ false
-bit-none zero = bit-zero 0
-bit-none (suc j) = bit-suc 0 j ∙ bit-none j
+pub bit_none : (j : ℕ) → bit 0 j ≡ false
+bit_none zero = bit_zero 0
+bit_none (suc j) = bit_suc 0 j ∙ bit_none j
 
 -- a digit below the others
 lowest : (v : Bool) (x : ℕ) → eqb ((cond v 1 0 + 2 * x) % 2) 1 ≡ v
@@ -44,22 +44,22 @@ above : (v : Bool) (x : ℕ) → (cond v 1 0 + 2 * x) / 2 ≡ x
 above true x = omega arith
 above false x = omega arith
 
-pub bit-packed : (l : List Bool) (j : ℕ) → bit (packed l) j ≡ get_or l j false
+pub bit_packed : (l : List Bool) (j : ℕ) → bit (packed l) j ≡ get_or l j false
 unfolding packed
-bit-packed [] j = bit-none j
-bit-packed (v ∷ l) zero = bit-zero _ ∙ lowest v (packed l)
-bit-packed (v ∷ l) (suc j) = bit-suc _ j ∙ ap (λ x. bit x j) (above v (packed l)) ∙ bit-packed l j
+bit_packed [] j = bit_none j
+bit_packed (v ∷ l) zero = bit_zero _ ∙ lowest v (packed l)
+bit_packed (v ∷ l) (suc j) = bit_suc _ j ∙ ap (λ x. bit x j) (above v (packed l)) ∙ bit_packed l j
 
 -- a word below 2^m is what its m bits pack to
-pub packed-bits : (m w : ℕ) (vs : List Bool) → w < 2 ^ m → length vs ≡ m → ((j : ℕ) → j < m → get_or vs j false ≡ bit w j) → packed vs ≡ w
+pub packed_bits : (m w : ℕ) (vs : List Bool) → w < 2 ^ m → length vs ≡ m → ((j : ℕ) → j < m → get_or vs j false ≡ bit w j) → packed vs ≡ w
 unfolding packed
-packed-bits zero w [] h l e = let z : w < 1 = rw (pow-zero 2) at h in omega arith
-packed-bits zero w (v ∷ vs) h l e = absurd (omega arith)
-packed-bits (suc m) w [] h l e = absurd (omega arith)
-packed-bits (suc m) w (v ∷ vs) h l e =
+packed_bits zero w [] h l e = let z : w < 1 = rw (pow-zero 2) at h in omega arith
+packed_bits zero w (v ∷ vs) h l e = absurd (omega arith)
+packed_bits (suc m) w [] h l e = absurd (omega arith)
+packed_bits (suc m) w (v ∷ vs) h l e =
     let h' : w < 2 ^ m * 2 = rw (pow-suc 2 m) at h in
-    let d : cond v 1 0 ≡ w % 2 = ap (λ v. cond v 1 0) (e 0 (omega arith) ∙ bit-zero w) ∙ digit w in
-    omega (arith, d, packed-bits m (w / 2) vs (omega arith) (omega arith) (λ j q. e (suc j) (omega arith) ∙ bit-suc w j))
+    let d : cond v 1 0 ≡ w % 2 = ap (λ v. cond v 1 0) (e 0 (omega arith) ∙ bit_zero w) ∙ digit w in
+    omega (arith, d, packed_bits m (w / 2) vs (omega arith) (omega arith) (λ j q. e (suc j) (omega arith) ∙ bit_suc w j))
 
 -- numbers of n bits that differ do so in a bit
 pub bits_apart : (n w u : ℕ) → w < 2 ^ n → u < 2 ^ n → ¬ (w ≡ u) → (j : ℕ) × (j < n) × ¬ (bit w j ≡ bit u j)
@@ -69,11 +69,11 @@ bits_apart (suc n) w u hw hu d = go (ℕ_discrete (w % 2) (u % 2)) (bits_apart n
     go : Dec (w % 2 ≡ u % 2) → (¬ (w / 2 ≡ u / 2) → (j : ℕ) × (j < n) × ¬ (bit (w / 2) j ≡ bit (u / 2) j)) → (j : ℕ) × (j < suc n) × ¬ (bit w j ≡ bit u j)
     go (yes e) ih =
         let r = ih (λ q. d (omega arith)) in
-        (suc r.0, omega (arith, r.1), λ q. r.2 (sym (bit-suc w r.0) ∙ q ∙ bit-suc u r.0))
-    go (no e) ih = (0, omega arith, λ q. e (sym (digit w) ∙ ap (λ y. cond y 1 0) (sym (bit-zero w) ∙ q ∙ bit-zero u) ∙ digit u))
+        (suc r.0, omega (arith, r.1), λ q. r.2 (sym (bit_suc w r.0) ∙ q ∙ bit_suc u r.0))
+    go (no e) ih = (0, omega arith, λ q. e (sym (digit w) ∙ ap (λ y. cond y 1 0) (sym (bit_zero w) ∙ q ∙ bit_zero u) ∙ digit u))
 
-pub equal-bits : (n w u : ℕ) → w < 2 ^ n → u < 2 ^ n → ((j : ℕ) → j < n → bit w j ≡ bit u j) → w ≡ u
-equal-bits n w u hw hu e = go (ℕ_discrete w u)
+pub equal_bits : (n w u : ℕ) → w < 2 ^ n → u < 2 ^ n → ((j : ℕ) → j < n → bit w j ≡ bit u j) → w ≡ u
+equal_bits n w u hw hu e = go (ℕ_discrete w u)
   where
     go : Dec (w ≡ u) → w ≡ u
     go (yes q) = q
@@ -95,9 +95,9 @@ bit_and_lem x y j =
     ∙ digit_and (x / 2 ^ j % 2) (y / 2 ^ j % 2) (mod-lt (x / 2 ^ j) (lit< tt)) (mod-lt (y / 2 ^ j) (lit< tt))
 
 -- numbers that agree in the bits of a mask are equal once masked
-pub masked-equal : (m mask x y : ℕ) → mask < 2 ^ m → ((j : ℕ) → j < m → bit mask j ≡ true → bit x j ≡ bit y j) → bit_and x mask ≡ bit_and y mask
-masked-equal m mask x y h e =
-    equal-bits m _ _ (lt_of_le_of_lt (and_le_r x mask) h) (lt_of_le_of_lt (and_le_r y mask) h) (λ j l. bit_and_lem x mask j ∙ at j l (bit mask j) refl ∙ sym (bit_and_lem y mask j))
+pub masked_equal : (m mask x y : ℕ) → mask < 2 ^ m → ((j : ℕ) → j < m → bit mask j ≡ true → bit x j ≡ bit y j) → bit_and x mask ≡ bit_and y mask
+masked_equal m mask x y h e =
+    equal_bits m _ _ (lt_of_le_of_lt (and_le_r x mask) h) (lt_of_le_of_lt (and_le_r y mask) h) (λ j l. bit_and_lem x mask j ∙ at j l (bit mask j) refl ∙ sym (bit_and_lem y mask j))
   where
     at : (j : ℕ) → j < m → (u : Bool) → bit mask j ≡ u → (bit x j && bit mask j) ≡ (bit y j && bit mask j)
     at j l true q = ap (λ v. v && bit mask j) (e j l q)

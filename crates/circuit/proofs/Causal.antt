@@ -13,11 +13,11 @@ use Rattle.layered.specs.States.{Words, none, more, outputs as outputs_of}
 use Rattle.layered.specs.Histories.{history_words}
 use Rattle.layered.proofs.States.{some_words}
 use Rattle.layered.proofs.Feeding.{words_whole}
-use Rattle.layered.proofs.Histories.{history-more, history-words}
+use Rattle.layered.proofs.Histories.{history_more, history-words}
 use Rattle.circuit.specs.Lists.{grown, listed, bit}
 use Rattle.circuit.specs.Circuit.{all_outputs, frame_of, output_word, output_words, output_bit}
 use Rattle.circuit.specs.Theorems.{response, Causal, AcceptedCausal}
-use Rattle.circuit.proofs.Bits.{equal-bits}
+use Rattle.circuit.proofs.Bits.{equal_bits}
 use Rattle.circuit.proofs.Unconnected.{word_below, word_clear}
 use Rattle.circuit.specs.WellFormed.{Accepted}
 use Rattle.circuit.proofs.Accepted.{accepted}
@@ -29,7 +29,7 @@ module _ (b : List ℕ) (A : Accepted b) where
   pub word_agrees : (c d : List ℕ) (t : ℕ) → t < frames b → Words (2 ^ inputs b) (frames b) c → Words (2 ^ inputs b) (frames b) d → take (suc t) c ≡ take (suc t) d
       → output_word b c t ≡ output_word b d t
   unfolding output_bit frame_of all_outputs
-  word_agrees c d t h W U e = equal-bits (outputs b) (output_word b c t) (output_word b d t) (word_below b c t) (word_below b d t) at
+  word_agrees c d t h W U e = equal_bits (outputs b) (output_word b c t) (output_word b d t) (word_below b c t) (word_below b d t) at
     where
       at : (j : ℕ) → j < outputs b → bit (output_word b c t) j ≡ bit (output_word b d t) j
       at j l =
@@ -84,7 +84,7 @@ module _ (b : List ℕ) (A : Accepted b) where
   rest_follows p (w ∷ s) (suc k) t h lp e q (more l W) =
       let g : List ℕ = p ++ (w ∷ []) in
       let whole : g ++ s ≡ p ++ (w ∷ s) = append_assoc p (w ∷ []) s in
-      let hist : history_words K (suc t) (h * K + w) ≡ g = history-more K t h w l ∙ ap (λ x. x ++ (w ∷ [])) q in
+      let hist : history_words K (suc t) (h * K + w) ≡ g = history_more K t h w l ∙ ap (λ x. x ++ (w ∷ [])) q in
       let lg : length g ≡ suc t = length-append p (w ∷ []) ∙ omega arith in
       let left : k ≡ frames b - suc t = omega arith in
       let tail = rest_follows g s k (suc t) (h * K + w) lg (omega arith) hist W in

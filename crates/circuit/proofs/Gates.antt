@@ -10,7 +10,7 @@ use native.Mathlib.Omega.{arith}
 use lib.ListN.{length, get_or, length-append, get_or-append}
 use lib.Seq.{get_or-append-add}
 use Rattle.circuit.specs.Lists.{grown, listed}
-use Rattle.circuit.proofs.Lists.{listed-length, listed_at}
+use Rattle.circuit.proofs.Lists.{listed_length, listed_at}
 
 -- ---- literals are of earlier signals
 
@@ -65,7 +65,7 @@ module _ {A : Type 0} (meet : A → A → A) (read : List A → ℕ → A) (R : 
         let gs : List (ℕ × ℕ) = listed [] g k in
         let ws : List A = run meet read vs gs in
         let x : A = meet (read ws (g k).0) (read ws (g k).1) in
-        let l : length ws ≡ length vs + k = run_length meet read vs gs ∙ omega (arith, listed-length g k) in
+        let l : length ws ≡ length vs + k = run_length meet read vs gs ∙ omega (arith, listed_length g k) in
         ap (λ v. read v (2 * (length vs + i))) (run-append meet read vs gs (g k ∷ []))
         ∙ ⊎_elim
         (λ (q : i ≡ k).
@@ -89,7 +89,7 @@ unfolding grown
 growing_admitted at g zero U = no_gate
 growing_admitted at g (suc k) U =
     let u = U k (le_refl (suc k)) in
-    let long = listed-length g k in
+    let long = listed_length g k in
     admitted_append (growing_admitted at g k (λ i l. U i (le_trans l (le-suc k)))) (gate {l = (g k).0} {r = (g k).1} (omega (arith, u.0, long)) (omega (arith, u.1, long)) no_gate)
 
 -- ---- output gates behind other gates
@@ -104,9 +104,9 @@ unfolding closing
 closed gs c left k blank = gs ++ listed [] (closing c left blank) k
 
 module _ (gs : List (ℕ × ℕ)) (c : ℕ → Bool) (left : ℕ → ℕ) (k blank : ℕ) where
-  pub closed-length : length (closed gs c left k blank) ≡ length gs + k
+  pub closed_length : length (closed gs c left k blank) ≡ length gs + k
   unfolding closed
-  closed-length = length-append gs _ ∙ ap (λ i. length gs + i) (listed-length (closing c left blank) k)
+  closed_length = length-append gs _ ∙ ap (λ i. length gs + i) (listed_length (closing c left blank) k)
 
   pub closed_inner : (g : ℕ) → g < length gs → get_or (closed gs c left k blank) g (0, 0) ≡ get_or gs g (0, 0)
   unfolding closed
@@ -117,9 +117,9 @@ module _ (gs : List (ℕ × ℕ)) (c : ℕ → Bool) (left : ℕ → ℕ) (k bla
   closed_output q h = get_or-append-add gs _ q (0, 0) ∙ listed_at (closing c left blank) (0, 0) k q h
 
 module _ (c : ℕ → Bool) (left : ℕ → ℕ) (blank q : ℕ) where
-  pub closing-connected : c q ≡ true → closing c left blank q ≡ (left q, 1)
+  pub closing_connected : c q ≡ true → closing c left blank q ≡ (left q, 1)
   unfolding closing
-  closing-connected e = ap (λ x. cond x (left q, 1) (blank, blank)) e
+  closing_connected e = ap (λ x. cond x (left q, 1) (blank, blank)) e
 
   pub closing_blank : c q ≡ false → closing c left blank q ≡ (blank, blank)
   unfolding closing

@@ -16,15 +16,15 @@ use Rattle.circuit.specs.Circuit.{gates, lefts_at, rights_at, all_inputs, all_ou
 use Rattle.circuit.specs.Limits.{most_signals}
 use Rattle.circuit.specs.WellFormed.{CircuitHeaded, HeadOf, LegalGates}
 use Rattle.circuit.specs.declared.Head.{Head}
-use Rattle.circuit.proofs.Literals.{operand-before}
+use Rattle.circuit.proofs.Literals.{operand_before}
 
 -- ---- `grown`: an array that is filled from the front
 
 module _ {A : Type 0} (start : List A) (next : List A → ℕ → A) where
-  pub length-grown : (k : ℕ) → length (grown start next k) ≡ length start + k
+  pub length_grown : (k : ℕ) → length (grown start next k) ≡ length start + k
   unfolding grown
-  length-grown zero = omega arith
-  length-grown (suc k) = simp length-append (omega (arith, length-grown k))
+  length_grown zero = omega arith
+  length_grown (suc k) = simp length-append (omega (arith, length_grown k))
 
   -- the first i elements of v are what is grown in k steps, and the next one is stored
   pub fill_grown : (v : List A) (i k : ℕ) (x : A) → i < length v → take i v ≡ grown start next k → x ≡ next (grown start next k) k
@@ -73,9 +73,9 @@ packed_more v i i' c c' w d h ei ec ew ed =
 
 -- ---- values
 
-literal-take : (v : List Bool) (n l : ℕ) → l / 2 < n → literal_value (take n v) l ≡ literal_value v l
+literal_take : (v : List Bool) (n l : ℕ) → l / 2 < n → literal_value (take n v) l ≡ literal_value v l
 unfolding literal_value
-literal-take v n l h = rw (get_or-take n v (l / 2) false h)
+literal_take v n l h = rw (get_or-take n v (l / 2) false h)
 
 -- a list in which the inputs stand on a sequence, and each of the first k gates has the value that its literals give, has the values of these signals
 pub values_grow : (b words : List ℕ) (v : List Bool) → LegalGates b → gate_signal b (gates b) ≤ length v → take (1 + all_inputs b) v ≡ input_values words (inputs b) (all_inputs b)
@@ -89,7 +89,7 @@ values_grow b words v L room I (suc k) h e =
     ap (λ i. take i v) next ∙ take-suc v n false (omega arith)
     ∙ ap₂ (λ (s : List Bool) (x : Bool). s ++ (x ∷ [])) before
     (e k (omega arith)
-    ∙ sym (ap₂ ◌&&◌ (literal-take v n _ (operand-before b (lefts_at b) k n (L.left k h) refl)) (literal-take v n _ (operand-before b (rights_at b) k n (L.right k h) refl)))
+    ∙ sym (ap₂ ◌&&◌ (literal_take v n _ (operand_before b (lefts_at b) k n (L.left k h) refl)) (literal_take v n _ (operand_before b (rights_at b) k n (L.right k h) refl)))
     ∙ ap (λ s. gate_value b s k) before)
 
 -- ---- output words
@@ -130,7 +130,7 @@ module _ (b : List ℕ) (head : Head) (H : CircuitHeaded b) (O : HeadOf b head) 
 
   -- the outputs of a frame are signals
   are_signals : (t : ℕ) → t < frames b → first_output head t + head.outputs ≤ gate_signal b (gates b)
-  are_signals t h = omega (arith, first_is t, O.outputs_is, output_room b t H.outputs-to h)
+  are_signals t h = omega (arith, first_is t, O.outputs_is, output_room b t H.outputs_to h)
 
   -- the output word of frame t, where v begins with the values of all signals
   pub frame_word : (words : List ℕ) (v : List Bool) (t : ℕ) → t < frames b → take (gate_signal b (gates b)) v ≡ signal_values b words (gates b)

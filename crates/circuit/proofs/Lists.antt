@@ -10,18 +10,18 @@ use native.Mathlib.Omega.{arith}
 use lib.ListN.{length, get_or, get_or-append}
 use lib.Seq.{get_or_at}
 use Rattle.circuit.specs.Lists.{grown, listed}
-use Rattle.circuit.proofs.Laws.{length-grown}
+use Rattle.circuit.proofs.Laws.{length_grown}
 
 -- ---- grown
 
 module _ {A : Type 0} (start : List A) (next : List A → ℕ → A) (d : A) where
   pub grown_old : (k i : ℕ) → i < length start + k → get_or (grown start next (suc k)) i d ≡ get_or (grown start next k) i d
   unfolding grown
-  grown_old k i h = get_or-append (grown start next k) _ d i (omega (arith, length-grown start next k))
+  grown_old k i h = get_or-append (grown start next k) _ d i (omega (arith, length_grown start next k))
 
   pub grown_new : (k : ℕ) → get_or (grown start next (suc k)) (length start + k) d ≡ next (grown start next k) k
   unfolding grown
-  grown_new k = get_or_at (grown start next k) _ [] d (length start + k) (length-grown start next k)
+  grown_new k = get_or_at (grown start next k) _ [] d (length start + k) (length_grown start next k)
 
   -- what is there at first stays
   pub grown_start : (k i : ℕ) → i < length start → get_or (grown start next k) i d ≡ get_or start i d
@@ -30,12 +30,12 @@ module _ {A : Type 0} (start : List A) (next : List A → ℕ → A) (d : A) whe
   grown_start (suc k) i h = grown_old k i (omega arith) ∙ grown_start k i h
 
   -- and so does each new element
-  pub grown-at : (k i : ℕ) → i < k → get_or (grown start next k) (length start + i) d ≡ next (grown start next i) i
-  grown-at zero i h = absurd (omega arith)
-  grown-at (suc k) i h =
+  pub grown_at : (k i : ℕ) → i < k → get_or (grown start next k) (length start + i) d ≡ next (grown start next i) i
+  grown_at zero i h = absurd (omega arith)
+  grown_at (suc k) i h =
       ⊎_elim
       (λ (e : i ≡ k). rw e (grown_new k))
-      (λ (l : i < k). grown_old k (length start + i) (omega arith) ∙ grown-at k i l)
+      (λ (l : i < k). grown_old k (length start + i) (omega arith) ∙ grown_at k i l)
       (eq-or-lt_of_le (le_of_suc-le-suc h))
 
   -- what is there after j elements stays
@@ -46,17 +46,17 @@ module _ {A : Type 0} (start : List A) (f : ℕ → A) (d : A) where
   pub listed_start : (k i : ℕ) → i < length start → get_or (listed start f k) i d ≡ get_or start i d
   listed_start = grown_start start (λ _ i. f i) d
 
-  pub listed-after : (k i : ℕ) → i < k → get_or (listed start f k) (length start + i) d ≡ f i
-  listed-after = grown-at start (λ _ i. f i) d
+  pub listed_after : (k i : ℕ) → i < k → get_or (listed start f k) (length start + i) d ≡ f i
+  listed_after = grown_at start (λ _ i. f i) d
 
 -- ---- listed
 
 module _ {A : Type 0} (f : ℕ → A) where
-  pub listed-length : (k : ℕ) → length (listed [] f k) ≡ k
-  listed-length k = length-grown [] (λ _ i. f i) k ∙ omega arith
+  pub listed_length : (k : ℕ) → length (listed [] f k) ≡ k
+  listed_length k = length_grown [] (λ _ i. f i) k ∙ omega arith
 
   pub listed_at : (d : A) (k i : ℕ) → i < k → get_or (listed [] f k) i d ≡ f i
-  listed_at d k i h = rw zero-add at (listed-after [] f d k i h)
+  listed_at d k i h = rw zero-add at (listed_after [] f d k i h)
 
   -- one element more
   pub listed_more : (k : ℕ) (x : A) → x ≡ f k → listed [] f k ++ (x ∷ []) ≡ listed [] f (k + 1)
@@ -75,9 +75,9 @@ listed_cons x f zero = refl
 listed_cons x f (suc k) = ap (λ l. l ++ (f k ∷ [])) (listed_cons x f k)
 
 -- a list in two parts
-pub listed-add : {A : Type 0} (f : ℕ → A) (a b : ℕ) → listed [] f (a + b) ≡ listed [] f a ++ listed [] (λ j. f (a + j)) b
+pub listed_add : {A : Type 0} (f : ℕ → A) (a b : ℕ) → listed [] f (a + b) ≡ listed [] f a ++ listed [] (λ j. f (a + j)) b
 unfolding grown
-listed-add f a zero = ap (listed [] f) (add-zero a) ∙ sym (append-nil (listed [] f a))
-listed-add {A} f a (suc b) =
+listed_add f a zero = ap (listed [] f) (add-zero a) ∙ sym (append-nil (listed [] f a))
+listed_add {A} f a (suc b) =
     let p : a + suc b ≡ suc (a + b) = omega arith in
-    ap (listed [] f) p ∙ ap (λ (l : List A). l ++ (f (a + b) ∷ [])) (listed-add f a b) ∙ append_assoc (listed [] f a) (listed [] (λ j. f (a + j)) b) (f (a + b) ∷ [])
+    ap (listed [] f) p ∙ ap (λ (l : List A). l ++ (f (a + b) ∷ [])) (listed_add f a b) ∙ append_assoc (listed [] f a) (listed [] (λ j. f (a + j)) b) (f (a + b) ∷ [])

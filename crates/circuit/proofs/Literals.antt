@@ -98,32 +98,32 @@ module _ (b : List ℕ) (h : all_outputs b ≤ gates b) where
 -- ---- operands
 
 -- an operand is of a signal before the gate
-pub operand-before : (b : List ℕ) (start g n : ℕ) → admissible b g (literal_at b start g) ≡ true → n ≡ 1 + all_inputs b + g → operand b start g / 2 < n
+pub operand_before : (b : List ℕ) (start g n : ℕ) → admissible b g (literal_at b start g) ≡ true → n ≡ 1 + all_inputs b + g → operand b start g / 2 < n
 unfolding operand
-operand-before b start g n e q = go (unconnected b g) refl
+operand_before b start g n e q = go (unconnected b g) refl
   where
     go : (x : Bool) → unconnected b g ≡ x → cond x 0 (literal_at b start g) / 2 < n
     go true u = omega arith
     go false u = omega (arith, earlier b g (literal_at b start g) u e)
 
 -- the mark is of no signal, so that it stands on unconnected outputs alone
-pub marked-left : (b : List ℕ) (g : ℕ) → CircuitHeaded b → LegalGates b → g < gates b → literal_at b (lefts_at b) g ≡ mark → unconnected b g ≡ true
-marked-left b g H L h e = beyond b g (literal_at b (lefts_at b) g) (omega (arith, H.inputs-to, H.gates-to)) ∙ L.left g h
+pub marked_left : (b : List ℕ) (g : ℕ) → CircuitHeaded b → LegalGates b → g < gates b → literal_at b (lefts_at b) g ≡ mark → unconnected b g ≡ true
+marked_left b g H L h e = beyond b g (literal_at b (lefts_at b) g) (omega (arith, H.inputs_to, H.gates_to)) ∙ L.left g h
 
 module _ (b : List ℕ) (g : ℕ) (r : Gate) (L : LegalGates b) (h : g < gates b) where
   gate_of_lem : r.left ≡ operand b (lefts_at b) g → r.right ≡ operand b (rights_at b) g → GateOf b g r
   gate_of_lem el er = record {
     left_is = el;
     right_is = er;
-    left-before = rw el (operand-before b (lefts_at b) g _ (L.left g h) refl);
-    right_before = rw er (operand-before b (rights_at b) g _ (L.right g h) refl);
+    left_before = rw el (operand_before b (lefts_at b) g _ (L.left g h) refl);
+    right_before = rw er (operand_before b (rights_at b) g _ (L.right g h) refl);
   }
 
   -- where the left literal is the mark, and where it is not
   pub gate_marked : CircuitHeaded b → literal_at b (lefts_at b) g ≡ mark → r ≡ record { left = 0; right = 0 } → GateOf b g r
   unfolding operand
   gate_marked H m e =
-      let u = marked-left b g H L h m in
+      let u = marked_left b g H L h m in
       gate_of_lem (rw (u, e)) (rw (u, e))
 
   pub gate_connected : ¬ (literal_at b (lefts_at b) g ≡ mark) → r ≡ literals_of b g → GateOf b g r

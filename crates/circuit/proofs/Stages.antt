@@ -48,7 +48,7 @@ module _ (most long : ℕ) (b : List ℕ) where
       pub product_small : s.outputs * s.frames ≤ 256
       product_small =
           let z = sized most s.inputs s.outputs s.frames p (accepts x _ p ex q) in
-          mul-le-mul z.outputs-to z.frames-to
+          mul-le-mul z.outputs_to z.frames_to
 
       -- too many frames
       pub head_long : long < s.frames → answer 2 4 ≡ head_checked most long b

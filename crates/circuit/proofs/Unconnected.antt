@@ -12,9 +12,9 @@ use Rattle.sizes.specs.Sizes.{inputs, outputs, frames}
 use Rattle.circuit.specs.Lists.{bit}
 use Rattle.circuit.specs.Circuit.{gates, all_inputs, all_outputs, gate_signal, gate_of_output, output_signal, unconnected, connects, connected_outputs, operand, input_values, literal_value, gate_value, signal_values, output_word, output_bit}
 use Rattle.circuit.specs.WellFormed.{CircuitHeaded}
-use Rattle.circuit.proofs.Bits.{bit-packed, bit_and_lem, equal-bits}
-use Rattle.circuit.proofs.Laws.{length-grown, packed_below}
-use Rattle.circuit.proofs.Lists.{grown_start, grown-at, listed_start, listed-length, listed_at}
+use Rattle.circuit.proofs.Bits.{bit_packed, bit_and_lem, equal_bits}
+use Rattle.circuit.proofs.Laws.{length_grown, packed_below}
+use Rattle.circuit.proofs.Lists.{grown_start, grown_at, listed_start, listed_length, listed_at}
 use Rattle.circuit.proofs.Ahead.{output_value}
 
 pub word_below : (b words : List ℕ) (t : ℕ) → output_word b words t < 2 ^ outputs b
@@ -25,7 +25,7 @@ word_below b words t = packed_below _ (outputs b) (simp length-take (omega arith
 
 pub start_length : (words : List ℕ) (n count : ℕ) → length (input_values words n count) ≡ 1 + count
 unfolding input_values
-start_length words n count = length-grown (false ∷ []) (λ _ i. bit (get_or words (i / n) 0) (i % n)) count
+start_length words n count = length_grown (false ∷ []) (λ _ i. bit (get_or words (i / n) 0) (i % n)) count
 
 module _ (b words : List ℕ) where
   -- the constant is false
@@ -39,7 +39,7 @@ module _ (b words : List ℕ) where
   unfolding signal_values gate_signal
   gate_value_lem k g h =
       ap (λ s. get_or (signal_values b words k) (s + g) false) (sym (start_length words (inputs b) (all_inputs b)))
-      ∙ grown-at (input_values words (inputs b) (all_inputs b)) (gate_value b) false k g h
+      ∙ grown_at (input_values words (inputs b) (all_inputs b)) (gate_value b) false k g h
 
   -- an unconnected output is false
   pub unconnected_false : (k g : ℕ) → g < k → unconnected b g ≡ true → get_or (signal_values b words k) (gate_signal b g) false ≡ false
@@ -49,13 +49,13 @@ module _ (b words : List ℕ) where
 -- ---- the connected outputs of a frame
 
 module _ (b : List ℕ) (t : ℕ) where
-  pub connected-bit : (j : ℕ) → j < outputs b → bit (connected_outputs b t) j ≡ connects b t j
+  pub connected_bit : (j : ℕ) → j < outputs b → bit (connected_outputs b t) j ≡ connects b t j
   unfolding connected_outputs
-  connected-bit j h = bit-packed _ j ∙ listed_at (connects b t) false (outputs b) j h
+  connected_bit j h = bit_packed _ j ∙ listed_at (connects b t) false (outputs b) j h
 
   pub connected_below : connected_outputs b t < 2 ^ outputs b
   unfolding connected_outputs
-  connected_below = packed_below _ (outputs b) (omega (arith, listed-length (connects b t) (outputs b)))
+  connected_below = packed_below _ (outputs b) (omega (arith, listed_length (connects b t) (outputs b)))
 
 -- an output word has no other bits
 module _ (b : List ℕ) (H : CircuitHeaded b) (words : List ℕ) (t : ℕ) (h : t < frames b) where
@@ -82,12 +82,12 @@ module _ (b : List ℕ) (H : CircuitHeaded b) (words : List ℕ) (t : ℕ) (h : 
       go : (u : Bool) → unconnected b g ≡ u → (bit (output_word b words t) j && not u) ≡ bit (output_word b words t) j
       go false q = and-true (bit (output_word b words t) j)
       go true q =
-          let e = word_bit j l ∙ unconnected_false b words (gates b) g (omega (arith, H.outputs-to, mul-suc (outputs b) t, mul-le-mul_left (outputs b) h)) q in
+          let e = word_bit j l ∙ unconnected_false b words (gates b) g (omega (arith, H.outputs_to, mul-suc (outputs b) t, mul-le-mul_left (outputs b) h)) q in
           and-false (bit (output_word b words t) j) ∙ sym e
 
   pub word_clear : bit_and (output_word b words t) (connected_outputs b t) ≡ output_word b words t
   word_clear =
       let x : ℕ = output_word b words t in
       let y : ℕ = connected_outputs b t in
-      equal-bits (outputs b) (bit_and x y) x (lt_of_le_of_lt (and_le_l x y) (word_below b words t)) (word_below b words t)
-      (λ j l. bit_and_lem x y j ∙ ap (λ u. bit x j && u) (connected-bit b t j l) ∙ clear_bit j l)
+      equal_bits (outputs b) (bit_and x y) x (lt_of_le_of_lt (and_le_l x y) (word_below b words t)) (word_below b words t)
+      (λ j l. bit_and_lem x y j ∙ ap (λ u. bit x j && u) (connected_bit b t j l) ∙ clear_bit j l)

@@ -9,7 +9,7 @@ use lib.Seq.{get_or-append-add, take-suc, take-length}
 use lib.Dec.{ltb, eqb}
 use borrow.Author.Tests.{ltb-true, ltb-false, le-ltb, eq-eqb}
 use Rattle.words.specs.Words.{word_at, word_bytes, Fit, more}
-use Rattle.words.proofs.Laws.{all_bytes-length, fit_append, fit_at, word_back}
+use Rattle.words.proofs.Laws.{all_bytes_length, fit_append, fit_at, word_back}
 use Rattle.verdict.specs.Judgements.{answer}
 use Rattle.sizes.specs.Limits.{most_inputs}
 use Rattle.sizes.specs.Sizes.{inputs, outputs, frames}
@@ -21,7 +21,7 @@ use Rattle.circuit.specs.WellFormed.{literals_of, Formed}
 use Rattle.circuit.proofs.Literals.{output_gate_lem, unmarked, beyond, of_inner}
 use Rattle.verdict.proofs.Laws.{finds_none}
 use Rattle.sizes.proofs.Laws.{not_outside, sizes_pass}
-use Rattle.circuit.proofs.Gates.{Admitted, no_gate, gate, run, run-append, closing, closed, closed-length, closed_inner, closed_output, closing-connected, closing_blank, closing_either}
+use Rattle.circuit.proofs.Gates.{Admitted, no_gate, gate, run, run-append, closing, closed, closed_length, closed_inner, closed_output, closing_connected, closing_blank, closing_either}
 
 -- ---- the literals of gates
 
@@ -31,13 +31,13 @@ lefts gs = map (λ g. g.0) gs
 pub rights : List (ℕ × ℕ) → List ℕ
 rights gs = map (λ g. g.1) gs
 
-lefts-length : (gs : List (ℕ × ℕ)) → length (lefts gs) ≡ length gs
+lefts_length : (gs : List (ℕ × ℕ)) → length (lefts gs) ≡ length gs
 unfolding lefts
-lefts-length gs = length-map gs (λ g. g.0)
+lefts_length gs = length-map gs (λ g. g.0)
 
-rights-length : (gs : List (ℕ × ℕ)) → length (rights gs) ≡ length gs
+rights_length : (gs : List (ℕ × ℕ)) → length (rights gs) ≡ length gs
 unfolding rights
-rights-length gs = length-map gs (λ g. g.1)
+rights_length gs = length-map gs (λ g. g.1)
 
 left_at : (gs : List (ℕ × ℕ)) (g : ℕ) → get_or (lefts gs) g 0 ≡ (get_or gs g (0, 0)).0
 unfolding lefts
@@ -73,8 +73,8 @@ module _
         ∙ sym (run-append meet read start (take k gs) (g ∷ []))
         ∙ ap (run meet read start) (sym (take-suc gs k (0, 0) h))
 
-    grown-run : (k : ℕ) → k ≡ length gs → grown start next k ≡ run meet read start gs
-    grown-run k q = grown_runs k (omega arith) ∙ ap (λ k. run meet read start (take k gs)) q ∙ ap (run meet read start) (take-length gs)
+    grown_run : (k : ℕ) → k ≡ length gs → grown start next k ≡ run meet read start gs
+    grown_run k q = grown_runs k (omega arith) ∙ ap (λ k. run meet read start (take k gs)) q ∙ ap (run meet read start) (take-length gs)
 
 -- ---- the bytes
 
@@ -82,18 +82,18 @@ module _ (n m T : ℕ) (gs : List (ℕ × ℕ)) where
   unfoldable pub circuit_bytes : List ℕ
   circuit_bytes = word_bytes (circuit_words n m T gs)
 
-  words-length : length (circuit_words n m T gs) ≡ 4 + 2 * length gs
+  words_length : length (circuit_words n m T gs) ≡ 4 + 2 * length gs
   unfolding circuit_words lefts rights
-  words-length = omega (arith, length-append (lefts gs) (rights gs), lefts-length gs, rights-length gs)
+  words_length = omega (arith, length-append (lefts gs) (rights gs), lefts_length gs, rights_length gs)
 
-  bytes-length : length circuit_bytes ≡ 8 + 4 * length gs
+  bytes_length : length circuit_bytes ≡ 8 + 4 * length gs
   unfolding circuit_bytes word_bytes
-  bytes-length = all_bytes-length 2 (circuit_words n m T gs) ∙ omega (arith, words-length)
+  bytes_length = all_bytes_length 2 (circuit_words n m T gs) ∙ omega (arith, words_length)
 
 -- sizes, the number of gates and literals are within the limits
 pub record Fitting (n m T : ℕ) (gs : List (ℕ × ℕ)) : Type 0 where
   pub sizes : Sized most_inputs n m T
-  pub gates-to : length gs ≤ most_wired
+  pub gates_to : length gs ≤ most_wired
   pub gates_fit : (g : ℕ) → g < length gs → ((get_or gs g (0, 0)).0 < 65536) × ((get_or gs g (0, 0)).1 < 65536)
 
 module _ {n m T : ℕ} {gs : List (ℕ × ℕ)} (F : Fitting n m T gs) where
@@ -104,14 +104,14 @@ module _ {n m T : ℕ} {gs : List (ℕ × ℕ)} (F : Fitting n m T gs) where
   unfolding circuit_words lefts rights
   words_fit =
       let Z = F.sizes in
-      let l : Fit 2 (lefts gs) = fit_at _ (λ g h. rw (left_at gs g) (F.gates_fit g (omega (arith, lefts-length gs))).0) in
-      let r : Fit 2 (rights gs) = fit_at _ (λ g h. rw (right_at gs g) (F.gates_fit g (omega (arith, rights-length gs))).1) in
-      more {x = n} (omega (arith, Z.inputs-to)) (more {x = m} (omega (arith, Z.outputs-to)) (more {x = T} (omega (arith, Z.frames-to))
-      (more {x = length gs} (omega (arith, F.gates-to)) (fit_append l r))))
+      let l : Fit 2 (lefts gs) = fit_at _ (λ g h. rw (left_at gs g) (F.gates_fit g (omega (arith, lefts_length gs))).0) in
+      let r : Fit 2 (rights gs) = fit_at _ (λ g h. rw (right_at gs g) (F.gates_fit g (omega (arith, rights_length gs))).1) in
+      more {x = n} (omega (arith, Z.inputs_to)) (more {x = m} (omega (arith, Z.outputs_to)) (more {x = T} (omega (arith, Z.frames_to))
+      (more {x = length gs} (omega (arith, F.gates_to)) (fit_append l r))))
 
   word_at_lem : (i p : ℕ) → p ≡ 2 * i → i < 4 + 2 * length gs → word_at written p ≡ get_or (circuit_words n m T gs) i 0
   unfolding circuit_bytes
-  word_at_lem i p e h = ap (word_at written) e ∙ word_back (circuit_words n m T gs) i words_fit (omega (arith, words-length n m T gs))
+  word_at_lem i p e h = ap (word_at written) e ∙ word_back (circuit_words n m T gs) i words_fit (omega (arith, words_length n m T gs))
 
   pub inputs_back : inputs written ≡ n
   unfolding inputs circuit_words
@@ -143,13 +143,13 @@ module _ {n m T : ℕ} {gs : List (ℕ × ℕ)} (F : Fitting n m T gs) where
       let p : 4 + g ≡ suc (suc (suc (suc g))) = omega arith in
       word_at_lem (4 + g) (8 + 2 * g) (omega arith) (omega arith)
       ∙ ap (λ i. get_or (circuit_words n m T gs) i 0) p
-      ∙ get_or-append (lefts gs) (rights gs) 0 g (omega (arith, lefts-length gs))
+      ∙ get_or-append (lefts gs) (rights gs) 0 g (omega (arith, lefts_length gs))
       ∙ left_at gs g
 
   rights_back : (g : ℕ) → g < length gs → literal_at written (rights_at written) g ≡ (get_or gs g (0, 0)).1
   unfolding literal_at rights_at circuit_words lefts rights
   rights_back g h =
-      let p : 4 + length gs + g ≡ suc (suc (suc (suc (length (lefts gs) + g)))) = omega (arith, lefts-length gs) in
+      let p : 4 + length gs + g ≡ suc (suc (suc (suc (length (lefts gs) + g)))) = omega (arith, lefts_length gs) in
       word_at_lem (4 + length gs + g) (8 + 2 * gates written + 2 * g) (omega (arith, gates_back)) (omega arith)
       ∙ ap (λ i. get_or (circuit_words n m T gs) i 0) p
       ∙ get_or-append-add (lefts gs) (rights gs) g 0
@@ -160,16 +160,16 @@ module _ {n m T : ℕ} {gs : List (ℕ × ℕ)} (F : Fitting n m T gs) where
     unfolding head_checked circuit_length
     head_passes =
         rw (
-          le-ltb (length written) 8 (omega (arith, bytes-length n m T gs)),
+          le-ltb (length written) 8 (omega (arith, bytes_length n m T gs)),
           inputs_back,
           outputs_back,
           frames_back,
           sizes_pass 8 n m T F.sizes,
-          le-ltb 16 T F.sizes.frames-to,
+          le-ltb 16 T F.sizes.frames_to,
           all_outputs_back,
           gates_back,
           not_outside (m * T) most_gates (length gs) enough few,
-          bytes-length n m T gs,
+          bytes_length n m T gs,
           eq-eqb (8 + 4 * length gs) (8 + 4 * length gs) refl,
         )
 
@@ -177,9 +177,9 @@ module _ {n m T : ℕ} {gs : List (ℕ × ℕ)} (F : Fitting n m T gs) where
 
 -- the literals of gate g are admissible, and r are its operands
 pub record Judged (b : List ℕ) (g : ℕ) (r : ℕ × ℕ) : Type 0 where
-  pub left-admissible : admissible b g (literal_at b (lefts_at b) g) ≡ true
+  pub left_admissible : admissible b g (literal_at b (lefts_at b) g) ≡ true
   pub right_admissible : admissible b g (literal_at b (rights_at b) g) ≡ true
-  pub left-operand : operand b (lefts_at b) g ≡ r.0
+  pub left_operand : operand b (lefts_at b) g ≡ r.0
   pub right_operand : operand b (rights_at b) g ≡ r.1
 
 module _ (b : List ℕ) (g : ℕ) (w : ℕ × ℕ) (l : literal_at b (lefts_at b) g ≡ w.0) (r : literal_at b (rights_at b) g ≡ w.1) where
@@ -189,9 +189,9 @@ module _ (b : List ℕ) (g : ℕ) (w : ℕ × ℕ) (l : literal_at b (lefts_at b
   plain_gate x o i k p q =
       let u : unconnected b g ≡ false = unmarked b g (λ e. absurd (omega arith)) in
       record {
-        left-admissible = of_inner b g (literal_at b (lefts_at b) g) (omega arith) (omega arith);
+        left_admissible = of_inner b g (literal_at b (lefts_at b) g) (omega arith) (omega arith);
         right_admissible = of_inner b g (literal_at b (rights_at b) g) (omega arith) (omega arith);
-        left-operand = rw (u, l);
+        left_operand = rw (u, l);
         right_operand = rw (u, r);
       }
 
@@ -204,9 +204,9 @@ unfolding operand
 marked_gate b g l r h k =
     let u : unconnected b g ≡ true = output_marked b g (mark, mark) l r h in
     record {
-      left-admissible = sym (beyond b g (literal_at b (lefts_at b) g) (omega arith)) ∙ u;
+      left_admissible = sym (beyond b g (literal_at b (lefts_at b) g) (omega arith)) ∙ u;
       right_admissible = sym (beyond b g (literal_at b (rights_at b) g) (omega arith)) ∙ u;
-      left-operand = rw u;
+      left_operand = rw u;
       right_operand = rw u;
     }
 
@@ -228,7 +228,7 @@ pub record Drawable (n m T : ℕ) (gs : List (ℕ × ℕ)) (c : ℕ → Bool) (l
   pub sizes : Sized most_inputs n m T
   pub inner_admitted : Admitted (1 + n * T) gs
   pub lefts_low : (q : ℕ) → q < m * T → c q ≡ true → left q < 2 * (1 + n * T + length gs)
-  pub gates-to : length gs + m * T ≤ most_wired
+  pub gates_to : length gs + m * T ≤ most_wired
 
 module _ {n m T : ℕ} {gs : List (ℕ × ℕ)} {c : ℕ → Bool} {left : ℕ → ℕ} (D : Drawable n m T gs c left) where
   -- the gates with `blank` twice for an unconnected output, and the circuit
@@ -238,34 +238,34 @@ module _ {n m T : ℕ} {gs : List (ℕ × ℕ)} {c : ℕ → Bool} {left : ℕ �
   abbrev circuit : List ℕ
   circuit = circuit_bytes n m T (all mark)
 
-  all-length : length (all mark) ≡ length gs + m * T
-  all-length = closed-length gs c left (m * T) mark
+  all_length : length (all mark) ≡ length gs + m * T
+  all_length = closed_length gs c left (m * T) mark
 
   pub fitting : Fitting n m T (all mark)
   fitting =
       let Below : ℕ × ℕ → Type 0 = λ g. (g.0 < 65536) × (g.1 < 65536) in
-      let L : length gs + m * T ≤ most_wired = D.gates-to in
+      let L : length gs + m * T ≤ most_wired = D.gates_to in
       record {
         sizes = D.sizes;
-        gates-to = omega (arith, all-length);
+        gates_to = omega (arith, all_length);
         gates_fit = λ g h.
             inner_or_output (λ g. Below (get_or (all mark) g (0, 0))) (length gs) (m * T)
-            (λ g l. rw (closed_inner gs c left (m * T) mark g l) (let a = admitted_at D.inner_admitted g l in (omega (arith, a.0, D.sizes.bits-to), omega (arith, a.1, D.sizes.bits-to))))
+            (λ g l. rw (closed_inner gs c left (m * T) mark g l) (let a = admitted_at D.inner_admitted g l in (omega (arith, a.0, D.sizes.bits_to), omega (arith, a.1, D.sizes.bits_to))))
             (λ q l. rw (closed_output gs c left (m * T) mark q l)
-            (closing_either c left mark q Below (λ e. (omega (arith, D.lefts_low q l e, D.sizes.bits-to), omega arith)) (λ e. (omega arith, omega arith))))
+            (closing_either c left mark q Below (λ e. (omega (arith, D.lefts_low q l e, D.sizes.bits_to), omega arith)) (λ e. (omega arith, omega arith))))
             g
-            (omega (arith, all-length));
+            (omega (arith, all_length));
       }
 
   inner_is : gates circuit - all_outputs circuit ≡ length gs
-  inner_is = omega (arith, gates_back fitting, all_outputs_back fitting, all-length)
+  inner_is = omega (arith, gates_back fitting, all_outputs_back fitting, all_length)
 
   -- gate g is the pair w
   left_is : (g : ℕ) (w : ℕ × ℕ) → g < length gs + m * T → get_or (all mark) g (0, 0) ≡ w → literal_at circuit (lefts_at circuit) g ≡ w.0
-  left_is g w h e = lefts_back fitting g (omega (arith, all-length)) ∙ ap (λ (w : ℕ × ℕ). w.0) e
+  left_is g w h e = lefts_back fitting g (omega (arith, all_length)) ∙ ap (λ (w : ℕ × ℕ). w.0) e
 
   right_is : (g : ℕ) (w : ℕ × ℕ) → g < length gs + m * T → get_or (all mark) g (0, 0) ≡ w → literal_at circuit (rights_at circuit) g ≡ w.1
-  right_is g w h e = rights_back fitting g (omega (arith, all-length)) ∙ ap (λ (w : ℕ × ℕ). w.1) e
+  right_is g w h e = rights_back fitting g (omega (arith, all_length)) ∙ ap (λ (w : ℕ × ℕ). w.1) e
 
   pub inner_judged : (g : ℕ) → g < length gs → Judged circuit g (get_or gs g (0, 0))
   inner_judged g h =
@@ -273,7 +273,7 @@ module _ {n m T : ℕ} {gs : List (ℕ × ℕ)} {c : ℕ → Bool} {left : ℕ �
       let e : get_or (all mark) g (0, 0) ≡ w = closed_inner gs c left (m * T) mark g h in
       let a = admitted_at D.inner_admitted g h in
       let i = all_inputs_back fitting in
-      plain_gate circuit g w (left_is g w (omega arith) e) (right_is g w (omega arith) e) (1 + n * T + g) (omega arith) (omega (arith, inner_is)) (omega (arith, D.sizes.bits-to, D.gates-to)) a.0 a.1
+      plain_gate circuit g w (left_is g w (omega arith) e) (right_is g w (omega arith) e) (1 + n * T + g) (omega arith) (omega (arith, inner_is)) (omega (arith, D.sizes.bits_to, D.gates_to)) a.0 a.1
 
   pub output_judged : (q : ℕ) → q < m * T → Judged circuit (length gs + q) (closing c left 0 q)
   output_judged q h =
@@ -283,12 +283,12 @@ module _ {n m T : ℕ} {gs : List (ℕ × ℕ)} {c : ℕ → Bool} {left : ℕ �
       closing_either c left 0 q (Judged circuit g)
       (λ t.
       let w : ℕ × ℕ = (left q, 1) in
-      let e' = e ∙ closing-connected c left mark q t in
-      plain_gate circuit g w (left_is g w (omega arith) e') (right_is g w (omega arith) e') (1 + n * T + length gs) (omega arith) (omega (arith, inner_is)) (omega (arith, D.sizes.bits-to, D.gates-to)) (D.lefts_low q h t) (omega arith))
+      let e' = e ∙ closing_connected c left mark q t in
+      plain_gate circuit g w (left_is g w (omega arith) e') (right_is g w (omega arith) e') (1 + n * T + length gs) (omega arith) (omega (arith, inner_is)) (omega (arith, D.sizes.bits_to, D.gates_to)) (D.lefts_low q h t) (omega arith))
       (λ t.
       let w : ℕ × ℕ = (mark, mark) in
       let e' = e ∙ closing_blank c left mark q t in
-      marked_gate circuit g (left_is g w (omega arith) e') (right_is g w (omega arith) e') (omega (arith, inner_is)) (omega (arith, D.sizes.bits-to, D.gates-to)))
+      marked_gate circuit g (left_is g w (omega arith) e') (right_is g w (omega arith) e') (omega (arith, inner_is)) (omega (arith, D.sizes.bits_to, D.gates_to)))
 
   judged : (g : ℕ) → g < length gs + m * T → Judged circuit g (get_or (all 0) g (0, 0))
   judged =
@@ -298,49 +298,49 @@ module _ {n m T : ℕ} {gs : List (ℕ × ℕ)} {c : ℕ → Bool} {left : ℕ �
 
   -- ---- values
 
-  pub values-run : (words : List ℕ) → signal_values circuit words (gates circuit) ≡ run ◌&&◌ literal_value (input_values words n (n * T)) (all 0)
+  pub values_run : (words : List ℕ) → signal_values circuit words (gates circuit) ≡ run ◌&&◌ literal_value (input_values words n (n * T)) (all 0)
   unfolding signal_values gate_value
-  values-run words =
-      let as_many = closed-length gs c left (m * T) 0 in
+  values_run words =
+      let as_many = closed_length gs c left (m * T) 0 in
       ap₂ (λ n k. grown (input_values words n k) (gate_value circuit) (gates circuit)) (inputs_back fitting) (all_inputs_back fitting)
-      ∙ grown-run ◌&&◌ literal_value (input_values words n (n * T)) (gate_value circuit) (all 0)
-      (λ vs g h. let J = judged g (omega arith) in ap₂ (λ l r. literal_value vs l && literal_value vs r) J.left-operand J.right_operand)
-      (gates circuit) (gates_back fitting ∙ all-length ∙ sym as_many)
+      ∙ grown_run ◌&&◌ literal_value (input_values words n (n * T)) (gate_value circuit) (all 0)
+      (λ vs g h. let J = judged g (omega arith) in ap₂ (λ l r. literal_value vs l && literal_value vs r) J.left_operand J.right_operand)
+      (gates circuit) (gates_back fitting ∙ all_length ∙ sym as_many)
 
   -- ---- the check
 
   literals_pass : (start : ℕ) → ((g : ℕ) → g < length gs + m * T → admissible circuit g (literal_at circuit start g) ≡ true) → literals_checked circuit start ≡ answer 0 0
   unfolding literals_checked
-  literals_pass start f = finds_none _ 3 _ (answer 0 0) 0 _ (λ g lo hi. ap not (f g (omega (arith, gates_back fitting, all-length))))
+  literals_pass start f = finds_none _ 3 _ (answer 0 0) 0 _ (λ g lo hi. ap not (f g (omega (arith, gates_back fitting, all_length))))
 
   -- every check but 4, where the gates are few enough
   pub form_passes : length gs + m * T ≤ most_gates → form_checked circuit ≡ answer 0 0
   unfolding form_checked form_within
   form_passes few =
       rw (
-        head_passes fitting (omega (arith, all-length)) (omega (arith, all-length)),
-        literals_pass (lefts_at circuit) (λ g h. (judged g h).left-admissible),
+        head_passes fitting (omega (arith, all_length)) (omega (arith, all_length)),
+        literals_pass (lefts_at circuit) (λ g h. (judged g h).left_admissible),
         literals_pass (rights_at circuit) (λ g h. (judged g h).right_admissible),
       )
 
   -- and all that this tells, whatever their number
   pub is_formed : Formed circuit
   is_formed =
-      let few = fitting.gates-to in
-      let wide : n * T ≤ 16 = D.sizes.bits-to in
+      let few = fitting.gates_to in
+      let wide : n * T ≤ 16 = D.sizes.bits_to in
       let sized : Sized most_inputs (inputs circuit) (outputs circuit) (frames circuit) = rw (inputs_back fitting, outputs_back fitting, frames_back fitting) D.sizes in
       record {
         head = record {
-          sizes = record { inputs_from = sized.inputs_from; inputs-to = omega (arith, sized.inputs-to); outputs_from = sized.outputs_from; outputs-to = sized.outputs-to; frames_from = sized.frames_from; frames-to = sized.frames-to; bits-to = sized.bits-to };
-          inputs-to = omega (arith, all_inputs_back fitting);
-          outputs-to = omega (arith, all_outputs_back fitting, gates_back fitting, all-length);
-          gates-to = omega (arith, gates_back fitting);
-          whole = bytes-length n m T (all mark) ∙ ap (λ k. circuit_head + 4 * k) (sym (gates_back fitting));
+          sizes = record { inputs_from = sized.inputs_from; inputs_to = omega (arith, sized.inputs_to); outputs_from = sized.outputs_from; outputs_to = sized.outputs_to; frames_from = sized.frames_from; frames_to = sized.frames_to; bits_to = sized.bits_to };
+          inputs_to = omega (arith, all_inputs_back fitting);
+          outputs_to = omega (arith, all_outputs_back fitting, gates_back fitting, all_length);
+          gates_to = omega (arith, gates_back fitting);
+          whole = bytes_length n m T (all mark) ∙ ap (λ k. circuit_head + 4 * k) (sym (gates_back fitting));
         };
         sizes = sized;
         literals = record {
-          left = λ g h. (judged g (omega (arith, gates_back fitting, all-length))).left-admissible;
-          right = λ g h. (judged g (omega (arith, gates_back fitting, all-length))).right_admissible;
+          left = λ g h. (judged g (omega (arith, gates_back fitting, all_length))).left_admissible;
+          right = λ g h. (judged g (omega (arith, gates_back fitting, all_length))).right_admissible;
         };
       }
 

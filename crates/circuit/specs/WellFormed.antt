@@ -11,9 +11,9 @@ use Rattle.circuit.specs.declared.Gate.{Gate}
 -- the sizes are within the limits, n up to 16, and the circuit is as long as they say
 pub record CircuitHeaded (b : List ℕ) : Type 0 where
   pub sizes : Sized most_bits (inputs b) (outputs b) (frames b)
-  pub inputs-to : all_inputs b ≤ most_bits
-  pub outputs-to : all_outputs b ≤ gates b
-  pub gates-to : gates b ≤ most_wired
+  pub inputs_to : all_inputs b ≤ most_bits
+  pub outputs_to : all_outputs b ≤ gates b
+  pub gates_to : gates b ≤ most_wired
   pub whole : length b ≡ circuit_head + 4 * gates b
 
 -- h holds the sizes of b
@@ -55,5 +55,5 @@ literals_of b g = record { left = literal_at b (lefts_at b) g; right = literal_a
 pub record GateOf (b : List ℕ) (g : ℕ) (r : Gate) : Type 0 where
   pub left_is : r.left ≡ operand b (lefts_at b) g
   pub right_is : r.right ≡ operand b (rights_at b) g
-  pub left-before : r.left / 2 < 1 + all_inputs b + g
+  pub left_before : r.left / 2 < 1 + all_inputs b + g
   pub right_before : r.right / 2 < 1 + all_inputs b + g

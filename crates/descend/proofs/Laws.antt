@@ -87,8 +87,8 @@ pow_under : (m n : ℕ) → 2 ^ m < 2 ^ n → m < n
 pow_under m n l = ⊎_elim (λ l. l) (λ b. absurd (omega (arith, l, pow_mono b))) (below m n)
 
 -- a power of two tells its exponent
-pow-same : (m n : ℕ) → 2 ^ m ≡ 2 ^ n → m ≡ n
-pow-same m n e = ⊎_elim (λ l. absurd (omega (arith, e, pow-lt l))) (λ b. ⊎_elim (λ l. absurd (omega (arith, e, pow-lt l))) (λ c. omega arith) (below n m)) (below m n)
+pow_same : (m n : ℕ) → 2 ^ m ≡ 2 ^ n → m ≡ n
+pow_same m n e = ⊎_elim (λ l. absurd (omega (arith, e, pow-lt l))) (λ b. ⊎_elim (λ l. absurd (omega (arith, e, pow-lt l))) (λ c. omega arith) (below n m)) (below m n)
 
 -- the words of i bits, at their places, of which those below w are split into words of one bit more
 module _ (D : Nodes) (l f n : ℕ) (place : ℕ → ℕ) (single : (u v : ℕ) → place u ≡ place v → u ≡ v) (ws : List ℕ) (inside : (v : ℕ) → v < 2 ^ n → place v < length ws) where
@@ -207,13 +207,13 @@ module _ (ns : List Node) (ws : List ℕ) (f : ℕ) (s : Spread) (p : Expandable
       let d : u * s.stride + 0 ≡ v * s.stride + 0 = omega (arith, e) in
       sym (digits_div u p.apart) ∙ ap (λ x. x / s.stride) d ∙ digits_div v p.apart
 
-  place-next : (v : ℕ) → place v + s.stride ≡ place (v + 1)
-  place-next v = omega arith
+  place_next : (v : ℕ) → place v + s.stride ≡ place (v + 1)
+  place_next v = omega arith
 
   pub place_inside : (v : ℕ) → v < 2 ^ n → place v < length ws
   place_inside v l =
       let b : (v + 1) * s.stride ≤ s.size * s.stride = mul-le-mul_right s.stride (omega (arith, l, p.size_is)) in
-      omega (arith, b, p.within, place-next v)
+      omega (arith, b, p.within, place_next v)
 
   abbrev Halved : (i w : ℕ) (ms : List ℕ) → Type 0
   Halved = Half (nodes_in ns) s.level f n place place_single ws place_inside
@@ -303,10 +303,10 @@ module _ (ns : List Node) (ws : List ℕ) (f : ℕ) (s : Spread) (p : Expandable
             subst (Halved i (w + 1)) (sym z) (half_split (nodes_in ns) s.level f n place place_single ws place_inside i w ms g.half g.word_in early)
 
         low_next : c.low + s.stride ≡ place (w + 1)
-        low_next = ap (λ j. j + s.stride) g.low_is ∙ place-next w
+        low_next = ap (λ j. j + s.stride) g.low_is ∙ place_next w
 
         high_next : c.high + s.stride ≡ place (w + 2 ^ i + 1)
-        high_next = ap (λ j. j + s.stride) g.high_is ∙ place-next (w + 2 ^ i)
+        high_next = ap (λ j. j + s.stride) g.high_is ∙ place_next (w + 2 ^ i)
 
         turned : w + 1 ≡ 2 ^ i → Going r zs
         turned e =
@@ -353,7 +353,7 @@ module _ (ns : List Node) (ws : List ℕ) (f : ℕ) (s : Spread) (p : Expandable
   pub going_ends : (c : Cursor) (ms : List ℕ) → Going c ms → s.size ≤ c.count → Expanded ns ws f s ms
   going_ends c ms g over = record {
     leads = λ m v e l.
-        let same : m ≡ n = pow-same m n (sym e ∙ p.size_is) in
+        let same : m ≡ n = pow_same m n (sym e ∙ p.size_is) in
         g.half.rest_is v (omega (arith, last)) (omega (arith, l, p.size_is, ap (λ k. 2 ^ k) all)) ∙ ap (λ k. follow (nodes_in ns) s.level (word_bits k v) f) (all ∙ sym same);
     kept = λ j d. g.half.other_is j (λ v l. d v (omega (arith, l, p.size_is)));
   }
@@ -442,8 +442,8 @@ module _ (ns : List Node) (ws : List ℕ) (job : Job) (t : Traceable ns ws job) 
               ap (λ j. get_or zs j 0) (sym (place_is w)) ∙ x.leads t.bits w (s-is.1 ∙ t.fan_is) (omega (arith, s-is.1, l))
               ∙ ap₂ (λ l f. follow (nodes_in ns) l (word_bits t.bits w) f) (sym e) (f-is ∙ ap (follow (nodes_in ns) 1 (word_bits job.top job.path)) (id_is ∙ same))
 
-          last-place : (w : ℕ) → w < s.size → s.at + w * s.stride < job.at + job.fan * job.count
-          last-place w l =
+          last_place : (w : ℕ) → w < s.size → s.at + w * s.stride < job.at + job.fan * job.count
+          last_place w l =
               let b : (w + 1) * job.count ≤ job.fan * job.count = mul-le-mul_right job.count (omega (arith, l, s-is.1)) in
               omega (arith, b, place_is w, less)
 
@@ -453,13 +453,13 @@ module _ (ns : List Node) (ws : List ℕ) (job : Job) (t : Traceable ns ws job) 
             leads = λ w k l m. ⊎_elim (λ e. subst (λ k. get_or zs (job.at + w * job.count + k) 0 ≡ reached k w) (sym e) (here w l))
                 (λ b. x.kept (job.at + w * job.count + k) (λ v a. column w v k b) ∙ g.leads w k l b) (eq-or-lt_of_le {n = k} {m = i} (omega arith));
             before = λ j l. x.kept j (λ v a e. omega (arith, e, place_is v, l)) ∙ g.before j l;
-            after = λ j l. x.kept j (λ v a e. omega (arith, e, last-place v a, l)) ∙ g.after j l;
+            after = λ j l. x.kept j (λ v a e. omega (arith, e, last_place v a, l)) ∙ g.after j l;
           }
 
   pub tracing_ends : (i : ℕ) (ms : List ℕ) → Tracing i ms → job.count ≤ i → Traced ns ws job ms
   tracing_ends i ms g over = record {
     leads = λ m w k e l b.
-        let same : m ≡ t.bits = pow-same m t.bits (sym e ∙ t.fan_is) in
+        let same : m ≡ t.bits = pow_same m t.bits (sym e ∙ t.fan_is) in
         g.leads w k l (omega (arith, b, over)) ∙ ap (λ m. follow (nodes_in ns) (suc job.top) (word_bits m w) (follow (nodes_in ns) 1 (word_bits job.top job.path) (get_or ws (job.from + k) 0))) (sym same);
     before = g.before;
     after = g.after;

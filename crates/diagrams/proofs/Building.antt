@@ -10,7 +10,7 @@ use lib.Dec.{T, eqb, ltb, ltb→lt, lt→ltb}
 use lib.ListN.{length, get_or, set}
 use lib.Seq.{get_or-set_same, get_or-set_other}
 use Rattle.layered.specs.Search.{tally}
-use Rattle.layered.proofs.Search.{tally_at_most, tally_le, tally-more, least_here, least-none}
+use Rattle.layered.proofs.Search.{tally_at_most, tally_le, tally_more, least_here, least_none}
 use Rattle.layered.proofs.Lists.{total_mono}
 use Rattle.diagrams.specs.Diagrams.{Nodes, value, Denotes, Cofactor, Grown, conjunction}
 use Rattle.diagrams.specs.Making
@@ -18,10 +18,10 @@ use Rattle.diagrams.specs.Making.{Made, Overfull, Table, Laid, Joined, Conjoined
 use Rattle.diagrams.specs.Counts.{is_node, nodes_at, nodes_of}
 use Rattle.diagrams.specs.Theorems.{used, Holds, Within}
 use Rattle.diagrams.specs.Building.{signal, literal, Family, first_over, Built}
-use Rattle.diagrams.proofs.Growth.{decide, value_kept, cofactor_kept, grown-none}
-use Rattle.diagrams.proofs.Making.{made-same, made_down, overfull_same, overfull_down, made_found, made-added, made_lacking, low_under, constant_value}
+use Rattle.diagrams.proofs.Growth.{decide, value_kept, cofactor_kept, grown_none}
+use Rattle.diagrams.proofs.Making.{made_same, made_down, overfull_same, overfull_down, made_found, made_added, made_lacking, low_under, constant_value}
 use Rattle.diagrams.proofs.Probing.{table_added}
-use Rattle.diagrams.proofs.Counted.{counted_fewer, counted-more}
+use Rattle.diagrams.proofs.Counted.{counted_fewer, counted_more}
 
 -- ---- the outcome of making the function H from level l on
 
@@ -39,14 +39,14 @@ outcome_down N R l p m H J b D E r O =
 pub outcome_of_lem : (N R l : ℕ) (H : List Bool → Bool) (D E : Nodes) (f : ℕ) (a : Bool) (g : ℕ) (b : Bool) (r : ℕ)
     → ((vs : List Bool) → length vs + l ≡ suc N → conjunction D l f a g b vs ≡ H vs) → Conjoined N R l D E f a g b r → Outcome N R l H D E r
 outcome_of_lem N R l H D E f a g b r s C =
-    record { table = C.table; made = λ n. made-same N l _ H D E r s (C.made n); full = λ e. overfull_same N R l _ H D s (C.full e) }
+    record { table = C.table; made = λ n. made_same N l _ H D E r s (C.made n); full = λ e. overfull_same N R l _ H D s (C.full e) }
 
 -- ---- an input
 
 module _ (N R : ℕ) (D : Nodes) (table : Table N R D) (room : R + 2 < no_id) where
   constant_made : (k r : ℕ) → 0 < k → k ≤ suc N → r < 2 → Made N k (λ vs. eqb r 1) D D r
   unfolding Denotes
-  constant_made k r p m b = record { grown = grown-none N k _ D table.reduced; under = under r b; is = λ vs e. constant_value N D table.reduced vs k r b p e }
+  constant_made k r p m b = record { grown = grown_none N k _ D table.reduced; under = under r b; is = λ vs e. constant_value N D table.reduced vs k r b p e }
     where
       under : (r : ℕ) → r < 2 → k ≤ D.level r
       under zero b = omega (arith, table.reduced.constants)
@@ -69,7 +69,7 @@ module _ (N R : ℕ) (D : Nodes) (table : Table N R D) (room : R + 2 < no_id) wh
         (record { table = λ _. table; made = λ _. made_found N l pos most (λ vs. get_or vs 0 false) D D 0 low D 1 high r i j k; full = λ e. absurd (omega arith) })
     input_node E r (Making.added n p two b z t P A) = record {
       table = λ _. table_added N R D E r l 0 1 table A two b z pos most (low_under N l pos most (λ vs. get_or vs 0 false) D D 0 low D 1 high) high.under p t P;
-      made = λ _. made-added N l pos most (λ vs. get_or vs 0 false) D D 0 low D 1 high p t E r A two z;
+      made = λ _. made_added N l pos most (λ vs. get_or vs 0 false) D D 0 low D 1 high p t E r A two z;
       full = λ e. absurd (omega arith);
     }
     input_node E r (Making.lacking n p d f t) = record {
@@ -90,7 +90,7 @@ module _ (N R : ℕ) (D : Nodes) (table : Table N R D) (room : R + 2 < no_id) wh
 all_taken : (p : ℕ → Bool) (n : ℕ) → ((i : ℕ) → i < n → T (p i)) → tally n p ≡ n
 unfolding tally
 all_taken p zero f = refl
-all_taken p (suc n) f = omega (arith, tally-more p n (f n (le_refl _)), all_taken p n (λ i h. f i (omega arith)))
+all_taken p (suc n) f = omega (arith, tally_more p n (f n (le_refl _)), all_taken p n (λ i h. f i (omega arith)))
 
 module _ (N M R : ℕ) (F : ℕ → List Bool → Bool) (D : Nodes) (ids : List ℕ) (B : Built N M R F D ids) where
   -- what a list that has grown by F M holds
@@ -134,7 +134,7 @@ module _ (N M R : ℕ) (F : ℕ → List Bool → Bool) (D : Nodes) (ids : List 
   unfolding used
   built_over O =
       let w = within_more O.nodes O.grown in
-      omega (arith, counted-more N (suc M) (suc R) F O.nodes O.grown.reduced w, all_taken (λ i. ltb 0 (O.nodes.level (i + 2))) (suc R) (λ i h. lt→ltb 0 (O.nodes.level (i + 2)) (O.many (i + 2) (omega arith))))
+      omega (arith, counted_more N (suc M) (suc R) F O.nodes O.grown.reduced w, all_taken (λ i. ltb 0 (O.nodes.level (i + 2))) (suc R) (λ i h. lt→ltb 0 (O.nodes.level (i + 2)) (O.many (i + 2) (omega arith))))
 
 -- ---- the first gate with too many nodes
 
@@ -156,7 +156,7 @@ module _ (N R G : ℕ) (F : ℕ → List Bool → Bool) where
   unfolding first_over
   over_none few =
       let e : G + 1 ≡ suc G = omega arith in
-      e ∙ sym (least-none (suc G) _ (λ k b t. omega (arith, ltb→lt R (nodes_of N (N + k) F) t, nodes_grow N (N + k) (N + G) F (omega arith))))
+      e ∙ sym (least_none (suc G) _ (λ k b t. omega (arith, ltb→lt R (nodes_of N (N + k) F) t, nodes_grow N (N + k) (N + G) F (omega arith))))
 
 -- ---- a gate
 
@@ -208,7 +208,7 @@ built_none N R F D ids c none e = record {
 
 pub outcome_same : (N R l : ℕ) (H J : List Bool → Bool) (D E : Nodes) (r : ℕ) → ((vs : List Bool) → length vs + l ≡ suc N → H vs ≡ J vs) → Outcome N R l H D E r → Outcome N R l J D E r
 outcome_same N R l H J D E r s O =
-    record { table = O.table; made = λ n. made-same N l H J D E r s (O.made n); full = λ e. overfull_same N R l H J D s (O.full e) }
+    record { table = O.table; made = λ n. made_same N l H J D E r s (O.made n); full = λ e. overfull_same N R l H J D s (O.full e) }
 
 -- ---- an input more, and a gate more
 

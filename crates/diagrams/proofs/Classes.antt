@@ -10,8 +10,8 @@ use lib.Pow.{pow_pos}
 use lib.Dec.{T as Yes, eqb, eqb→eq}
 use Rattle.layered.specs.Search.{every, tally}
 use Rattle.layered.specs.States.{Equivalent, first, count, number, history}
-use Rattle.layered.proofs.Search.{eq-eqb, iff_eq, every-all, all-every, tally_cong}
-use Rattle.layered.proofs.States.{equivalent_refl, equivalent_sym, equivalent_trans, smallest-least, number_decides, number_below, history_is, history-least}
+use Rattle.layered.proofs.Search.{eq-eqb, iff_eq, every_all, all_every, tally_cong}
+use Rattle.layered.proofs.States.{equivalent_refl, equivalent_sym, equivalent_trans, smallest_least, number_decides, number_below, history_is, history_least}
 use Rattle.diagrams.specs.Diagrams.{Nodes, follow, Reduced}
 use Rattle.diagrams.specs.Theorems.{Holds}
 use Rattle.diagrams.specs.Frames.{word_bits, history_bits, Responds, StatesByCut}
@@ -22,7 +22,7 @@ use Rattle.diagrams.specs.Leads.{lead, same_leads, LeadsTell}
 use Rattle.diagrams.proofs.Frames.{states_by_cut}
 use Rattle.diagrams.proofs.Forward.{cand_in, first_is, in_forward_order}
 use Rattle.diagrams.proofs.Numbering.{new_decides, Equivalence, first_below, first-same, first_new}
-use Rattle.diagrams.proofs.Paths.{path_bits, follow-next}
+use Rattle.diagrams.proofs.Paths.{path_bits, follow_next}
 
 -- ---- candidates by a test
 
@@ -69,8 +69,8 @@ module _ (K T : ℕ) (y : ℕ → ℕ → ℕ) (t : ℕ) (same : ℕ → ℕ →
       let s = number K T y (suc t) h in
       let i = history_is K T y (suc t) s (number_below K T y (suc t) h l) in
       le_antisymm
-      (history-least K T y (suc t) s h l refl)
-      (omega (arith, first_is K T y t pos last h f, smallest-least K T y (suc t) (history K T y (suc t) s) h ((number_decides K T y (suc t) (history K T y (suc t) s) h).0 i.1)))
+      (history_least K T y (suc t) s h l refl)
+      (omega (arith, first_is K T y t pos last h f, smallest_least K T y (suc t) (history K T y (suc t) s) h ((number_decides K T y (suc t) (history K T y (suc t) s) h).0 i.1)))
 
   class_history : (c : ℕ) → c < count K T y t * K → Yes (is_new same c) → history K T y (suc t) (number_same same c) ≡ candidate K T y t c
   class_history c l n = ap (history K T y (suc t)) (class_number c l) ∙ history_own (candidate K T y t c) (cand_in K T y t pos last c l) (subst Yes (new_first c l) n)
@@ -83,10 +83,10 @@ states_by_classes K T y t same pos last tells =
 -- ---- candidates by where they lead
 
 -- from where its state leads, by its word
-pub lead-next : (n m T : ℕ) (y : ℕ → ℕ → ℕ) (D : Nodes) (root : ℕ → ℕ) (t c i : ℕ)
+pub lead_next : (n m T : ℕ) (y : ℕ → ℕ → ℕ) (D : Nodes) (root : ℕ → ℕ) (t c i : ℕ)
     → lead n m T y D root t c i ≡ follow D (suc (n * t)) (word_bits n (c % 2 ^ n)) (follow D 1 (word_bits (n * t) (path_of n t (history (2 ^ n) T y t (c / 2 ^ n)))) (root (m * suc t + i)))
 unfolding lead candidate
-lead-next n m T y D root t c i = follow-next D n t (history (2 ^ n) T y t (c / 2 ^ n)) (c % 2 ^ n) (root (m * suc t + i)) (mod-lt c (pow_pos n))
+lead_next n m T y D root t c i = follow_next D n t (history (2 ^ n) T y t (c / 2 ^ n)) (c % 2 ^ n) (root (m * suc t + i)) (mod-lt c (pow_pos n))
 
 module _ (n m T : ℕ) (y : ℕ → ℕ → ℕ) (F : ℕ → List Bool → Bool) (D : Nodes) (root : ℕ → ℕ) (red : Reduced (n * T) D) (holds : Holds (n * T) (m * T) F D root) (R : Responds n m T y F) (t : ℕ) (last : t < T) where
   -- as the cut has it
@@ -111,11 +111,11 @@ module _ (n m T : ℕ) (y : ℕ → ℕ → ℕ) (F : ℕ → List Bool → Bool
       there s = cut.1 λ o a b.
           let i : ℕ = o - m * suc t in
           let e : m * suc t + i ≡ o = omega arith in
-          let q : lead n m T y D root t d i ≡ lead n m T y D root t c i = eqb→eq _ _ (every-all _ (m * T - m * suc t) s i (omega arith)) in
+          let q : lead n m T y D root t d i ≡ lead n m T y D root t c i = eqb→eq _ _ (every_all _ (m * T - m * suc t) s i (omega arith)) in
           subst (λ o. follow D 1 (history_bits n (suc t) g) (root o) ≡ follow D 1 (history_bits n (suc t) h) (root o)) e (sym (lead_is d i) ∙ q ∙ lead_is c i)
 
       back : Equivalent (2 ^ n) T y (suc t) g h → Yes (every (m * T - m * suc t) (λ i. eqb (lead n m T y D root t d i) (lead n m T y D root t c i)))
-      back E = all-every _ (m * T - m * suc t) λ i l. eq-eqb (lead_is d i ∙ cut.0 E (m * suc t + i) (omega arith) (omega arith) ∙ sym (lead_is c i))
+      back E = all_every _ (m * T - m * suc t) λ i l. eq-eqb (lead_is d i ∙ cut.0 E (m * suc t + i) (omega arith) (omega arith) ∙ sym (lead_is c i))
 
 pub leads_tell : LeadsTell
 unfolding LeadsTell

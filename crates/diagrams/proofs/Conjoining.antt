@@ -11,8 +11,8 @@ use Rattle.diagrams.specs.Diagrams.{Nodes, value, Reduced, Denotes, Grown, conju
 use Rattle.diagrams.specs.Making
 use Rattle.diagrams.specs.Making.{Made, Table, no_id, Joined, Known, Halved, Conjoined}
 use Rattle.diagrams.proofs.Laws.{branch_below}
-use Rattle.diagrams.proofs.Growth.{grown-none, added-grown}
-use Rattle.diagrams.proofs.Making.{made-same, made_down, overfull_same, overfull_down, overfull_low, overfull_high, low_under, low_is, made_one, made_found, made-added, made_lacking, constant_value, conjunction_past, conjunction_kept}
+use Rattle.diagrams.proofs.Growth.{grown_none, added_grown}
+use Rattle.diagrams.proofs.Making.{made_same, made_down, overfull_same, overfull_down, overfull_low, overfull_high, low_under, low_is, made_one, made_found, made_added, made_lacking, constant_value, conjunction_past, conjunction_kept}
 use Rattle.diagrams.proofs.Probing.{table_added}
 
 -- ---- what is known at once
@@ -61,7 +61,7 @@ module _ (N R l : ℕ) (D : Nodes) (table : Table N R D) (pos : 0 < l) (f : ℕ)
 
   -- an id that is there, and is the AND
   there_already : (r : ℕ) → r ≢ no_id → l ≤ D.level r → Denotes N D l r (conjunction D l f a g b) → Conjoined N R l D D f a g b r
-  there_already r n u d = record { table = λ _. table; made = λ _. record { grown = grown-none N l _ D table.reduced; under = u; is = d }; full = λ e. absurd (n e) }
+  there_already r n u d = record { table = λ _. table; made = λ _. record { grown = grown_none N l _ D table.reduced; under = u; is = d }; full = λ e. absurd (n e) }
 
   constant_under : (r : ℕ) → r < 2 → l ≤ suc N → l ≤ D.level r
   constant_under zero b m = omega (arith, table.reduced.constants)
@@ -153,7 +153,7 @@ module _ (N R l : ℕ) (D : Nodes) (table : Table N R D) (pos : 0 < l) (f : ℕ)
       -- the low half is made
       module _ (is : x ≢ no_id) where
         low_made : Made N (suc l) (λ vs. conjunction D l f a g b (false ∷ vs)) D C x
-        low_made = made-same N (suc l) _ _ D C x low_half (low.made is)
+        low_made = made_same N (suc l) _ _ D C x low_half (low.made is)
 
         pub high_ready : (l < C.level fh) × (l < C.level gh)
         high_ready =
@@ -170,7 +170,7 @@ module _ (N R l : ℕ) (D : Nodes) (table : Table N R D) (pos : 0 < l) (f : ℕ)
               ∙ ap₂ (λ f g. conjunction D (suc l) f a g b vs) halved.f_high_is halved.g_high_is
 
           high_made : y ≢ no_id → Made N (suc l) (λ vs. conjunction D l f a g b (true ∷ vs)) C E y
-          high_made n = made-same N (suc l) _ _ C E y high_half (high.made n)
+          high_made n = made_same N (suc l) _ _ C E y high_half (high.made n)
 
           -- what is needed to join the two
           pub join_ready : y ≢ no_id → (Table N R E) × (l < E.level x) × (l < E.level y)
@@ -200,7 +200,7 @@ module _ (N R l : ℕ) (D : Nodes) (table : Table N R D) (pos : 0 < l) (f : ℕ)
               let J = join_ready n in
               record {
                 table = λ _. table_added N R E G r l x y J.0 A two m z pos most J.1 J.2 p t P;
-                made = λ _. made-added N l pos most (conjunction D l f a g b) D C x low_made E y (high_made n) p t G r A two z;
+                made = λ _. made_added N l pos most (conjunction D l f a g b) D C x low_made E y (high_made n) p t G r A two z;
                 full = λ z. absurd (omega arith);
               }
           conjoined room G r (Making.lacking n p d full t) = record {
@@ -212,11 +212,11 @@ module _ (N R l : ℕ) (D : Nodes) (table : Table N R D) (pos : 0 < l) (f : ℕ)
           -- the list that was joined to has grown
           pub joined_grown : (G : Nodes) (r : ℕ) → Joined R E G l x y r → r ≢ no_id → Grown N l (conjunction D l f a g b) E G
           joined_grown G r (Making.nothing e d) q = absurd (q d)
-          joined_grown G r (Making.one n e d z) q = subst (Grown N l (conjunction D l f a g b) E) (sym z) (grown-none N l _ E (high.table n).reduced)
-          joined_grown G r (Making.found n m z i j k) q = subst (Grown N l (conjunction D l f a g b) E) (sym z) (grown-none N l _ E (high.table n).reduced)
+          joined_grown G r (Making.one n e d z) q = subst (Grown N l (conjunction D l f a g b) E) (sym z) (grown_none N l _ E (high.table n).reduced)
+          joined_grown G r (Making.found n m z i j k) q = subst (Grown N l (conjunction D l f a g b) E) (sym z) (grown_none N l _ E (high.table n).reduced)
           joined_grown G r (Making.added n p two m z t P A) q =
               let J = join_ready n in
-              added-grown N E G J.0.reduced r l x y A two z pos most J.1 J.2 p t (conjunction D l f a g b) (low_is N l pos most (conjunction D l f a g b) D C x low_made E y (high_made n)) (high_made n).is
+              added_grown N E G J.0.reduced r l x y A two z pos most J.1 J.2 p t (conjunction D l f a g b) (low_is N l pos most (conjunction D l f a g b) D C x low_made E y (high_made n)) (high_made n).is
           joined_grown G r (Making.lacking n p d f t) q = absurd (q d)
 
 -- ---- seen from a level above

@@ -8,7 +8,7 @@ use native.Mathlib.Omega.{arith}
 use lib.ListN.{length, length-append}
 use Rattle.diagrams.specs.Diagrams.{Nodes, value, follow, Reduced, Denotes}
 use Rattle.diagrams.specs.Theorems.{Holds, Cut}
-use Rattle.diagrams.proofs.Laws.{value-follow, follow_below}
+use Rattle.diagrams.proofs.Laws.{value_follow, follow_below}
 use Rattle.diagrams.proofs.Canonical.{alike_equal}
 
 module _ (N M : ℕ) (F : ℕ → List Bool → Bool) (D : Nodes) (root : ℕ → ℕ) (red : Reduced N D) (holds : Holds N M F D root) (s : ℕ) (b : s < M) where
@@ -16,7 +16,7 @@ module _ (N M : ℕ) (F : ℕ → List Bool → Bool) (D : Nodes) (root : ℕ �
   pub left_over : (ps vs : List Bool) (k : ℕ) → length ps + 1 ≡ k → length vs + k ≡ suc N → value D k vs (follow D 1 ps (root s)) ≡ F s (ps ++ vs)
   unfolding Holds Denotes
   left_over ps vs k e d =
-      ap (λ k. value D k vs (follow D 1 ps (root s))) (sym e) ∙ sym (value-follow D 1 ps vs (root s)) ∙ (holds s b).1 (ps ++ vs) (omega (arith, length-append ps vs))
+      ap (λ k. value D k vs (follow D 1 ps (root s))) (sym e) ∙ sym (value_follow D 1 ps vs (root s)) ∙ (holds s b).1 (ps ++ vs) (omega (arith, length-append ps vs))
 
   pub reach : (ps : List Bool) → length ps ≤ N → length ps + 1 ≤ D.level (follow D 1 ps (root s))
   unfolding Holds

@@ -9,7 +9,7 @@ use lib.Dec.{T as Yes, eqb→eq}
 use Rattle.layered.specs.Search.{tally}
 use Rattle.layered.specs.States.{Equivalent, smallest, first, count, number, history}
 use Rattle.layered.proofs.Search.{eq-eqb}
-use Rattle.layered.proofs.States.{equivalent_step, smallest_is, smallest_le, smallest-least, first-smallest, number_decides, number_below, history_is, history-least, number_order}
+use Rattle.layered.proofs.States.{equivalent_step, smallest_is, smallest_le, smallest_least, first_smallest, number_decides, number_below, history_is, history_least, number_order}
 use Rattle.diagrams.specs.Forward.{candidate, InForwardOrder}
 use Rattle.diagrams.proofs.Growth.{decide}
 use Rattle.diagrams.proofs.Tallies.{tally_into}
@@ -22,7 +22,7 @@ module _ (K T : ℕ) (y : ℕ → ℕ → ℕ) (t : ℕ) (pos : 0 < K) (last : t
   own_least s k l E =
       let h = history_is K T y t s l in
       let n : number K T y t k ≡ s = (number_decides K T y t k (history K T y t s)).1 E ∙ h.1 in
-      let c : ¬ (k < history K T y t s) = λ b. omega (arith, history-least K T y t s k (omega (arith, h.0)) n) in
+      let c : ¬ (k < history K T y t s) = λ b. omega (arith, history_least K T y t s k (omega (arith, h.0)) n) in
       omega arith
 
   histories_grow : (r s : ℕ) → r < s → s < count K T y t → history K T y t r < history K T y t s
@@ -86,14 +86,14 @@ module _ (K T : ℕ) (y : ℕ → ℕ → ℕ) (t : ℕ) (pos : 0 < K) (last : t
       let ql : q < K ^ t = (div-lt_iff_lt-mul pos).1 (rw pow-suc at l) in
       let p = smallest K T y t q in
       let E = (equivalent_step K T y t p q w last wl (smallest_is K T y t q)).1 in
-      let u : smallest K T y (suc t) (q * K + w) ≤ p * K + w = smallest-least K T y (suc t) (p * K + w) (q * K + w) E in
+      let u : smallest K T y (suc t) (q * K + w) ≤ p * K + w = smallest_least K T y (suc t) (p * K + w) (q * K + w) E in
       let v : smallest K T y (suc t) (q * K + w) ≡ h = ap (smallest K T y (suc t)) e ∙ eqb→eq _ h f in
       let d : ¬ (p < q) = λ k. omega (arith, digits_lt {c = K} k wl, u, v, e) in
       let s = number K T y t q in
       let sl : s < count K T y t = number_below K T y t q ql in
       let hs = history_is K T y t s sl in
-      let a : history K T y t s ≤ q = history-least K T y t s q ql refl in
-      let b : p ≤ history K T y t s = smallest-least K T y t (history K T y t s) q ((number_decides K T y t (history K T y t s) q).0 hs.1) in
+      let a : history K T y t s ≤ q = history_least K T y t s q ql refl in
+      let b : p ≤ history K T y t s = smallest_least K T y t (history K T y t s) q ((number_decides K T y t (history K T y t s) q).0 hs.1) in
       let same : history K T y t s ≡ q = omega arith in
       let dv : (s * K + w) / K ≡ s = digits_div s wl in
       let md : (s * K + w) % K ≡ w = digits_mod s wl in
@@ -116,7 +116,7 @@ module _ (K T : ℕ) (y : ℕ → ℕ → ℕ) (t : ℕ) (pos : 0 < K) (last : t
   is_new_lem : (c : ℕ) → c < count K T y t * K → Yes (first K T y (suc t) (candidate K T y t c)) → (d : ℕ) → d < c → Equivalent K T y (suc t) (candidate K T y t d) (candidate K T y t c) → ⊥
   unfolding first
   is_new_lem c l f d b E =
-      omega (arith, smallest-least K T y (suc t) (candidate K T y t d) (candidate K T y t c) E, eqb→eq (smallest K T y (suc t) (candidate K T y t c)) (candidate K T y t c) f, cands_grow d c b l)
+      omega (arith, smallest_least K T y (suc t) (candidate K T y t d) (candidate K T y t c) E, eqb→eq (smallest K T y (suc t) (candidate K T y t c)) (candidate K T y t c) f, cands_grow d c b l)
 
   is_first : (c : ℕ) → c < count K T y t * K → ((d : ℕ) → d < c → Equivalent K T y (suc t) (candidate K T y t d) (candidate K T y t c) → ⊥) → Yes (first K T y (suc t) (candidate K T y t c))
   unfolding first
@@ -125,7 +125,7 @@ module _ (K T : ℕ) (y : ℕ → ℕ → ℕ) (t : ℕ) (pos : 0 < K) (last : t
       let g = smallest K T y (suc t) h in
       let le = smallest_le K T y (suc t) h in
       let E = smallest_is K T y (suc t) h in
-      let r = covers g (omega (arith, le, cand_in c l)) (first-smallest K T y (suc t) h) in
+      let r = covers g (omega (arith, le, cand_in c l)) (first_smallest K T y (suc t) h) in
       let n : ¬ (r.0 < c) = λ b. none r.0 b (subst (λ g. Equivalent K T y (suc t) g h) (sym r.2) E) in
       let k : ¬ (g < h) = λ b. ⊎_elim (λ e. omega (arith, ap (candidate K T y t) e, r.2)) (λ m. omega (arith, cands_grow c r.0 (omega arith) r.1, r.2)) (decide r.0 c) in
       let e : g ≡ h = omega arith in

@@ -23,15 +23,15 @@ unfolding word_bits
 word_length zero w = refl
 word_length (suc n) w = ap suc (word_length n (w / 2))
 
-pub history-length : (n t h : ℕ) → length (history_bits n t h) ≡ n * t
+pub history_length : (n t h : ℕ) → length (history_bits n t h) ≡ n * t
 unfolding history_bits
-history-length n zero h = omega arith
-history-length n (suc t) h = length-append (history_bits n t (h / 2 ^ n)) _ ∙ omega (arith, history-length n t (h / 2 ^ n), word_length n (h % 2 ^ n), mul-suc n t)
+history_length n zero h = omega arith
+history_length n (suc t) h = length-append (history_bits n t (h / 2 ^ n)) _ ∙ omega (arith, history_length n t (h / 2 ^ n), word_length n (h % 2 ^ n), mul-suc n t)
 
 -- a word more
-pub history-more : (n t h w : ℕ) → w < 2 ^ n → history_bits n (suc t) (h * 2 ^ n + w) ≡ history_bits n t h ++ word_bits n w
+pub history_more : (n t h w : ℕ) → w < 2 ^ n → history_bits n (suc t) (h * 2 ^ n + w) ≡ history_bits n t h ++ word_bits n w
 unfolding history_bits
-history-more n t h w l = ap₂ (λ h w. history_bits n t h ++ word_bits n w) (digits_div h l) (digits_mod h l)
+history_more n t h w l = ap₂ (λ h w. history_bits n t h ++ word_bits n w) (digits_div h l) (digits_mod h l)
 
 -- each list of n bits is a word's
 pub word_of : (u : List Bool) → (w : ℕ) × (w < 2 ^ length u) × (word_bits (length u) w ≡ u)
@@ -56,7 +56,7 @@ module _ (n m T : ℕ) (y : ℕ → ℕ → ℕ) (F : ℕ → List Bool → Bool
 
   -- a word moves from the free inputs to the history
   shift : (t g w : ℕ) (vs : List Bool) → w < 2 ^ n → history_bits n (suc t) (g * 2 ^ n + w) ++ vs ≡ history_bits n t g ++ (word_bits n w ++ vs)
-  shift t g w vs l = ap (λ p. p ++ vs) (history-more n t g w l) ∙ append_assoc (history_bits n t g) (word_bits n w) vs
+  shift t g w vs l = ap (λ p. p ++ vs) (history_more n t g w l) ∙ append_assoc (history_bits n t g) (word_bits n w) vs
 
   frame_fits : (t : ℕ) → t < T → (n * t + n ≤ n * T) × (m * t + m ≤ m * T)
   frame_fits t l = (omega (arith, mul-suc n t, mul-le-mul_left n l), omega (arith, mul-suc m t, mul-le-mul_left m l))
@@ -110,7 +110,7 @@ module _ (n m T : ℕ) (y : ℕ → ℕ → ℕ) (F : ℕ → List Bool → Bool
           fill = replicate (n * T - n * suc t) false
 
           filled : (h i : ℕ) → i < m → F (m * t + i) (history_bits n (suc t) h ++ rest) ≡ F (m * t + i) (history_bits n (suc t) h ++ fill)
-          filled h i c = R.causal t i l c (history_bits n (suc t) h) rest fill (history-length n (suc t) h) rest_long (omega (arith, length-replicate (n * T - n * suc t) false, rest_long))
+          filled h i c = R.causal t i l c (history_bits n (suc t) h) rest fill (history_length n (suc t) h) rest_long (omega (arith, length-replicate (n * T - n * suc t) false, rest_long))
 
           by_frame : Yes (ltb o (m * suc t)) ⊎ (Yes (ltb o (m * suc t)) → ⊥) → F o (history_bits n t g ++ vs) ≡ F o (history_bits n t h ++ vs)
           by_frame (inl c) =
@@ -140,8 +140,8 @@ pub states_by_cut : StatesByCut
 unfolding StatesByCut Same
 states_by_cut n m T y F D root red holds R t g h l =
     let fit : n * t ≤ n * T = mul-le-mul_left n l in
-    let lg = history-length n t g in
-    let lh = history-length n t h in (
+    let lg = history_length n t g in
+    let lh = history_length n t h in (
       (λ E o a b. (cut_at (n * T) (m * T) F D root red holds o b (history_bits n t g) (history_bits n t h) (omega arith) (omega arith)).0
           (λ vs e. equivalent_same n m T y F R (T - t) t g h (omega arith) E o a b vs (omega arith))),
       λ C. same_equivalent n m T y F R (T - t) t g h (omega arith)

@@ -7,7 +7,7 @@ use native.Mathlib.Nat.{le_refl, le_antisymm}
 use native.Mathlib.Omega.{arith}
 use lib.Dec.{T, eqb, eqb_refl, eqb→eq}
 use Rattle.layered.specs.Search.{every, least, tally}
-use Rattle.layered.proofs.Search.{eq-eqb, iff_eq, every-all, all-every, least_le, least_finds, least_is, least_cong, tally_cong, tally_lt, tally_apart, tally_hits}
+use Rattle.layered.proofs.Search.{eq-eqb, iff_eq, every_all, all_every, least_le, least_finds, least_is, least_cong, tally_cong, tally_lt, tally_apart, tally_hits}
 use Rattle.diagrams.specs.Numbering.{first_same, is_new, number_same, count_same}
 
 -- ---- any test
@@ -34,13 +34,13 @@ module _ (same : ℕ → ℕ → Bool) where
       back f = eq-eqb (least_is c c (λ d. same d c) (le_refl c) (λ d l. iff_eq (same d c) false (f d l) (λ x. absurd x)) (λ l. absurd (omega arith)))
 
   -- the number is how many new ones come before the first that is the same
-  pub number-first : (c : ℕ) → number_same same c ≡ count_same same (first_same same c)
+  pub number_first : (c : ℕ) → number_same same c ≡ count_same same (first_same same c)
   unfolding number_same count_same
-  number-first c = refl
+  number_first c = refl
 
   -- a new one's number is how many new ones come before it
   pub number_new : (c : ℕ) → T (is_new same c) → number_same same c ≡ count_same same c
-  number_new c t = number-first c ∙ ap (count_same same) (new_own c t)
+  number_new c t = number_first c ∙ ap (count_same same) (new_own c t)
 
   -- each number below the count is a new one's
   pub number_hits : (C k : ℕ) → k < count_same same C → (c : ℕ) × (c < C) × T (is_new same c) × (number_same same c ≡ k)
@@ -78,26 +78,26 @@ module _ (C : ℕ) (e : ℕ → ℕ → Bool) (E : Equivalence C e) where
   unfolding first_same
   first-same c l = (least_finds c c (λ d. e d c) (le_refl c) (E.itself c l)).0
 
-  first-least : (d c : ℕ) → d < C → c < C → T (e d c) → first_same e c ≤ d
+  first_least : (d c : ℕ) → d < C → c < C → T (e d c) → first_same e c ≤ d
   unfolding first_same
-  first-least d c k l t =
+  first_least d c k l t =
       let n : ¬ (d < least c (λ d. e d c)) = λ h. omega (arith, least_le c (λ d. e d c), (least_finds c d (λ d. e d c) (omega (arith, least_le c (λ d. e d c))) t).1) in
       omega arith
 
-  first-agree : (d c : ℕ) → d < C → c < C → T (e d c) → first_same e d ≡ first_same e c
-  first-agree d c k l t =
+  first_agree : (d c : ℕ) → d < C → c < C → T (e d c) → first_same e d ≡ first_same e c
+  first_agree d c k l t =
       le_antisymm
-      (first-least (first_same e c) d (first_below c l) k (E.through (first_same e c) c d (first_below c l) l k (first-same c l) (E.back d c k l t)))
-      (first-least (first_same e d) c (first_below d k) l (E.through (first_same e d) d c (first_below d k) k l (first-same d k) t))
+      (first_least (first_same e c) d (first_below c l) k (E.through (first_same e c) c d (first_below c l) l k (first-same c l) (E.back d c k l t)))
+      (first_least (first_same e d) c (first_below d k) l (E.through (first_same e d) d c (first_below d k) k l (first-same d k) t))
 
   pub first_new : (c : ℕ) → c < C → T (is_new e (first_same e c))
   unfolding is_new
-  first_new c l = eq-eqb (first-agree (first_same e c) c (first_below c l) l (first-same c l))
+  first_new c l = eq-eqb (first_agree (first_same e c) c (first_below c l) l (first-same c l))
 
   -- equal numbers are the same things
   pub number_decides : (d c : ℕ) → d < C → c < C → (number_same e d ≡ number_same e c) ↔ T (e d c)
   unfolding number_same
-  number_decides d c k l = (there, λ t. ap (λ b. tally b (is_new e)) (first-agree d c k l t))
+  number_decides d c k l = (there, λ t. ap (λ b. tally b (is_new e)) (first_agree d c k l t))
     where
       there : tally (first_same e d) (is_new e) ≡ tally (first_same e c) (is_new e) → T (e d c)
       there q =
@@ -110,24 +110,24 @@ module _ (C : ℕ) (e : ℕ → ℕ → Bool) (E : Equivalence C e) where
   number_below c l = tally_lt (is_new e) (first_same e c) C (first_below c l) (first_new c l)
 
   -- a test of equal numbers is the test itself
-  pub number-test : (d c : ℕ) → d < C → c < C → eqb (number_same e d) (number_same e c) ≡ e d c
-  number-test d c k l = let n = number_decides d c k l in iff_eq _ (e d c) (λ t. n.0 (eqb→eq (number_same e d) (number_same e c) t)) (λ t. eq-eqb (n.1 t))
+  pub number_test : (d c : ℕ) → d < C → c < C → eqb (number_same e d) (number_same e c) ≡ e d c
+  number_test d c k l = let n = number_decides d c k l in iff_eq _ (e d c) (λ t. n.0 (eqb→eq (number_same e d) (number_same e c) t)) (λ t. eq-eqb (n.1 t))
 
   -- and a further test refines the numbers f
   module _ (x : ℕ → ℕ → Bool) (f : ℕ → ℕ) (numbers : (c : ℕ) → c < C → f c ≡ number_same e c) where
     pub refined : (d c : ℕ) → d < C → c < C → eqb (f d) (f c) && x d c ≡ e d c && x d c
-    refined d c k l = ap (λ b. b && x d c) (ap₂ eqb (numbers d k) (numbers c l) ∙ number-test d c k l)
+    refined d c k l = ap (λ b. b && x d c) (ap₂ eqb (numbers d k) (numbers c l) ∙ number_test d c k l)
 
 -- where all are the same, all numbers are 0
-pub number-all : (c : ℕ) → number_same (λ d c. true) c ≡ 0
+pub number_all : (c : ℕ) → number_same (λ d c. true) c ≡ 0
 unfolding number_same first_same least tally
-number-all zero = refl
-number-all (suc c) = refl
+number_all zero = refl
+number_all (suc c) = refl
 
 -- ---- tests that are equivalences
 
-pub equal-values : (C : ℕ) (f : ℕ → ℕ) → Equivalence C (λ d c. eqb (f d) (f c))
-equal-values C f = record {
+pub equal_values : (C : ℕ) (f : ℕ → ℕ) → Equivalence C (λ d c. eqb (f d) (f c))
+equal_values C f = record {
   itself = λ c _. eqb_refl (f c);
   back = λ d c _ _ t. eq-eqb (sym (eqb→eq (f d) (f c) t));
   through = λ b d c _ _ _ t u. eq-eqb (eqb→eq (f b) (f d) t ∙ eqb→eq (f d) (f c) u);
@@ -135,9 +135,9 @@ equal-values C f = record {
 
 pub every_equivalence : (C k : ℕ) (x : ℕ → ℕ → ℕ → Bool) → ((i : ℕ) → i < k → Equivalence C (x i)) → Equivalence C (λ d c. every k (λ i. x i d c))
 every_equivalence C k x E = record {
-  itself = λ c l. all-every _ k (λ i h. (E i h).itself c l);
-  back = λ d c a l t. all-every _ k (λ i h. (E i h).back d c a l (every-all (λ i. x i d c) k t i h));
-  through = λ b d c a m l t u. all-every _ k (λ i h. (E i h).through b d c a m l (every-all (λ i. x i b d) k t i h) (every-all (λ i. x i d c) k u i h));
+  itself = λ c l. all_every _ k (λ i h. (E i h).itself c l);
+  back = λ d c a l t. all_every _ k (λ i h. (E i h).back d c a l (every_all (λ i. x i d c) k t i h));
+  through = λ b d c a m l t u. all_every _ k (λ i h. (E i h).through b d c a m l (every_all (λ i. x i b d) k t i h) (every_all (λ i. x i d c) k u i h));
 }
 
 -- ---- no test
@@ -145,4 +145,4 @@ every_equivalence C k x E = record {
 -- the numbers by no test are 0
 pub number-none : (x : ℕ → ℕ → ℕ → Bool) (c : ℕ) → number_same (λ d c. every 0 (λ i. x i d c)) c ≡ 0
 unfolding every
-number-none x c = number-all c
+number-none x c = number_all c

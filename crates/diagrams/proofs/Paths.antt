@@ -15,7 +15,7 @@ use Rattle.diagrams.specs.Diagrams.{Nodes, branch, follow, Reduced}
 use Rattle.diagrams.specs.Frames.{word_bits, history_bits}
 use Rattle.diagrams.specs.Paths.{path_of}
 use Rattle.diagrams.proofs.Growth.{decide}
-use Rattle.diagrams.proofs.Laws.{branch-at, branch_past, branch_below}
+use Rattle.diagrams.proofs.Laws.{branch_at, branch_past, branch_below}
 use Rattle.diagrams.proofs.Frames.{word_length}
 
 -- ---- bits of a number
@@ -73,10 +73,10 @@ path_bits n (suc t) h =
 
 module _ (D : Nodes) where
   -- following goes on where it came to
-  pub follow-append : (ps : List Bool) (l : ℕ) (vs : List Bool) (f : ℕ) → follow D l (ps ++ vs) f ≡ follow D (l + length ps) vs (follow D l ps f)
+  pub follow_append : (ps : List Bool) (l : ℕ) (vs : List Bool) (f : ℕ) → follow D l (ps ++ vs) f ≡ follow D (l + length ps) vs (follow D l ps f)
   unfolding follow
-  follow-append [] l vs f = ap (λ k. follow D k vs f) (omega arith)
-  follow-append (p ∷ ps) l vs f = follow-append ps (suc l) vs (branch D l p f) ∙ ap (λ k. follow D k vs (follow D (suc l) ps (branch D l p f))) (omega arith)
+  follow_append [] l vs f = ap (λ k. follow D k vs f) (omega arith)
+  follow_append (p ∷ ps) l vs f = follow_append ps (suc l) vs (branch D l p f) ∙ ap (λ k. follow D k vs (follow D (suc l) ps (branch D l p f))) (omega arith)
 
   -- nothing is tested above a node's level
   pub follow_past : (vs : List Bool) (l f : ℕ) → l + length vs ≤ D.level f → follow D l vs f ≡ f
@@ -87,7 +87,7 @@ module _ (D : Nodes) where
   pub follow_skip : (vs : List Bool) (l i f : ℕ) → i ≤ length vs → l + i ≤ D.level f → follow D l vs f ≡ follow D (l + i) (drop i vs) f
   follow_skip vs l i f b h =
       let long : length (take i vs) ≡ i = length-take-le i vs b in
-      ap (λ vs. follow D l vs f) (sym (take-append-drop i vs)) ∙ follow-append (take i vs) l (drop i vs) f
+      ap (λ vs. follow D l vs f) (sym (take-append-drop i vs)) ∙ follow_append (take i vs) l (drop i vs) f
       ∙ ap₂ (λ k f. follow D (l + k) (drop i vs) f) long (follow_past (take i vs) l f (omega arith))
 
   -- at its level one input is tested
@@ -106,19 +106,19 @@ module _ (D : Nodes) where
   pub follow_split : (k j p w f : ℕ) → p < 2 ^ k → follow D 1 (word_bits (k + j) (p + w * 2 ^ k)) f ≡ follow D (suc k) (word_bits j w) (follow D 1 (word_bits k p) f)
   follow_split k j p w f l =
       let n : 1 + length (word_bits k p) ≡ suc k = omega (arith, word_length k p) in
-      ap (λ vs. follow D 1 vs f) (word_split k j p w l) ∙ follow-append (word_bits k p) 1 (word_bits j w) f ∙ ap (λ l. follow D l (word_bits j w) (follow D 1 (word_bits k p) f)) n
+      ap (λ vs. follow D 1 vs f) (word_split k j p w l) ∙ follow_append (word_bits k p) 1 (word_bits j w) f ∙ ap (λ l. follow D l (word_bits j w) (follow D 1 (word_bits k p) f)) n
 
   -- a path with a word more
-  pub follow-next : (n t h w f : ℕ) → w < 2 ^ n
+  pub follow_next : (n t h w f : ℕ) → w < 2 ^ n
       → follow D 1 (word_bits (n * suc t) (path_of n (suc t) (h * 2 ^ n + w))) f ≡ follow D (suc (n * t)) (word_bits n w) (follow D 1 (word_bits (n * t) (path_of n t h)) f)
-  follow-next n t h w f l = ap₂ (λ k p. follow D 1 (word_bits k p) f) (mul-suc n t) (path_next n t h w l) ∙ follow_split (n * t) n (path_of n t h) w f (path_below n t h)
+  follow_next n t h w f l = ap₂ (λ k p. follow D 1 (word_bits k p) f) (mul-suc n t) (path_next n t h w l) ∙ follow_split (n * t) n (path_of n t h) w f (path_below n t h)
 
   -- ---- one level more: a row of 2 ^ i ids becomes one of twice as many
 
   row_more : (l i w v f : ℕ) (b : Bool) → w < 2 ^ i → word_bits 1 v ≡ b ∷ [] → follow D l (word_bits (suc i) (w + v * 2 ^ i)) f ≡ branch D (l + i) b (follow D l (word_bits i w) f)
   unfolding follow
   row_more l i w v f b h e =
-      ap (λ vs. follow D l vs f) (word_more i w v h ∙ ap (λ us. word_bits i w ++ us) e) ∙ follow-append (word_bits i w) l (b ∷ []) f
+      ap (λ vs. follow D l vs f) (word_more i w v h ∙ ap (λ us. word_bits i w ++ us) e) ∙ follow_append (word_bits i w) l (b ∷ []) f
       ∙ ap (λ k. branch D (l + k) b (follow D l (word_bits i w) f)) (word_length i w)
 
   pub row_low : (l i w f : ℕ) → w < 2 ^ i → follow D l (word_bits (suc i) w) f ≡ branch D (l + i) false (follow D l (word_bits i w) f)
@@ -132,7 +132,7 @@ module _ (D : Nodes) where
 module _ (N : ℕ) (D : Nodes) (red : Reduced N D) where
   -- a branch stands below its node
   pub step_down : (f : ℕ) (v : Bool) → 0 < D.level f → D.level f ≤ N → D.level f < D.level (cond v (D.high f) (D.low f))
-  step_down f v h b = subst (λ g. D.level f < D.level g) (branch-at D (D.level f) f v refl) (branch_below N D red (D.level f) f v h b (le_refl _))
+  step_down f v h b = subst (λ g. D.level f < D.level g) (branch_at D (D.level f) f v refl) (branch_below N D red (D.level f) f v h b (le_refl _))
 
   -- from node to node: a node of a level up to top leads to the branch that its input chooses
   pub follow_step : (top p f : ℕ) → top ≤ N → 0 < D.level f → D.level f ≤ top
@@ -143,7 +143,7 @@ module _ (N : ℕ) (D : Nodes) (red : Reduced N D) where
       let g : ℕ = cond (eqb (p / 2 ^ i % 2) 1) (D.high f) (D.low f) in
       let long : length vs ≡ top = word_length top p in
       let l : D.level f ≡ 1 + i = omega arith in
-      let to : branch D (1 + i) (get_or vs i false) f ≡ g = branch-at D (1 + i) f (get_or vs i false) l ∙ ap (λ v. cond v (D.high f) (D.low f)) (word_bit top p i (omega arith)) in
+      let to : branch D (1 + i) (get_or vs i false) f ≡ g = branch_at D (1 + i) f (get_or vs i false) l ∙ ap (λ v. cond v (D.high f) (D.low f)) (word_bit top p i (omega arith)) in
       let down : D.level f < D.level g = step_down f (eqb (p / 2 ^ i % 2) 1) h (omega arith) in
       follow_jump D vs 1 i f (omega arith) l ∙ ap (follow D (1 + suc i) (drop (suc i) vs)) to ∙ sym (follow_skip D vs 1 (suc i) g (omega arith) (omega arith))
 

@@ -13,7 +13,7 @@ use Rattle.diagrams.specs.Frames.{history_bits, Responds}
 use Rattle.diagrams.proofs.Making.{constant_value}
 use Rattle.diagrams.proofs.Canonical.{alike_equal}
 use Rattle.diagrams.proofs.Cut.{left_over, reach}
-use Rattle.diagrams.proofs.Frames.{history-length}
+use Rattle.diagrams.proofs.Frames.{history_length}
 
 -- the constant of a value
 constant : Bool → ℕ
@@ -36,7 +36,7 @@ read_output n m T y F D root red holds R t i h l b =
     let o : ℕ = m * t + i in
     let in_all : o < m * T = omega (arith, mul-suc m t, mul-le-mul_left m l) in
     let few : n * suc t ≤ n * T = mul-le-mul_left n l in
-    let long : length ps ≡ n * suc t = history-length n (suc t) h in
+    let long : length ps ≡ n * suc t = history_length n (suc t) h in
     let v : Bool = F o (ps ++ replicate (n * T - n * suc t) false) in
     let c : ℕ = constant v in
     let high : length ps + 1 ≤ D.level (follow D 1 ps (root o)) = reach (n * T) (m * T) F D root red holds o in_all ps (omega arith) in

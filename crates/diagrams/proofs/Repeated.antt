@@ -13,7 +13,7 @@ use Rattle.layered.specs.Search.{least}
 use Rattle.layered.proofs.Search.{both, iff_eq, least_finds, tally_split, tally_nowhere}
 use Rattle.layered.proofs.Lists.{total_cong}
 use Rattle.diagrams.specs.Counts.{bits, block, same_block, is_node, nodes_at, nodes_of}
-use Rattle.diagrams.proofs.Blocks.{bits-length, number, bits-number, number-div, number_below, SameOn, on_same}
+use Rattle.diagrams.proofs.Blocks.{bits_length, number, bits_number, number_div, number_below, SameOn, on_same}
 use Rattle.diagrams.proofs.Counted.{half_low, half_high}
 
 module _ (N : ℕ) (F : ℕ → List Bool → Bool) where
@@ -28,7 +28,7 @@ module _ (N : ℕ) (F : ℕ → List Bool → Bool) where
     is_block vs = ap (λ s. F s (bits k q ++ vs)) of
 
     long : (vs : List Bool) → length vs ≡ suc r → length (bits k q ++ vs) ≡ N
-    long vs l = length-append (bits k q) vs ∙ omega (arith, bits-length k q)
+    long vs l = length-append (bits k q) vs ∙ omega (arith, bits_length k q)
 
     -- its halves are the same where M is false
     false_halves : ((vs : List Bool) → length vs ≡ N → F M vs ≡ false) → T (same_block F (suc k) r (2 * q) (2 * q + 1))
@@ -43,10 +43,10 @@ module _ (N : ℕ) (F : ℕ → List Bool → Bool) where
     unfolding SameOn block bits
     as_earlier s z =
         let p : ℕ = number s (bits k q) in
-        let n : length (bits k q) ≡ k = bits-length k q in
+        let n : length (bits k q) ≡ k = bits_length k q in
         let m : length (bits k q) + 0 ≡ k = omega (arith, n) in
-        let d : p / 2 ^ k ≡ s = ap (λ i. p / 2 ^ i) (sym n) ∙ number-div (bits k q) s in
-        let b : bits k p ≡ bits k q = ap (λ i. bits i p) (sym m) ∙ bits-number (bits k q) 0 s in
+        let d : p / 2 ^ k ≡ s = ap (λ i. p / 2 ^ i) (sym n) ∙ number_div (bits k q) s in
+        let b : bits k p ≡ bits k q = ap (λ i. bits i p) (sym m) ∙ bits_number (bits k q) 0 s in
         on_same F k (suc r) p q (λ vs l. ap₂ (λ s ps. F s (ps ++ vs)) d b ∙ sym (z _ (long vs l)) ∙ sym (is_block vs))
 
     -- so it is no node's
@@ -59,7 +59,7 @@ module _ (N : ℕ) (F : ℕ → List Bool → Bool) where
             (λ z. T_not (same_block F (suc k) r (2 * q) (2 * q + 1)) h (false_halves z))
             (λ (S : (s : ℕ) × (s < M) × ((vs : List Bool) → length vs ≡ N → F M vs ≡ F s vs)).
             let p : ℕ = number S.0 (bits k q) in
-            let b : p < M * 2 ^ k = rw (bits-length k q) at (number_below (bits k q) S.0 M S.1) in
+            let b : p < M * 2 ^ k = rw (bits_length k q) at (number_below (bits k q) S.0 M S.1) in
             omega (arith, eqb→eq (least q (λ p. same_block F k (suc r) p q)) q f, (least_finds q p (λ p. same_block F k (suc r) p q) (omega arith) (as_earlier S.0 S.2)).1))
             R
 

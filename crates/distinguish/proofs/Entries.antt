@@ -37,8 +37,8 @@ module _ (b : List ℕ) (l : Layout) (p : Pair) (Z : Sound b) (e : l ≡ layout_
     pub output_at_lem : (w : ℕ) → word_at b (row_at l.outputs s + 2 * w) ≡ (machine b).out p.layer s w
     output_at_lem w = ap (word_at b) (at_entry l.outputs w ∙ ap (λ start. entry_at b start p.layer s w) stands.outputs_is)
 
-    pub next-at : (w : ℕ) → word_at b (row_at l.nexts s + 2 * w) ≡ (machine b).next p.layer s w
-    next-at w = ap (word_at b) (at_entry l.nexts w ∙ ap (λ start. entry_at b start p.layer s w) stands.nexts_is)
+    pub next_at : (w : ℕ) → word_at b (row_at l.nexts s + 2 * w) ≡ (machine b).next p.layer s w
+    next_at w = ap (word_at b) (at_entry l.nexts w ∙ ap (λ start. entry_at b start p.layer s w) stands.nexts_is)
 
   -- the entries below the next layer
   pub below_more : p.below + states b p.layer * l.words ≡ entries_below b (p.layer + 1)

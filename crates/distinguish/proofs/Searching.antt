@@ -27,7 +27,7 @@ use Rattle.distinguish.proofs.Entries.{row_at, row_in, output_at_lem}
 -- there are few lists
 pub lists_few : (b : List ℕ) → Sound b → (k : ℕ) → k ≤ frames b → (2 ^ inputs b) ^ k ≤ 65536
 lists_few b Z k h =
-    let m : inputs b * k ≤ 16 = omega (arith, mul-le-mul_left (inputs b) h, Z.headed.sized.bits-to) in
+    let m : inputs b * k ≤ 16 = omega (arith, mul-le-mul_left (inputs b) h, Z.headed.sized.bits_to) in
     let p : 2 ^ (inputs b * k) ≤ 2 ^ 16 = pow_mono m in
     omega (arith, pow-mul 2 (inputs b) k, p)
 
@@ -131,8 +131,8 @@ module _ {b : List ℕ} {l : Layout} {p : Pair} {count rest : ℕ} (S : Seeking 
           ∙ ap (λ t. first_list K (machine b) t q.first q.second (count - 1)) (layer_is ∙ add-one p.layer)
           ∙ ap₂ (λ r s. first_list K (machine b) (suc p.layer) r s (count - 1)) first_is second_is
 
-      pub found-answer : n < rest → NoneTo w → Answer (w * rest + n)
-      found-answer b' f =
+      pub found_answer : n < rest → NoneTo w → Answer (w * rest + n)
+      found_answer b' f =
           ap (λ r. w * r + n) S.rest_is
           ∙ found_with (machine b) K p.layer p.first p.second (count - 1) rest_from w n (omega (arith, words_is)) then_is (omega (arith, S.rest_is)) (back w f)
           ∙ ap (first_list K (machine b) p.layer p.first p.second) count_is
@@ -143,8 +143,8 @@ module _ {b : List ℕ} {l : Layout} {p : Pair} {count rest : ℕ} (S : Seeking 
           (none_more (machine b) K p.layer p.first p.second (count - 1) rest_from w n (omega (arith, words_is)) then_is (omega (arith, S.rest_is)) (back w f) g
           (omega (arith, i, ap (λ r. (w + 1) * r) S.rest_is)))
 
-    pub none-answer : NoneTo l.words → Answer (l.words * rest)
-    none-answer f =
+    pub none_answer : NoneTo l.words → Answer (l.words * rest)
+    none_answer f =
         ap₂ ◌*◌ words_is S.rest_is
         ∙ found_none (machine b) K p.layer p.first p.second (count - 1) rest_from
         (λ h g. back l.words f h (omega (arith, g, ap (λ k. k * K ^ (count - 1)) words_is)))

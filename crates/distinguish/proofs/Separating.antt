@@ -14,16 +14,16 @@ use Rattle.layered.specs.Search.{least}
 use Rattle.layered.specs.Histories.{history_words}
 use Rattle.layered.specs.Machines.{Machine, feed}
 use Rattle.layered.proofs.Search.{least_le, least_is, least_tells, least_cong}
-use Rattle.layered.proofs.Histories.{history-first, history-length}
+use Rattle.layered.proofs.Histories.{history_first, history_length}
 use Rattle.distinguish.specs.Distinguish.{last_output, separates, first_list, separable, fewest, shortest}
 
 module _ (M : Machine) where
   -- ---- by the first word
 
   -- from equal states nothing differs
-  pub separates-same : (t s : ℕ) (c : List ℕ) → separates M t s s c ≡ false
+  pub separates_same : (t s : ℕ) (c : List ℕ) → separates M t s s c ≡ false
   unfolding separates
-  separates-same t s c = ap not (eq-eqb (last_output M t s c) _ refl)
+  separates_same t s c = ap not (eq-eqb (last_output M t s c) _ refl)
 
   pub separates_one : (t r s w : ℕ) → separates M t r s (w ∷ []) ≡ not (eqb (M.out t r w) (M.out t s w))
   unfolding separates last_output feed
@@ -35,9 +35,9 @@ module _ (M : Machine) where
       let e : suc (length c) - 1 ≡ suc (length c - 1) = omega arith in
       ap (λ (k : ℕ). get_or (feed M t s (w ∷ c)) k 0) e
 
-  pub separates-more : (t r s w : ℕ) (c : List ℕ) → 1 ≤ length c → separates M t r s (w ∷ c) ≡ separates M (suc t) (M.next t r w) (M.next t s w) c
+  pub separates_more : (t r s w : ℕ) (c : List ℕ) → 1 ≤ length c → separates M t r s (w ∷ c) ≡ separates M (suc t) (M.next t r w) (M.next t s w) c
   unfolding separates
-  separates-more t r s w c h = ap₂ (λ x y. not (eqb x y)) (last_more t r w c h) (last_more t s w c h)
+  separates_more t r s w c h = ap₂ (λ x y. not (eqb x y)) (last_more t r w c h) (last_more t s w c h)
 
   module _ (K : ℕ) where
     -- ---- by the numbers of lists
@@ -49,7 +49,7 @@ module _ (M : Machine) where
     -- no list separates equal states
     pub first-same : (t s k : ℕ) → first_list K M t s s k ≡ K ^ k
     unfolding first_list
-    first-same t s k = least_is (K ^ k) (K ^ k) _ (le_refl _) (λ h l. separates-same t s (history_words K k h)) (λ l. absurd (omega arith))
+    first-same t s k = least_is (K ^ k) (K ^ k) _ (le_refl _) (λ h l. separates_same t s (history_words K k h)) (λ l. absurd (omega arith))
 
     -- lists of one word
     pub first_one : (t r s : ℕ) → first_list K M t r s 1 ≡ least K (λ w. not (eqb (M.out t r w) (M.out t s w)))
@@ -70,8 +70,8 @@ module _ (M : Machine) where
 
       test_is : (w i : ℕ) → w < K → i < K ^ k → test (w * K ^ k + i) ≡ separates M (suc t) (M.next t r w) (M.next t s w) (history_words K k i)
       test_is w i l h =
-          ap (separates M t r s) (history-first K k w i l h)
-          ∙ separates-more t r s w (history_words K k i) (omega (arith, history-length K k i))
+          ap (separates M t r s) (history_first K k w i l h)
+          ∙ separates_more t r s w (history_words K k i) (omega (arith, history_length K k i))
 
       -- no list before that with the number `to` separates them
       abbrev pub NoneTo : ℕ → Type 0
@@ -139,8 +139,8 @@ module _ (M : Machine) where
           let q = fewest_is k left l (lt-ltb (first_list K M t r s (suc k)) (K ^ suc k) (omega arith)) f in
           rw (q, lt-ltb k left l) (ap (history_words K (suc k)) e)
 
-      pub shortest-none : (left : ℕ) → NoneOf left → [] ≡ shortest K M t r s left
+      pub shortest_none : (left : ℕ) → NoneOf left → [] ≡ shortest K M t r s left
       unfolding shortest fewest
-      shortest-none left f =
+      shortest_none left f =
           let q : fewest K M t r s left ≡ left = least_is left left (λ i. separable K M t r s (suc i)) (le_refl left) f (λ l. absurd (omega arith)) in
           rw (q, le-ltb left left (le_refl left))

@@ -19,8 +19,8 @@ use Rattle.layered.specs.States.{Words, none, more}
 use Rattle.layered.specs.Histories.{history_words, history_number}
 use Rattle.layered.specs.Machines.{Machine, feed, Gives, masked}
 use Rattle.layered.proofs.Search.{least_tells}
-use Rattle.layered.proofs.Feeding.{words-length, words_whole, feed-then}
-use Rattle.layered.proofs.Histories.{history_below, number-words, history-words, words-number}
+use Rattle.layered.proofs.Feeding.{words_length, words_whole, feed_then}
+use Rattle.layered.proofs.Histories.{history_below, number_words, history-words, words_number}
 use Rattle.table.specs.Table.{states, connected, machine, strays, bad_output, checked}
 use Rattle.table.specs.Sound.{Sound}
 use Rattle.table.proofs.Accepted.{sound}
@@ -30,7 +30,7 @@ use Rattle.folded.specs.Theorems.{state_of, Folding, Foldings}
 use Rattle.folded.proofs.Theorems.{foldings}
 use Rattle.distinguish.specs.Distinguish.{last_output, separates, first_list, separable, fewest, shortest, distinguishing, pair_checked, room_checked, distinguish_checked}
 use Rattle.distinguish.specs.Theorems.{Distinguishing, Distinguishes, FoldedDistinguishes}
-use Rattle.distinguish.proofs.Separating.{separates_one, separates-more}
+use Rattle.distinguish.proofs.Separating.{separates_one, separates_more}
 
 -- a list without length
 no_words : (c : List ℕ) → length c ≡ 0 → c ≡ []
@@ -58,7 +58,7 @@ module _ (M : Machine) (K : ℕ) where
       ap₂ {C = List ℕ} (λ x xs. x ∷ xs)
       (out_equal t r s w (f 1 (w ∷ []) (more l none) (omega arith) (omega arith)))
       (none_alike (suc t) (M.next t r w) (M.next t s w) k
-      (λ j e E a b. sym (separates-more M t r s w e (omega (arith, words-length E))) ∙ f (suc j) (w ∷ e) (more l E) (omega arith) (omega arith))
+      (λ j e E a b. sym (separates_more M t r s w e (omega (arith, words_length E))) ∙ f (suc j) (w ∷ e) (more l E) (omega arith) (omega arith))
       d W)
 
   alike_none : 0 < K → (t r s k : ℕ) → Alike t r s k → NoneSeparates t r s k
@@ -69,21 +69,21 @@ module _ (M : Machine) (K : ℕ) where
       let e = f (w ∷ history_words K k 0) (more l (history-words p k 0)) in
       separates_one M t r s w ∙ ap not (eq-eqb _ _ (ap (λ xs. get_or xs 0 0) e))
   alike_none p t r s (suc k) f j c (more {w = w} {c = v ∷ d} l W) a b =
-      separates-more M t r s w (v ∷ d) (omega arith)
-      ∙ alike_none p (suc t) (M.next t r w) (M.next t s w) k (λ e E. ap (drop 1) (f (w ∷ e) (more l E))) _ (v ∷ d) W (omega (arith, words-length W)) (omega arith)
+      separates_more M t r s w (v ∷ d) (omega arith)
+      ∙ alike_none p (suc t) (M.next t r w) (M.next t s w) k (λ e E. ap (drop 1) (f (w ∷ e) (more l E))) _ (v ∷ d) W (omega (arith, words_length W)) (omega arith)
 
   -- ---- what is found
 
   module _ (t r s : ℕ) where
     -- a list before the first that separates does not
-    before-first : (k : ℕ) (c : List ℕ) → Words K k c → history_number K 0 c < first_list K M t r s k → separates M t r s c ≡ false
+    before_first : (k : ℕ) (c : List ℕ) → Words K k c → history_number K 0 c < first_list K M t r s k → separates M t r s c ≡ false
     unfolding first_list
-    before-first k c W l = ap (separates M t r s) (sym (words-number W)) ∙ (least_tells (K ^ k) (λ h. separates M t r s (history_words K k h))).0 (history_number K 0 c) l
+    before_first k c W l = ap (separates M t r s) (sym (words_number W)) ∙ (least_tells (K ^ k) (λ h. separates M t r s (history_words K k h))).0 (history_number K 0 c) l
 
     -- where none of k words does, each does not
     none_of : (k : ℕ) (c : List ℕ) → Words K k c → separable K M t r s k ≡ false → separates M t r s c ≡ false
     unfolding separable
-    none_of k c W e = before-first k c W (omega (arith, history_below W, ltb-false (first_list K M t r s k) (K ^ k) e))
+    none_of k c W e = before_first k c W (omega (arith, history_below W, ltb-false (first_list K M t r s k) (K ^ k) e))
 
     -- there is one: what it is, and what it does
     record Found (left : ℕ) (found : List ℕ) : Type 0 where
@@ -110,7 +110,7 @@ module _ (M : Machine) (K : ℕ) where
         go (yes l) =
             let q = least_tells left (λ i. separable K M t r s (suc i)) in
             let n : first_list K M t r s (suc f) < K ^ suc f = ltb-true _ _ (q.1 l) in
-            let (W, e) = number-words K (suc f) (first_list K M t r s (suc f)) n in
+            let (W, e) = number_words K (suc f) (first_list K M t r s (suc f)) n in
             inl (rw (lt-ltb f left l) (record {
               count = f;
               words_in = l;
@@ -127,8 +127,8 @@ module _ (M : Machine) (K : ℕ) where
 
     -- ---- none exactly when every continuation gives the same outputs
 
-    none-to : (left : ℕ) → ((i : ℕ) → i < left → separable K M t r s (suc i) ≡ false) → NoneSeparates t r s left
-    none-to left f j c W a b =
+    none_to : (left : ℕ) → ((i : ℕ) → i < left → separable K M t r s (suc i) ≡ false) → NoneSeparates t r s left
+    none_to left f j c W a b =
         let e : suc (j - 1) ≡ j = omega arith in
         none_of j c W (subst (λ k. separable K M t r s k ≡ false) e (f (j - 1) (omega arith)))
 
@@ -136,8 +136,8 @@ module _ (M : Machine) (K : ℕ) where
     none_exactly p left = ((λ e. there e (found_or_missing left)), (λ a. back a (found_or_missing left)))
       where
         there : shortest K M t r s left ≡ [] → Found left (shortest K M t r s left) ⊎ Missing left (shortest K M t r s left) → Alike t r s left
-        there e (inl F) = absurd (omega (arith, words-length F.words_are, ap length e))
-        there e (inr N) = none_alike t r s left (none-to left N.none_is)
+        there e (inl F) = absurd (omega (arith, words_length F.words_are, ap length e))
+        there e (inr N) = none_alike t r s left (none_to left N.none_is)
 
         back : Alike t r s left → Found left (shortest K M t r s left) ⊎ Missing left (shortest K M t r s left) → shortest K M t r s left ≡ []
         back a (inl F) = absurd (true≢false (sym F.does ∙ alike_none p t r s left a (suc F.count) _ F.words_are (omega arith) F.words_in))
@@ -149,15 +149,15 @@ module _ (M : Machine) (K : ℕ) where
 module _ (b : List ℕ) (Z : Sound b) where
   masked_out : (t s w : ℕ) → t < frames b → s < states b t → w < 2 ^ inputs b → bit_and ((machine b).out t s w) (connected b t) ≡ (machine b).out t s w
   unfolding bad_output strays
-  masked_out t s w h k l = eqb-true _ _ (not-false _ (Z.outputs-connected t s w h k l))
+  masked_out t s w h k l = eqb-true _ _ (not-false _ (Z.outputs_connected t s w h k l))
 
-  masked-feed : (t s : ℕ) {k : ℕ} {c : List ℕ} → t + k ≤ frames b → s < states b t → Words (2 ^ inputs b) k c → feed (masked (connected b) (machine b)) t s c ≡ feed (machine b) t s c
+  masked_feed : (t s : ℕ) {k : ℕ} {c : List ℕ} → t + k ≤ frames b → s < states b t → Words (2 ^ inputs b) k c → feed (masked (connected b) (machine b)) t s c ≡ feed (machine b) t s c
   unfolding feed
-  masked-feed t s h l none = refl
-  masked-feed t s h l (more {k = k} {w = w} {c = c} m W) =
+  masked_feed t s h l none = refl
+  masked_feed t s h l (more {k = k} {w = w} {c = c} m W) =
       ap₂ {C = List ℕ} (λ x xs. x ∷ xs)
       (masked_out t s w (omega arith) l m)
-      (masked-feed (suc t) ((machine b).next t s w) (omega arith) (Z.legal.next_is t s w (omega arith) l m) W)
+      (masked_feed (suc t) ((machine b).next t s w) (omega arith) (Z.legal.next_is t s w (omega arith) l m) W)
 
 -- ---- of an accepted table
 
@@ -172,18 +172,18 @@ module _ (b : List ℕ) (Z : Sound b) (t r s : ℕ) (h : t ≤ frames b) (k : r 
   by_connected : (j : ℕ) (c : List ℕ) → Words K j c → j ≤ frames b - t → separates (masked (connected b) (machine b)) t r s c ≡ separates (machine b) t r s c
   unfolding separates last_output
   by_connected j c W m =
-      ap₂ (λ x y. not (eqb (get_or x (length c - 1) 0) (get_or y (length c - 1) 0))) (masked-feed b Z t r (omega arith) k W) (masked-feed b Z t s (omega arith) l W)
+      ap₂ (λ x y. not (eqb (get_or x (length c - 1) 0) (get_or y (length c - 1) 0))) (masked_feed b Z t r (omega arith) k W) (masked_feed b Z t s (omega arith) l W)
 
   some_found : Found (machine b) K t r s (frames b - t) found → Distinguishing b t r s
   unfolding distinguishing
   some_found F =
-      let n = words-length F.words_are in
+      let n = words_length F.words_are in
       record {
         are_words = subst (λ n. Words K n found) (sym n) F.words_are;
         at_most = omega (arith, n, F.words_in);
         separating = λ _. F.does;
-        none_shorter = λ j c W a m. none-to (machine b) K t r s F.count F.fewer_not j c W a (omega (arith, n));
-        none_before = λ c W m. before-first (machine b) K t r s (suc F.count) c (subst (λ n. Words K n c) n W) (omega (arith, F.number_is));
+        none_shorter = λ j c W a m. none_to (machine b) K t r s F.count F.fewer_not j c W a (omega (arith, n));
+        none_before = λ c W m. before_first (machine b) K t r s (suc F.count) c (subst (λ n. Words K n c) n W) (omega (arith, F.number_is));
         none_exactly = none_exactly (machine b) K t r s (pow_pos (inputs b)) (frames b - t);
         by_connected = by_connected;
       }
@@ -239,11 +239,11 @@ module _ (b d : List ℕ) (m T : ℕ) (F : Folding (2 ^ inputs b) m T d b) (same
       sym e
       ∙ (F.apart t c g i W Y).1 (λ u U.
       ap (drop t) (sym (F.gives (c ++ u) (words_whole i W U)))
-      ∙ feed-then (machine b) 0 u W
+      ∙ feed_then (machine b) 0 u W
       ∙ ap (λ x. feed (machine b) t x u) e
       ∙ a u (subst (λ n. Words (2 ^ inputs b) (n - t) u) (sym same) U)
       ∙ sym (ap (λ x. feed (machine b) t x u) f)
-      ∙ sym (feed-then (machine b) 0 u Y)
+      ∙ sym (feed_then (machine b) 0 u Y)
       ∙ ap (drop t) (F.gives (g ++ u) (words_whole i Y U)))
       ∙ f
 
@@ -257,4 +257,4 @@ pub folded_distinguishes : (b : List ℕ) (t r s : ℕ) → FoldedDistinguishes 
 unfolding FoldedDistinguishes Foldings
 folded_distinguishes b t r s d before room nodes p e q h k l n =
     let F = subst (Folding (2 ^ inputs d) (outputs d) (frames d) d) (sym q) (foldings d before room nodes p e).0 in
-    two_apart b d (outputs d) (frames d) (subst (λ n. Folding (2 ^ n) (outputs d) (frames d) d b) (sym F.same_inputs) F) F.same-frames t r s h k l n
+    two_apart b d (outputs d) (frames d) (subst (λ n. Folding (2 ^ n) (outputs d) (frames d) d b) (sym F.same_inputs) F) F.same_frames t r s h k l n

@@ -21,13 +21,13 @@ use Rattle.table.specs.Sound.{TableHeaded}
 use Rattle.table.proofs.Offsets.{arrays_stand}
 use Rattle.circuit.specs.Circuit.{output_gate}
 use Rattle.unfolded.specs.Unfolded.{last_of, chains_from, ending, inverted, Frame, matching, match_gates, match_literal, edges_at, edge_gate, edge_gates, inverted_edges, next_gates_at, entering, next_gates, next_literal, out_gates_at, with_bit, out_gates, out_literal, frame_gates, Drawing, table_frame, drawing, with_frame, is_connected, drawn, gates_needed}
-use Rattle.circuit.proofs.Lists.{listed-length, listed_cong}
-use Rattle.unfolded.proofs.Drawings.{drawn-length, frame_nexts}
-use Rattle.unfolded.proofs.Counts.{matches-length, match_count, edge_count, frame_count}
+use Rattle.circuit.proofs.Lists.{listed_length, listed_cong}
+use Rattle.unfolded.proofs.Drawings.{drawn_length, frame_nexts}
+use Rattle.unfolded.proofs.Counts.{matches_length, match_count, edge_count, frame_count}
 use Rattle.chains.specs.Chains.{target_of, gates_stored, end_of, match_of, edge_of}
 use Rattle.chains.specs.declared.Target.{Target}
 use Rattle.chains.proofs.Laws.{match_length}
-use Rattle.chains.proofs.Stored.{gates-append, end_is}
+use Rattle.chains.proofs.Stored.{gates_append, end_is}
 use Rattle.gathers.specs.Gathers.{chosen, gather_edges, gather_gates, gather_literals}
 use Rattle.gathers.specs.declared.Key.{Key}
 use Rattle.gathers.specs.declared.Key.TheVariants.{NextState, OutputBit}
@@ -43,7 +43,7 @@ use Rattle.draw.specs.declared.Source.{Source}
 match_of_lem : (n at t w : ℕ) → 1 ≤ n → match_of n at w ≡ ending at (matching n t) w
 unfolding ending match_of end_of
 match_of_lem n at t w h =
-    let l : length (chains_from at (matching n t) w) ≡ w * n = matches-length at n t w in
+    let l : length (chains_from at (matching n t) w) ≡ w * n = matches_length at n t w in
     let m : 2 * (at + (w * n + (n - 1))) ≡ 2 * (at + (w * n + n - 1)) = omega arith in
     m
     ∙ sym (ap (λ (t : Bool). cond t 1 (2 * (at + (w * n + n - 1)))) (ne_eqb (w * n + n) (w * n) (λ q. absurd (omega arith))))
@@ -117,15 +117,15 @@ module _ (b : List ℕ) (H : TableHeaded b) (t : ℕ) (h : t < frames b) where
       unfolding match_gates table_frame
       matches_are = rw (e, ek)
 
-      pub matches-count : length (match_gates F) ≡ target.words * target.inputs
+      pub matches_count : length (match_gates F) ≡ target.words * target.inputs
       unfolding table_frame
-      matches-count = match_count F ∙ rw e
+      matches_count = match_count F ∙ rw e
 
       -- the first edge is gate j
       module _ (j : ℕ) (ej : j ≡ k + target.words * target.inputs) where
         edges_first : target.base + j ≡ edges_at F
         unfolding edges_at
-        edges_first = omega (arith, frame_first, matches-count)
+        edges_first = omega (arith, frame_first, matches_count)
 
         pub edges_are : 1 ≤ inputs b → (st : List ℕ) → length d.states ≡ states b t → take (length d.states) st ≡ d.states
             → (count : ℕ) → count ≡ E → listed [] (edge_of target.inputs (target.base + k) st) count ≡ edge_gates F
@@ -140,9 +140,9 @@ module _ (b : List ℕ) (H : TableHeaded b) (t : ℕ) (h : t < frames b) where
 
         -- the first gather gate is gate g
         module _ (g : ℕ) (eg : g ≡ j + E) where
-          nexts-first : target.base + g ≡ next_gates_at F
+          nexts_first : target.base + g ≡ next_gates_at F
           unfolding next_gates_at table_frame
-          nexts-first = omega (arith, edges_first, edge_count F)
+          nexts_first = omega (arith, edges_first, edge_count F)
 
           -- the chains of the next states
           module _ (p : List ℕ) (ep : p ≡ layer_part b (nexts_at b) t) where
@@ -155,11 +155,11 @@ module _ (b : List ℕ) (H : TableHeaded b) (t : ℕ) (h : t < frames b) where
 
             pub nexts_are : (count : ℕ) → count ≡ F.nexts → gather_gates target nexts p g count ≡ next_gates F
             unfolding next_gates
-            nexts_are count ec = λ i. chains_from (nexts-first i) (λ s. entering_are s i) (ec i)
+            nexts_are count ec = λ i. chains_from (nexts_first i) (λ s. entering_are s i) (ec i)
 
             pub next_literals : (count : ℕ) → count ≡ F.nexts → gather_literals target nexts p g count ≡ listed [] (next_literal F) F.nexts
             unfolding next_literal
-            next_literals count ec = λ i. listed [] (λ s. inverted (ending (nexts-first i) (λ s. entering_are s i) s)) (ec i)
+            next_literals count ec = λ i. listed [] (λ s. inverted (ending (nexts_first i) (λ s. entering_are s i) s)) (ec i)
 
           -- the first gather gate of the outputs is gate o
           module _ (o : ℕ) (eo : o ≡ g + length (next_gates F)) (p : List ℕ) (ep : p ≡ layer_part b (outputs_at b) t) where
@@ -168,7 +168,7 @@ module _ (b : List ℕ) (H : TableHeaded b) (t : ℕ) (h : t < frames b) where
 
             outs_first : target.base + o ≡ out_gates_at F
             unfolding out_gates_at
-            outs_first = omega (arith, nexts-first)
+            outs_first = omega (arith, nexts_first)
 
             with_bit_are : (s : ℕ) → gather_edges target words p s ≡ with_bit F s
             unfolding with_bit table_frame chosen
@@ -200,8 +200,8 @@ parts_stored G k v v₁ v₂ v₃ v₄ F j g o e₁ e₂ e₃ e₄ ej eg eo h ro
     let n : length ((M ++ X) ++ N) ≡ length (M ++ X) + length N = length-append (M ++ X) N in
     e₄
     ∙ ap (λ (w : List ℕ). gates_stored G o w O)
-    (e₃ ∙ ap (λ (w : List ℕ). gates_stored G g w N) (e₂ ∙ ap (λ (w : List ℕ). gates_stored G j w X) e₁ ∙ gates-append G k v M X j ej (omega arith) room) ∙ gates-append G k v (M ++ X) N g (omega arith) (omega arith) room)
-    ∙ gates-append G k v ((M ++ X) ++ N) O o (omega arith) (omega arith) room
+    (e₃ ∙ ap (λ (w : List ℕ). gates_stored G g w N) (e₂ ∙ ap (λ (w : List ℕ). gates_stored G j w X) e₁ ∙ gates_append G k v M X j ej (omega arith) room) ∙ gates_append G k v (M ++ X) N g (omega arith) (omega arith) room)
+    ∙ gates_append G k v ((M ++ X) ++ N) O o (omega arith) (omega arith) room
     ∙ ap (gates_stored G k v) (append_assoc (M ++ X) N O ∙ append_assoc M X (N ++ O))
 
 -- ---- frames one after the other
@@ -217,7 +217,7 @@ module _ (b : List ℕ) where
   -- the gates of a frame are among all
   pub frame_room : (t : ℕ) → t < frames b → length (drawing b t).gates + length (frame_gates (table_frame b t (drawing b t))) ≤ gates_needed b
   unfolding gates_needed
-  frame_room t h = omega (arith, drawn-length b, frame_ends t, gates_mono (suc t) (frames b) h)
+  frame_room t h = omega (arith, drawn_length b, frame_ends t, gates_mono (suc t) (frames b) h)
 
   -- so a layer that is drawn has few states
   pub frame_edges : (t : ℕ) (d : Drawing) → (table_frame b t d).edges ≡ states b t * 2 ^ inputs b
@@ -238,15 +238,15 @@ module _ (b : List ℕ) where
       go false e = omega arith
 
   -- each state has its literal
-  pub states-count : states b 0 ≡ 1 → (t : ℕ) → t < frames b → length (drawing b t).states ≡ states b t
+  pub states_count : states b 0 ≡ 1 → (t : ℕ) → t < frames b → length (drawing b t).states ≡ states b t
   unfolding drawing with_frame
-  states-count one zero h = sym one
-  states-count one (suc t) h = listed-length _ _ ∙ frame_nexts b t (drawing b t) h
+  states_count one zero h = sym one
+  states_count one (suc t) h = listed_length _ _ ∙ frame_nexts b t (drawing b t) h
 
   -- and so have the next layer's
-  pub states-next : (t : ℕ) → let F : Frame = table_frame b t (drawing b t) in (drawing b (suc t)).states ≡ listed [] (next_literal F) F.nexts
+  pub states_next : (t : ℕ) → let F : Frame = table_frame b t (drawing b t) in (drawing b (suc t)).states ≡ listed [] (next_literal F) F.nexts
   unfolding drawing with_frame
-  states-next t = refl
+  states_next t = refl
 
 -- ---- all frames
 
@@ -258,18 +258,18 @@ pub part_back : (v w : List ℕ) (a k n : ℕ) → length w ≡ k → a + k ≤ 
 part_back v w a k n e h l = simp (length-append, length-drop) (omega (arith, length-take-le a v (omega arith)))
 
 -- one frame more, behind those that are stored
-pub drawn-more : (b : List ℕ) (G : ℕ) (v w w' : List ℕ) (t k : ℕ) → w ≡ gates_stored G 0 v (drawing b t).gates → k ≡ length (drawing b t).gates
+pub drawn_more : (b : List ℕ) (G : ℕ) (v w w' : List ℕ) (t k : ℕ) → w ≡ gates_stored G 0 v (drawing b t).gates → k ≡ length (drawing b t).gates
     → w' ≡ gates_stored G k w (frame_gates (table_frame b t (drawing b t))) → length (drawing b (suc t)).gates ≤ G → 8 + 4 * G ≤ length v
     → w' ≡ gates_stored G 0 v (drawing b (suc t)).gates
 unfolding drawing with_frame
-drawn-more b G v w w' t k ew ek e h room =
+drawn_more b G v w w' t k ew ek e h room =
     let fs : List (ℕ × ℕ) = frame_gates (table_frame b t (drawing b t)) in
-    e ∙ ap (λ (w : List ℕ). gates_stored G k w fs) ew ∙ gates-append G 0 v (drawing b t).gates fs k (omega arith) (omega (arith, frame_ends b t)) room
+    e ∙ ap (λ (w : List ℕ). gates_stored G k w fs) ew ∙ gates_append G 0 v (drawing b t).gates fs k (omega arith) (omega (arith, frame_ends b t)) room
 
 module _ (b : List ℕ) where
   -- the literals of the next layer's states stand in front of the list v
-  pub states-left : (v w : List ℕ) (t k : ℕ) → w ≡ (drawing b (suc t)).states → k ≡ length w → k ≤ length v → length v ≡ most_drawn_states → StatesKept b (suc t) (w ++ drop k v)
-  states-left v w t k ew ek h l =
+  pub states_left : (v w : List ℕ) (t k : ℕ) → w ≡ (drawing b (suc t)).states → k ≡ length w → k ≤ length v → length v ≡ most_drawn_states → StatesKept b (suc t) (w ++ drop k v)
+  states_left v w t k ew ek h l =
       record { long = simp (length-append, length-drop) (omega arith); kept = ap (λ (u : List ℕ). take (length u) (w ++ drop k v)) (sym ew) ∙ take-append_seam w (drop k v) ∙ ew }
 
   -- a source that was read at t is that of its own frame
@@ -280,24 +280,24 @@ module _ (b : List ℕ) where
       e ∙ (λ i. source_of b (f i) (g i))
 
   -- the literals of a frame's outputs stand behind those of earlier frames in the list v
-  pub outputs-left : (v w rest : List ℕ) (t m : ℕ) → m ≡ outputs b → take (m * t) v ≡ (drawing b t).outputs → m * t ≤ length v → w ≡ listed [] (out_literal (table_frame b t (drawing b t))) m
+  pub outputs_left : (v w rest : List ℕ) (t m : ℕ) → m ≡ outputs b → take (m * t) v ≡ (drawing b t).outputs → m * t ≤ length v → w ≡ listed [] (out_literal (table_frame b t (drawing b t))) m
       → take (m * (t + 1)) (take (m * t) v ++ (w ++ rest)) ≡ (drawing b (suc t)).outputs
   unfolding drawing with_frame table_frame
-  outputs-left v w rest t m em ev h ew =
+  outputs_left v w rest t m em ev h ew =
       let F : Frame = table_frame b t (drawing b t) in
-      let n : length w ≡ m = ap length ew ∙ listed-length (out_literal F) m in
+      let n : length w ≡ m = ap length ew ∙ listed_length (out_literal F) m in
       let l : length (take (m * t) v ++ w) ≡ m * (t + 1) =
       length-append (take (m * t) v) w ∙ omega (arith, length-take-le (m * t) v h, mul-suc m t, ap (λ (k : ℕ). m * k) (add-one t)) in
       ap (take (m * (t + 1))) (sym (append_assoc (take (m * t) v) w rest)) ∙ take_at (take (m * t) v ++ w) rest (m * (t + 1)) l
       ∙ ap₂ (λ (xs ys : List ℕ). xs ++ ys) ev (ew ∙ ap (listed [] (out_literal F)) em)
 
   -- the output gates, behind all frames
-  pub outputs-drawn : (G : ℕ) (v w w' : List ℕ) (k : ℕ) (ls : List ℕ) → w ≡ gates_stored G 0 v (drawing b (frames b)).gates → k ≡ length (drawing b (frames b)).gates
+  pub outputs_drawn : (G : ℕ) (v w w' : List ℕ) (k : ℕ) (ls : List ℕ) → w ≡ gates_stored G 0 v (drawing b (frames b)).gates → k ≡ length (drawing b (frames b)).gates
       → take (outputs b * frames b) ls ≡ (drawing b (frames b)).outputs
       → w' ≡ gates_stored G k w (listed [] (λ q. output_gate (is_connected b q) (get_or ls q 0)) (outputs b * frames b)) → k + outputs b * frames b ≤ G → 8 + 4 * G ≤ length v
       → w' ≡ gates_stored G 0 v (drawn b)
   unfolding drawn
-  outputs-drawn G v w w' k ls ew ek el e h room =
+  outputs_drawn G v w w' k ls ew ek el e h room =
       let d : Drawing = drawing b (frames b) in
       let q : ℕ = outputs b * frames b in
       let f : ℕ → ℕ × ℕ = λ i. output_gate (is_connected b i) (get_or ls i 0) in
@@ -305,5 +305,5 @@ module _ (b : List ℕ) where
       let gs : List (ℕ × ℕ) = listed [] f q in
       let same : gs ≡ listed [] g q =
       listed_cong f g q (λ i l. ap (output_gate (is_connected b i)) (sym (get_or-take q ls i 0 l) ∙ ap (λ (l : List ℕ). get_or l i 0) el)) in
-      e ∙ ap (λ (w : List ℕ). gates_stored G k w gs) ew ∙ gates-append G 0 v d.gates gs k (omega arith) (omega (arith, listed-length f q)) room
+      e ∙ ap (λ (w : List ℕ). gates_stored G k w gs) ew ∙ gates_append G 0 v d.gates gs k (omega arith) (omega (arith, listed_length f q)) room
       ∙ ap (λ (hs : List (ℕ × ℕ)). gates_stored G 0 v (d.gates ++ hs)) same

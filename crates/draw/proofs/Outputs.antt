@@ -10,13 +10,13 @@ use lib.ListN.{length, get_or}
 use Rattle.sizes.specs.Sizes.{outputs}
 use Rattle.circuit.specs.Lists.{listed, bit}
 use Rattle.circuit.specs.declared.Gate.{Gate}
-use Rattle.circuit.proofs.Lists.{listed-length, listed_cong, listed-add}
+use Rattle.circuit.proofs.Lists.{listed_length, listed_cong, listed_add}
 use Rattle.table.specs.Table.{connected}
 use Rattle.circuit.specs.Circuit.{output_gate}
 use Rattle.unfolded.specs.Unfolded.{is_connected}
 use Rattle.unfolded.proofs.Drawings.{connected-at}
 use Rattle.chains.specs.Chains.{gates_stored}
-use Rattle.chains.proofs.Stored.{gates-append}
+use Rattle.chains.proofs.Stored.{gates_append}
 
 -- ---- one gate, by whether its output is connected
 
@@ -46,7 +46,7 @@ module _ (b literals : List ℕ) (t : ℕ) where
   frame_more =
       let m : ℕ = outputs b in
       ap (λ k. listed [] (gate_of b literals) k) (ap (λ k. m * k) (add-one t) ∙ mul-suc m t)
-      ∙ listed-add (gate_of b literals) (m * t) m
+      ∙ listed_add (gate_of b literals) (m * t) m
       ∙ ap (λ l. listed [] (gate_of b literals) (m * t) ++ l)
       (listed_cong _ _ m (λ j h. ap (λ x. output_gate x (get_or literals (m * t + j) 0)) (connected-at b t j h)))
 
@@ -59,6 +59,6 @@ module _ (b literals : List ℕ) (t : ℕ) where
       let hs : List (ℕ × ℕ) = listed [] (gate_in (connected b t) (outputs b * t) literals) (outputs b) in
       e ∙ ap₂ (λ m c. gates_stored G (k + m * t) w (listed [] (gate_in c (m * t) literals) m)) em ec
       ∙ ap (λ w. gates_stored G (k + outputs b * t) w hs) ew
-      ∙ gates-append G k v gs hs (k + outputs b * t) (omega (arith, listed-length (gate_of b literals) (outputs b * t)))
-      (omega (arith, listed-length (gate_in (connected b t) (outputs b * t) literals) (outputs b))) room
+      ∙ gates_append G k v gs hs (k + outputs b * t) (omega (arith, listed_length (gate_of b literals) (outputs b * t)))
+      (omega (arith, listed_length (gate_in (connected b t) (outputs b * t) literals) (outputs b))) room
       ∙ ap (gates_stored G k v) (sym frame_more)

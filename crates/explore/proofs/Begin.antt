@@ -9,13 +9,13 @@ use lib.ListN.{length, get_or, set, replicate, length-set}
 use lib.Seq.{get_or-set_same, get_or-set_other}
 use Rattle.layered.specs.States.{count, history}
 use Rattle.layered.proofs.Search.{below_suc}
-use Rattle.layered.proofs.States.{count-first}
+use Rattle.layered.proofs.States.{count_first}
 use Rattle.diagrams.specs.Paths.{path_of}
 use Rattle.diagrams.specs.Numbering.{number_same}
 use Rattle.explore.specs.Explore.{layer_at, Laid, Explored, CountsTo, Subject, count_at, same_to, AtLayer, Numbered, Exploring, Startable, Underway, Moved, started, Groupable}
 use Rattle.explore.specs.declared.Layout.{Layout}
 use Rattle.explore.specs.declared.Cursor.{Cursor}
-use Rattle.explore.proofs.Layers.{two_words, frames-to, outputs_le}
+use Rattle.explore.proofs.Layers.{two_words, frames_to, outputs_le}
 use Rattle.explore.proofs.Groups.{candidates_power, candidates_in}
 use Rattle.explore.proofs.Turns.{group_starts, same_none}
 
@@ -35,7 +35,7 @@ counts_first n m T y a b =
     record {
       places = length-set (set zs 0 1) T 1 ∙ long;
       known = λ u h. below_suc {P = λ u. get_or (set (set zs 0 1) T 1) u 0 ≡ count (2 ^ n) T y u} (λ u h. absurd (omega arith))
-          (get_or-set_other (set zs 0 1) T 0 1 0 (λ q. omega arith) ∙ get_or-set_same zs 0 1 0 (omega (arith, size)) ∙ sym (count-first (2 ^ n) T y)) u (omega arith);
+          (get_or-set_other (set zs 0 1) T 0 1 0 (λ q. omega arith) ∙ get_or-set_same zs 0 1 0 (omega (arith, size)) ∙ sym (count_first (2 ^ n) T y)) u (omega arith);
       last = get_or-set_same (set zs 0 1) T 1 0 (omega (arith, long));
       none = λ u h f. get_or-set_other (set zs 0 1) T u 1 0 f ∙ get_or-set_other zs 0 u 1 0 (λ q. omega arith) ∙ zeros 17 u;
     }
@@ -45,7 +45,7 @@ module _ (layout : Layout) where
   first_cursor_lem = record { layer = 0; states = 1; at = 0; first = layout.outputs; parts = 0; state = 0; counts = set (set (replicate 17 0) 0 1) layout.frames 1 }
 
   pub first_groupable : Laid layout → Groupable layout (record { layer = 0; states = 1; at = 0; first = layout.outputs; parts = 0; state = 0; counts = set (set (replicate 17 0) 0 1) layout.frames 1 })
-  first_groupable L = record { laid = L; states_from = le_refl 1; states-to = omega arith; first_to = omega (arith, mul-le-mul_left layout.outputs L.frames_from, mul-one layout.outputs) }
+  first_groupable L = record { laid = L; states_from = le_refl 1; states_to = omega arith; first_to = omega (arith, mul-le-mul_left layout.outputs L.frames_from, mul-one layout.outputs) }
 
   module _ (g : Subject) (s ws : List ℕ) (S : Startable layout g s ws) where
     L : Laid layout
@@ -59,15 +59,15 @@ module _ (layout : Layout) where
     first_layer = record {
       roomy = S.roomy;
       inside = L.frames_from;
-      states_is = sym (count-first (2 ^ layout.bits) layout.frames g.y);
+      states_is = sym (count_first (2 ^ layout.bits) layout.frames g.y);
       at_is = refl;
-      counted = counts_first layout.bits layout.outputs layout.frames g.y L.frames_from (frames-to layout L);
+      counted = counts_first layout.bits layout.outputs layout.frames g.y L.frames_from (frames_to layout L);
       explored = record {
         paths = λ u k h. below_suc {P = λ u. k < count_at layout g u → get_or s (layer_at (2 ^ layout.bits) u + k) 0 ≡ path_of layout.bits u (history (2 ^ layout.bits) layout.frames g.y u k)} {n = 0}
-            (λ u h. absurd (omega arith)) (λ l. S.clean (0 + k) (omega (arith, count-first (2 ^ layout.bits) layout.frames g.y, some_half))) u (omega arith);
+            (λ u h. absurd (omega arith)) (λ l. S.clean (0 + k) (omega (arith, count_first (2 ^ layout.bits) layout.frames g.y, some_half))) u (omega arith);
         nexts = λ u d h. absurd (not-suc-le-zero h);
       };
-      zero-beyond = λ j a b. S.clean (layout.half + j) (omega arith);
+      zero_beyond = λ j a b. S.clean (layout.half + j) (omega arith);
     }
 
     pub start_holds : Exploring layout g s ws (started layout) (started layout).state
@@ -90,7 +90,7 @@ module _ (layout : Layout) (g : Subject) (s ws : List ℕ) (c : Cursor) (E : Exp
   unfolding Numbered
   state_turn = let A = E.layered in record {
     on = record {
-      layered = record { roomy = A.roomy; inside = A.inside; states_is = A.states_is; at_is = A.at_is; counted = A.counted; explored = A.explored; zero-beyond = A.zero-beyond };
+      layered = record { roomy = A.roomy; inside = A.inside; states_is = A.states_is; at_is = A.at_is; counted = A.counted; explored = A.explored; zero_beyond = A.zero_beyond };
       numbered = E.numbered;
       first_from = E.first_from;
       group_to = E.group_to;

@@ -14,7 +14,7 @@ use Rattle.descend.proofs.Laws.{standing_less}
 use Rattle.explore.specs.Explore.{Laid, Subject, Exploring, Startable, Underway, Moved, Moves, Starts, steps_left, job_of, Explorable, Ends}
 use Rattle.explore.specs.declared.Layout.{Layout}
 use Rattle.explore.specs.declared.Cursor.{Cursor}
-use Rattle.explore.proofs.Layers.{frames-to}
+use Rattle.explore.proofs.Layers.{frames_to}
 use Rattle.explore.proofs.Begin.{explored_all}
 use Rattle.explore.proofs.Jobs.{JobFits, job_fits, traced_on}
 
@@ -30,11 +30,11 @@ module _ (layout : Layout) (ns : List Node) (s ws : List ℕ) (pre : Explorable 
   pub laid : Laid layout
   laid = pre.startable.roomy.laid
 
-  pub reached-first : (c : Cursor) → Starts layout c → Reached s ws c
-  reached-first c S = record { exploring = λ g p _. S g s ws p; long = refl; work_long = refl; beyond = λ _ _. refl; before = λ _ _. refl }
+  pub reached_first : (c : Cursor) → Starts layout c → Reached s ws c
+  reached_first c S = record { exploring = λ g p _. S g s ws p; long = refl; work_long = refl; beyond = λ _ _. refl; before = λ _ _. refl }
 
   pub reached_layer : (r us : List ℕ) (c : Cursor) → Reached r us c → c.layer < 16
-  reached_layer r us c R = omega (arith, (R.exploring pre.subject pre.startable pre.diagrams).layered.inside, frames-to layout laid)
+  reached_layer r us c R = omega (arith, (R.exploring pre.subject pre.startable pre.diagrams).layered.inside, frames_to layout laid)
 
   module _ (r us : List ℕ) (c : Cursor) (R : Reached r us c) (more : c.layer + 1 < layout.frames) where
     here : Exploring layout pre.subject r us c c.state

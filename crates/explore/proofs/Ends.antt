@@ -30,7 +30,7 @@ module _ (layout : Layout) (s ws : List ℕ) (c : Cursor) (U : Underway layout s
         pub end_groupable : Groupable layout (record { layer = c.layer; states = c.states; at = c.at; first = c.first + c.parts; parts = 0; state = 0; counts = c.counts })
         end_groupable =
             let G = groupable layout U.subject s ws c U.exploring.layered (omega arith) in
-            record { laid = G.laid; states_from = G.states_from; states-to = G.states-to; first_to = omega arith }
+            record { laid = G.laid; states_from = G.states_from; states_to = G.states_to; first_to = omega arith }
 
         pub group_ends : (d : Cursor) → d ≡ next_group layout c → Moves layout s r ws c c.states d
         group_ends d q g E = subst (Moved layout g s r ws c) (sym q) (group_turn layout g s ws c U.more E r k fresh left)

@@ -10,7 +10,7 @@ use lib.ListN.{get_or}
 use Rattle.layered.specs.Search.{every}
 use Rattle.layered.proofs.Search.{every_cong}
 use Rattle.diagrams.specs.Numbering.{number_same}
-use Rattle.diagrams.proofs.Numbering.{number_cong, Equivalence, refined, equal-values, every_equivalence}
+use Rattle.diagrams.proofs.Numbering.{number_cong, Equivalence, refined, equal_values, every_equivalence}
 use Rattle.refine.specs.Rows.{number_in, part_in, same_row, Placed, Refined}
 use Rattle.refine.specs.declared.Rows.{Rows}
 use Rattle.explore.specs.Explore.{column_count, layer_at, Laid, Subject, lead_at, same_to, AtLayer, Numbered, Exploring, rows_of, Rowable}
@@ -32,8 +32,8 @@ module _ (layout : Layout) (g : Subject) (s ws : List ℕ) (c : Cursor) (A : AtL
   L = A.roomy.laid
 
   -- the next layer's place
-  pub next-at : c.at * layout.fan + 1 ≡ layer_at layout.fan (suc c.layer)
-  next-at = ap (λ (a : ℕ). a * layout.fan + 1) A.at_is ∙ sym (layer_next layout.fan c.layer)
+  pub next_at : c.at * layout.fan + 1 ≡ layer_at layout.fan (suc c.layer)
+  next_at = ap (λ (a : ℕ). a * layout.fan + 1) A.at_is ∙ sym (layer_next layout.fan c.layer)
 
   module _ (more : suc c.layer < layout.frames) where
     pub candidates_power : c.states * layout.fan ≤ layout.fan ^ suc c.layer
@@ -48,7 +48,7 @@ module _ (layout : Layout) (g : Subject) (s ws : List ℕ) (c : Cursor) (A : AtL
     candidates_in = omega (arith, layer_in layout.fan (two_words layout L) (suc c.layer) layout.frames more, L.half_is)
 
     pub rowable : Rowable layout c
-    rowable = record { next_in = omega (arith, next-at, candidates_in, candidates_power); half_to = half_to layout L }
+    rowable = record { next_in = omega (arith, next_at, candidates_in, candidates_power); half_to = half_to layout L }
 
 -- ---- the group's end
 
@@ -74,7 +74,7 @@ module _ (layout : Layout) (g : Subject) (s ws : List ℕ) (c : Cursor) (more : 
   number_is : (d : ℕ) → d < c.states * layout.fan → number_in s rows d ≡ number_same (same_to layout g c.layer before) d
   unfolding Numbered before rows
   number_is d l =
-      let e : layout.half + (c.at * layout.fan + 1) + d ≡ layout.half + (layer_at layout.fan (suc c.layer) + d) = omega (arith, next-at layout g s ws c A) in
+      let e : layout.half + (c.at * layout.fan + 1) + d ≡ layout.half + (layer_at layout.fan (suc c.layer) + d) = omega (arith, next_at layout g s ws c A) in
       ap (λ j. get_or s j 0) e ∙ E.numbered more d l
 
   alike : (i d b : ℕ) → Bool
@@ -82,7 +82,7 @@ module _ (layout : Layout) (g : Subject) (s ws : List ℕ) (c : Cursor) (more : 
 
   equivalence : (k : ℕ) → Equivalence (c.states * layout.fan) (same_to layout g c.layer k)
   unfolding same_to alike
-  equivalence k = every_equivalence (c.states * layout.fan) k alike (λ i _. equal-values (c.states * layout.fan) (λ d. lead_at layout g c.layer d i))
+  equivalence k = every_equivalence (c.states * layout.fan) k alike (λ i _. equal_values (c.states * layout.fan) (λ d. lead_at layout g c.layer d i))
 
   -- the test by numbers and rows
   pub row_same : (d b : ℕ) → d < c.states * layout.fan → b < c.states * layout.fan
@@ -97,5 +97,5 @@ module _ (layout : Layout) (g : Subject) (s ws : List ℕ) (c : Cursor) (more : 
   pub refined_numbers : (r : List ℕ) (k : ℕ) → Refined s r ws (rows_of layout c) k → (d : ℕ) → d < c.states * layout.fan
       → get_or r (layout.half + (layer_at layout.fan (suc c.layer) + d)) 0 ≡ number_same (same_to layout g c.layer (c.first - layout.outputs * suc c.layer + c.parts)) d
   refined_numbers r k R d l =
-      let e : layout.half + (layer_at layout.fan (suc c.layer) + d) ≡ layout.half + (c.at * layout.fan + 1) + d = omega (arith, next-at layout g s ws c A) in
+      let e : layout.half + (layer_at layout.fan (suc c.layer) + d) ≡ layout.half + (c.at * layout.fan + 1) + d = omega (arith, next_at layout g s ws c A) in
       ap (λ j. get_or r j 0) e ∙ R.numbered d l ∙ number_cong (c.states * layout.fan) _ _ (λ d b h l. row_same d b (omega arith) l) d l

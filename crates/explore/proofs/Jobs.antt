@@ -16,7 +16,7 @@ use Rattle.diagrams.specs.Theorems.{Holds}
 use Rattle.diagrams.specs.Frames.{word_bits}
 use Rattle.diagrams.specs.Paths.{path_of}
 use Rattle.diagrams.proofs.Paths.{path_below}
-use Rattle.diagrams.proofs.Classes.{lead-next}
+use Rattle.diagrams.proofs.Classes.{lead_next}
 use Rattle.explore.specs.Explore.{column_count, layer_at, Laid, Subject, lead_at, AtLayer, Numbered, Exploring, Underway, job_of}
 use Rattle.explore.specs.declared.Layout.{Layout}
 use Rattle.explore.specs.declared.Cursor.{Cursor}
@@ -55,11 +55,11 @@ module _ (layout : Layout) (g : Subject) (s ws : List ℕ) (c : Cursor) (done : 
 pub record JobSafe (layout : Layout) (s : List ℕ) (c : Cursor) : Type 0 where
   pub near : layout.columns ≤ 65536
   pub from_to : layout.roots + c.first ≤ 65536
-  pub at-to : c.at + c.state < 65536
+  pub at_to : c.at + c.state < 65536
   pub at_in : c.at + c.state < length s
   pub path_to : get_or s (c.at + c.state) 0 < 65536
   pub top_fits : layout.bits * c.layer ≤ 16
-  pub words-to : c.state * layout.fan ≤ column_count
+  pub words_to : c.state * layout.fan ≤ column_count
   pub columns_fit : c.state * layout.fan * c.parts ≤ column_count
 
 pub job_safe : (layout : Layout) (s : List ℕ) (c : Cursor) → ((ws : List ℕ) × Underway layout s ws c c.state) → JobSafe layout s c
@@ -71,11 +71,11 @@ job_safe layout s c (ws, U) =
     record {
       near = L.near;
       from_to = omega (arith, E.group_to, L.apart, L.near);
-      at-to = omega (arith, place_in layout g s ws c c.state E, half_to layout L);
+      at_to = omega (arith, place_in layout g s ws c c.state E, half_to layout L);
       at_in = omega (arith, place_in layout g s ws c c.state E, A.roomy.room);
-      path_to = rw (path_at layout g s ws c c.state E) (lt_of_lt_of_le (path_below layout.bits c.layer _) (pow_mono {j = 16} (omega (arith, top_to layout g s ws c c.state E, L.bits-to))));
-      top_fits = omega (arith, top_to layout g s ws c c.state E, L.bits-to);
-      words-to = omega (arith, candidates_few layout g s ws c A U.more, mul-le-mul_right {m = c.state} {n = c.states} layout.fan (omega (arith, E.state_in)));
+      path_to = rw (path_at layout g s ws c c.state E) (lt_of_lt_of_le (path_below layout.bits c.layer _) (pow_mono {j = 16} (omega (arith, top_to layout g s ws c c.state E, L.bits_to))));
+      top_fits = omega (arith, top_to layout g s ws c c.state E, L.bits_to);
+      words_to = omega (arith, candidates_few layout g s ws c A U.more, mul-le-mul_right {m = c.state} {n = c.states} layout.fan (omega (arith, E.state_in)));
       columns_fit = omega (arith, columns_to layout g s ws c c.state E);
     }
 
@@ -126,7 +126,7 @@ module _ (layout : Layout) (g : Subject) (s ws : List ℕ) (c : Cursor) (E : Exp
         let t = c.layer in
         ap (λ j. get_or ms j 0) p ∙ leads w i l h
         ∙ ap₂ (λ p f. follow g.D (suc (n * t)) (word_bits n w) (follow g.D 1 (word_bits (n * t) p) f)) (path_at layout g s ws c c.state E) (root_at i h ∙ ap g.root (sym o))
-        ∙ sym (lead-next n layout.outputs layout.frames g.y g.D g.root t d (c.first - layout.outputs * suc c.layer + i)
+        ∙ sym (lead_next n layout.outputs layout.frames g.y g.D g.root t d (c.first - layout.outputs * suc c.layer + i)
         ∙ ap₂ (λ w k. follow g.D (suc (n * t)) (word_bits n w) (follow g.D 1 (word_bits (n * t) (path_of n t (history K layout.frames g.y t k))) (g.root (layout.outputs * suc t + (c.first - layout.outputs * suc t + i))))) b a)
 
     pub traced_on : Exploring layout g s ms c (suc c.state)
@@ -145,7 +145,7 @@ module _ (layout : Layout) (g : Subject) (s ws : List ℕ) (c : Cursor) (E : Exp
         at_is = A.at_is;
         counted = A.counted;
         explored = A.explored;
-        zero-beyond = A.zero-beyond;
+        zero_beyond = A.zero_beyond;
       };
       numbered = E.numbered;
       first_from = E.first_from;

@@ -42,25 +42,25 @@ module _ (layout : Layout) (L : Laid layout) where
   pub two_words : 2 ≤ layout.fan
   two_words = omega (arith, L.fan_is, pow_mono {i = 1} L.inputs_from)
 
-  pub frames-to : layout.frames ≤ 16
-  frames-to = omega (arith, L.bits-to, mul-le-mul_right layout.frames L.inputs_from)
+  pub frames_to : layout.frames ≤ 16
+  frames_to = omega (arith, L.bits_to, mul-le-mul_right layout.frames L.inputs_from)
 
   pub outputs_few : layout.outputs * layout.frames ≤ 256
-  outputs_few = omega (arith, frames-to, mul-le-mul_right layout.frames L.outputs-to)
+  outputs_few = omega (arith, frames_to, mul-le-mul_right layout.frames L.outputs_to)
 
   pub half_to : layout.half ≤ 65536
-  half_to = omega (arith, L.half_is, ap (λ (K : ℕ). K ^ layout.frames) L.fan_is, power_fits layout.bits layout.frames L.bits-to)
+  half_to = omega (arith, L.half_is, ap (λ (K : ℕ). K ^ layout.frames) L.fan_is, power_fits layout.bits layout.frames L.bits_to)
 
   -- a layer below the last has at most 32,768 histories
   pub few_histories : (t : ℕ) → t < layout.frames → layout.fan ^ t ≤ 32768
   few_histories t h =
-      let b : layout.bits * t ≤ 15 = omega (arith, mul-suc layout.bits t, mul-le-mul_left layout.bits h, L.bits-to, L.inputs_from) in
+      let b : layout.bits * t ≤ 15 = omega (arith, mul-suc layout.bits t, mul-le-mul_left layout.bits h, L.bits_to, L.inputs_from) in
       let p : 2 ^ (layout.bits * t) ≤ 32768 = pow_mono {j = 15} b in
       omega (arith, p, pow-mul 2 layout.bits t, ap (λ (K : ℕ). K ^ t) L.fan_is)
 
   pub words_few : layout.fan ≤ 65536
   words_few =
-      let b : layout.bits ≤ 16 = omega (arith, L.bits-to, mul-le-mul_left layout.bits L.frames_from) in
+      let b : layout.bits ≤ 16 = omega (arith, L.bits_to, mul-le-mul_left layout.bits L.frames_from) in
       let p : 2 ^ layout.bits ≤ 65536 = pow_mono {j = 16} b in
       omega (arith, p, L.fan_is)
 
@@ -81,7 +81,7 @@ pub group_count : (layout : Layout) (c : Cursor) → Groupable layout c → (1 �
 group_count layout c G =
     let L = G.laid in
     let a : 1 * layout.fan ≤ c.states * layout.fan = mul-le-mul_right layout.fan G.states_from in
-    let b : c.states * layout.fan ≤ 65536 * layout.fan = mul-le-mul_right layout.fan G.states-to in
+    let b : c.states * layout.fan ≤ 65536 * layout.fan = mul-le-mul_right layout.fan G.states_to in
     (omega (arith, two_words layout L), omega (arith, words_few layout L))
 
 pub grouped_is : (layout : Layout) (c : Cursor) (parts : ℕ) → parts ≡ min (layout.outputs * layout.frames - c.first) (column_count / (c.states * layout.fan))
@@ -110,10 +110,10 @@ module _ (layout : Layout) (c : Cursor) (k : ℕ) where
 
   module _ (N : Nextable layout c k) where
     pub next_place : c.layer + 1 < 17
-    next_place = omega (arith, frames-to layout N.laid, N.more)
+    next_place = omega (arith, frames_to layout N.laid, N.more)
 
     pub next_groupable : Groupable layout layer_more
-    next_groupable = record { laid = N.laid; states_from = N.count_from; states-to = omega (arith, N.count-to); first_to = outputs_le layout N.laid (c.layer + 1 + 1) layout.frames (omega (arith, N.more)) }
+    next_groupable = record { laid = N.laid; states_from = N.count_from; states_to = omega (arith, N.count_to); first_to = outputs_le layout N.laid (c.layer + 1 + 1) layout.frames (omega (arith, N.more)) }
 
     pub next-first : layout.outputs * (c.layer + 1 + 1) ≤ 256
     next-first = omega (arith, next_groupable.first_to, outputs_few layout N.laid)

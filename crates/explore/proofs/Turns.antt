@@ -26,8 +26,8 @@ use Rattle.refine.proofs.Collecting.{refined_by}
 use Rattle.explore.specs.Explore.{column_count, layer_at, Laid, Explored, CountsTo, Subject, count_at, lead_at, same_to, Roomy, AtLayer, Numbered, Exploring, Moved, grouped, next_group, next_layer, rows_of, Groupable, Nextable}
 use Rattle.explore.specs.declared.Layout.{Layout}
 use Rattle.explore.specs.declared.Cursor.{Cursor}
-use Rattle.explore.proofs.Layers.{layer_apart, two_words, frames-to, outputs_few, few_histories, outputs_le, few_states, some_state}
-use Rattle.explore.proofs.Groups.{next-at, candidates_power, candidates_few, candidates_in, rowable, placed, row_same, refined_numbers}
+use Rattle.explore.proofs.Layers.{layer_apart, two_words, frames_to, outputs_few, few_histories, outputs_le, few_states, some_state}
+use Rattle.explore.proofs.Groups.{next_at, candidates_power, candidates_few, candidates_in, rowable, placed, row_same, refined_numbers}
 
 -- ---- a group's start
 
@@ -49,7 +49,7 @@ module _ (layout : Layout) (g : Subject) (s ws : List ℕ) (c : Cursor) (A : AtL
           at_is = A.at_is;
           counted = A.counted;
           explored = A.explored;
-          zero-beyond = A.zero-beyond;
+          zero_beyond = A.zero_beyond;
         };
         numbered = N;
         first_from = a;
@@ -66,7 +66,7 @@ module _ (layout : Layout) (g : Subject) (s ws : List ℕ) (c : Cursor) (A : AtL
   groupable b = record {
     laid = A.roomy.laid;
     states_from = omega (arith, A.states_is, some_state layout A.roomy.laid g c.layer);
-    states-to = omega (arith, A.states_is, few_states layout A.roomy.laid g c.layer, few_histories layout A.roomy.laid c.layer A.inside);
+    states_to = omega (arith, A.states_is, few_states layout A.roomy.laid g c.layer, few_histories layout A.roomy.laid c.layer A.inside);
     first_to = b;
   }
 
@@ -108,16 +108,16 @@ module _ (layout : Layout) (g : Subject) (s ws : List ℕ) (c : Cursor) (more : 
 
   -- only the layer's own places change
   refined_low : (j : ℕ) → j < layer_at layout.fan (suc c.layer) → get_or r j 0 ≡ get_or s j 0
-  refined_low j l = R.kept j (λ h. absurd (omega (arith, next-at layout g s ws c A))) (λ h. absurd (omega (arith, next-at layout g s ws c A)))
+  refined_low j l = R.kept j (λ h. absurd (omega (arith, next_at layout g s ws c A))) (λ h. absurd (omega (arith, next_at layout g s ws c A)))
 
   refined_high : (j : ℕ) → j < layer_at layout.fan (suc c.layer) → get_or r (layout.half + j) 0 ≡ get_or s (layout.half + j) 0
   refined_high j l =
-      R.kept (layout.half + j) (λ h. omega (arith, (rowable layout g s ws c A more).next_in)) (λ h. absurd (omega (arith, next-at layout g s ws c A)))
+      R.kept (layout.half + j) (λ h. omega (arith, (rowable layout g s ws c A more).next_in)) (λ h. absurd (omega (arith, next_at layout g s ws c A)))
 
   refined_beyond : (j : ℕ) → layer_at layout.fan (suc (suc c.layer)) ≤ j → get_or r (layout.half + j) 0 ≡ get_or s (layout.half + j) 0
   unfolding layer_at
   refined_beyond j l =
-      R.kept (layout.half + j) (λ h. omega (arith, (rowable layout g s ws c A more).next_in)) (λ h. omega (arith, next-at layout g s ws c A, candidates_power layout g s ws c A more))
+      R.kept (layout.half + j) (λ h. omega (arith, (rowable layout g s ws c A more).next_in)) (λ h. omega (arith, next_at layout g s ws c A, candidates_power layout g s ws c A more))
 
   two : 2 ≤ 2 ^ layout.bits
   two = omega (arith, L.fan_is, two_words layout L)
@@ -144,7 +144,7 @@ module _ (layout : Layout) (g : Subject) (s ws : List ℕ) (c : Cursor) (more : 
       counted = A.counted;
       explored = explored_kept layout.bits layout.outputs layout.frames g.y two layout.half c.layer s r
           (λ j l. refined_low j (omega (arith, layer_places (suc c.layer)))) (λ j l. refined_high j (omega (arith, layer_places (suc c.layer)))) A.explored;
-      zero-beyond = λ j a b. refined_beyond j a ∙ A.zero-beyond j a b;
+      zero_beyond = λ j a b. refined_beyond j a ∙ A.zero_beyond j a b;
     }
 
     pub group_turn : Moved layout g s r ws c (next_group layout c)
@@ -212,7 +212,7 @@ module _ (layout : Layout) (g : Subject) (s ws : List ℕ) (c : Cursor) (more : 
         let P = placed layout g s ws c more E in
         let pos : 0 < layout.fan = omega (arith, two_words layout L) in
         let q : c.states * layout.fan / layout.fan ≡ c.states = mul-div_cancel c.states pos in
-        let behind : c.at + c.states ≤ c.at * layout.fan + 1 = omega (arith, A.at_is, next-at layout g s ws c A, A.states_is, few_states layout L g c.layer, layer_apart layout.fan (two_words layout L) c.layer (suc c.layer) (le_refl _)) in
+        let behind : c.at + c.states ≤ c.at * layout.fan + 1 = omega (arith, A.at_is, next_at layout g s ws c A, A.states_is, few_states layout L g c.layer, layer_apart layout.fan (two_words layout L) c.layer (suc c.layer) (le_refl _)) in
         record {
           copy_before = P.copy_before;
           numbers_in = omega (arith, P.numbers_in, R.long);
@@ -220,8 +220,8 @@ module _ (layout : Layout) (g : Subject) (s ws : List ℕ) (c : Cursor) (more : 
           apart = λ i l h. absurd (omega (arith, q, behind));
           words = pos;
           whole = ap (λ (x : ℕ). x * layout.fan) q;
-          shift = omega (arith, L.bits-to, mul-le-mul_left layout.bits A.inside, mul-suc layout.bits c.layer);
-          short = λ d l. rw (path_is d l) (lt_of_lt_of_le (path_below layout.bits (suc c.layer) _) (pow_mono {j = 16} (omega (arith, L.bits-to, mul-le-mul_left layout.bits A.inside))));
+          shift = omega (arith, L.bits_to, mul-le-mul_left layout.bits A.inside, mul-suc layout.bits c.layer);
+          short = λ d l. rw (path_is d l) (lt_of_lt_of_le (path_below layout.bits (suc c.layer) _) (pow_mono {j = 16} (omega (arith, L.bits_to, mul-le-mul_left layout.bits A.inside))));
         }
 
     pub nextable : Nextable layout c k
@@ -230,14 +230,14 @@ module _ (layout : Layout) (g : Subject) (s ws : List ℕ) (c : Cursor) (more : 
       more = more;
       counts_in = A.counted.places;
       count_from = omega (arith, count_is, some_state layout L g (suc c.layer));
-      count-to = omega (arith, count_is, few_states layout L g (suc c.layer), few_histories layout L (suc c.layer) more);
+      count_to = omega (arith, count_is, few_states layout L g (suc c.layer), few_histories layout L (suc c.layer) more);
     }
 
     -- ---- and their paths collected
 
     module _ (q : List ℕ) (C : Collected r q (rows_of layout c) c.at layout.fan (layout.bits * c.layer)) where
       collected_low : (j : ℕ) → j < layer_at layout.fan (suc c.layer) → get_or q j 0 ≡ get_or s j 0
-      collected_low j l = C.kept j (λ h. absurd (omega (arith, next-at layout g s ws c A))) ∙ refined_low j l
+      collected_low j l = C.kept j (λ h. absurd (omega (arith, next_at layout g s ws c A))) ∙ refined_low j l
 
       collected_half : (j : ℕ) → get_or q (layout.half + j) 0 ≡ get_or r (layout.half + j) 0
       collected_half j = C.kept (layout.half + j) (λ h. omega (arith, (rowable layout g s ws c A more).next_in))
@@ -251,14 +251,14 @@ module _ (layout : Layout) (g : Subject) (s ws : List ℕ) (c : Cursor) (more : 
       new_paths j l =
           let (d, b, new, e) = number_hits same (count_at layout g c.layer * K) j (omega (arith, classes.class_count)) in
           let i : d < c.states * layout.fan = omega (arith, all_is) in
-          let p : layer_at K (suc c.layer) + j ≡ c.at * layout.fan + 1 + number_same same d = omega (arith, e, next-at layout g s ws c A, layer_places (suc c.layer)) in
+          let p : layer_at K (suc c.layer) + j ≡ c.at * layout.fan + 1 + number_same same d = omega (arith, e, next_at layout g s ws c A, layer_places (suc c.layer)) in
           ap (λ a. get_or q a 0) p ∙ C.paths same numbers d i new ∙ path_is d i
           ∙ ap (path_of layout.bits (suc c.layer)) (sym (classes.class_history d b new) ∙ ap (history K layout.frames g.y (suc c.layer)) e)
 
       new_nexts : (d : ℕ) → d < count_at layout g c.layer * K → get_or q (layout.half + (layer_at K (suc c.layer) + d)) 0 ≡ number K layout.frames g.y (suc c.layer) (candidate K layout.frames g.y c.layer d)
       unfolding K same
       new_nexts d l =
-          let e : layout.half + (layer_at K (suc c.layer) + d) ≡ layout.half + (c.at * layout.fan + 1) + d = omega (arith, next-at layout g s ws c A, layer_places (suc c.layer)) in
+          let e : layout.half + (layer_at K (suc c.layer) + d) ≡ layout.half + (c.at * layout.fan + 1) + d = omega (arith, next_at layout g s ws c A, layer_places (suc c.layer)) in
           collected_half (layer_at K (suc c.layer) + d) ∙ ap (λ j. get_or r j 0) e ∙ R.numbered d (omega (arith, all_is)) ∙ classes.class_number d l
 
       old : Explored layout.bits layout.outputs layout.frames g.y layout.half q c.layer
@@ -275,7 +275,7 @@ module _ (layout : Layout) (g : Subject) (s ws : List ℕ) (c : Cursor) (more : 
       }
 
       counted_next : CountsTo layout.bits layout.outputs layout.frames g.y (set c.counts (suc c.layer) k) (suc c.layer)
-      counted_next = counts_more layout.bits layout.outputs layout.frames g.y c.counts c.layer k A.counted more (frames-to layout L) count_is
+      counted_next = counts_more layout.bits layout.outputs layout.frames g.y c.counts c.layer k A.counted more (frames_to layout L) count_is
 
       next_layer_lem : Cursor
       next_layer_lem = record {
@@ -294,21 +294,21 @@ module _ (layout : Layout) (g : Subject) (s ws : List ℕ) (c : Cursor) (more : 
         roomy = record { given = A.roomy.given; laid = L; room = omega (arith, A.roomy.room, R.long, C.long); columns_room = A.roomy.columns_room; rooted = A.roomy.rooted };
         inside = more;
         states_is = count_is;
-        at_is = next-at layout g s ws c A;
+        at_is = next_at layout g s ws c A;
         counted = counted_next;
         explored = explored_next;
-        zero-beyond = λ j a b. zeros j (omega (arith, layer_apart layout.fan (two_words layout L) (suc (suc c.layer)) (suc (suc (suc c.layer))) (le_refl _))) b;
+        zero_beyond = λ j a b. zeros j (omega (arith, layer_apart layout.fan (two_words layout L) (suc (suc c.layer)) (suc (suc (suc c.layer))) (le_refl _))) b;
       }
         where
           zeros : (j : ℕ) → layer_at layout.fan (suc (suc c.layer)) ≤ j → j < layout.half → get_or q (layout.half + j) 0 ≡ 0
-          zeros j a b = collected_half j ∙ refined_beyond j a ∙ A.zero-beyond j a b
+          zeros j a b = collected_half j ∙ refined_beyond j a ∙ A.zero_beyond j a b
 
       pub layer_turn : Moved layout g s q ws c (next_layer layout c k)
       unfolding next_layer_lem grouped Numbered
       layer_turn = record {
         on = group_starts layout g q ws next_layer_lem next_layer_layer numbered (le_refl _) (outputs_le layout L (suc (suc c.layer)) layout.frames more)
             (λ h. omega (arith, outputs_le layout L (suc (suc (suc c.layer))) layout.frames h, mul-suc layout.outputs (suc (suc c.layer)), L.outputs_from));
-        falls = omega (arith, more, outputs_few layout L, nextable.count-to);
+        falls = omega (arith, more, outputs_few layout L, nextable.count_to);
         kept = λ j l. C.kept j (λ h. omega (arith, (rowable layout g s ws c A more).next_in))
             ∙ R.kept j (λ h. omega (arith, (rowable layout g s ws c A more).next_in)) (λ h. omega (arith, (rowable layout g s ws c A more).next_in));
         long = C.long ∙ R.long;
@@ -319,5 +319,5 @@ module _ (layout : Layout) (g : Subject) (s ws : List ℕ) (c : Cursor) (more : 
               let b : layer_at layout.fan (suc (suc c.layer)) + d < layout.half = omega (arith, candidates_in layout g q ws next_layer_lem next_layer_layer h, candidates_power layout g q ws next_layer_lem next_layer_layer h) in
               let z : layout.outputs * suc (suc c.layer) - layout.outputs * suc (suc c.layer) ≡ 0 = omega arith in
               collected_half (layer_at layout.fan (suc (suc c.layer)) + d) ∙ refined_beyond (layer_at layout.fan (suc (suc c.layer)) + d) (omega arith)
-              ∙ A.zero-beyond (layer_at layout.fan (suc (suc c.layer)) + d) (omega arith) b
+              ∙ A.zero_beyond (layer_at layout.fan (suc (suc c.layer)) + d) (omega arith) b
               ∙ sym (ap (λ j. number_same (same_to layout g (suc c.layer) j) d) z ∙ same_none layout g (suc c.layer) d)

@@ -34,8 +34,8 @@ pub record Laid (layout : Layout) : Type 0 where
   pub inputs_from : 1 ≤ layout.bits
   pub outputs_from : 1 ≤ layout.outputs
   pub frames_from : 1 ≤ layout.frames
-  pub bits-to : layout.bits * layout.frames ≤ 16
-  pub outputs-to : layout.outputs ≤ 16
+  pub bits_to : layout.bits * layout.frames ≤ 16
+  pub outputs_to : layout.outputs ≤ 16
   pub near : layout.columns ≤ 65536
 
 -- K = 2 ^ n words, T frames of m outputs, the response y
@@ -93,7 +93,7 @@ module _ (layout : Layout) (g : Subject) where
     pub at_is : c.at ≡ layer_at layout.fan c.layer
     pub counted : CountsTo layout.bits layout.outputs layout.frames g.y c.counts c.layer
     pub explored : Explored layout.bits layout.outputs layout.frames g.y layout.half s c.layer
-    pub zero-beyond : (j : ℕ) → layer_at layout.fan (suc (suc c.layer)) ≤ j → j < layout.half → get_or s (layout.half + j) 0 ≡ 0
+    pub zero_beyond : (j : ℕ) → layer_at layout.fan (suc (suc c.layer)) ≤ j → j < layout.half → get_or s (layout.half + j) 0 ≡ 0
 
   -- its candidates are numbered by the outputs before the group
   unfoldable pub Numbered : (s : List ℕ) → Cursor → Type 0
@@ -224,7 +224,7 @@ job_of s layout c = record {
 pub record Groupable (layout : Layout) (c : Cursor) : Type 0 where
   pub laid : Laid layout
   pub states_from : 1 ≤ c.states
-  pub states-to : c.states ≤ 65536
+  pub states_to : c.states ≤ 65536
   pub first_to : c.first ≤ layout.outputs * layout.frames
 
 -- a cursor whose candidates lie in the halves
@@ -238,4 +238,4 @@ pub record Nextable (layout : Layout) (c : Cursor) (k : ℕ) : Type 0 where
   pub more : suc c.layer < layout.frames
   pub counts_in : length c.counts ≡ 17
   pub count_from : 1 ≤ k
-  pub count-to : k ≤ 32768
+  pub count_to : k ≤ 32768

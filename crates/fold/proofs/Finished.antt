@@ -11,7 +11,7 @@ use Rattle.verdict.specs.declared.Figures.{Figures}
 use Rattle.verdict.specs.declared.Verdict.{Verdict}
 use Rattle.circuit.specs.Circuit.{gates, all_inputs}
 use Rattle.circuit.specs.WellFormed.{HeadOf, Formed, Accepted}
-use Rattle.circuit.proofs.Accepted.{accepted as circuitAccepted}
+use Rattle.circuit.proofs.Accepted.{accepted as accepted_circuit}
 use Rattle.source.specs.Source.{head_of, sourced, WholeOf, SourceOf}
 use Rattle.source.specs.declared.Source.{Source}
 use Rattle.source.proofs.Sources.{sourced_whole, whole_source}
@@ -24,7 +24,7 @@ use Rattle.survey.specs.Survey.{work_length, most_records, Known, Surveyable, Su
 use Rattle.survey.specs.declared.Survey.{Survey}
 use Rattle.folded.specs.Folded.{scratch_needed, scratch_checked, nodes_checked, ask_checked, cleared_to, cleared, scratch_after}
 use Rattle.folded.proofs.Asked.{scratch_tells, scratch_passed, used, records_unused, records_used}
-use Rattle.ask.proofs.Answered.{zeros-length, zeros-at, needed_as, cleared-zero, cleared-beyond, cleared-same}
+use Rattle.ask.proofs.Answered.{zeros_length, zeros_at, needed_as, cleared_zero, cleared_beyond, cleared_same}
 use Rattle.admit.specs.declared.wanted.Wanted.{Wanted}
 use Rattle.admit.specs.Admit.{table_checked}
 use Rattle.fold.specs.Fold.{wanted_checked, Findings, Ends, Clean, Finishes, Folds}
@@ -38,8 +38,8 @@ module _ (b : List ℕ) (w : Wanted) (s : List ℕ) (ys : List Node) (r : List �
     accepted = C.accepted;
     room = omega (arith, needed_as b, C.enough);
     clean = λ j l. C.zeros j (omega (arith, needed_as b));
-    zeros = λ i. ap (λ (r : List ℕ). get_or r i 0) e ∙ zeros-at work_length i;
-    space = omega (arith, ap length e ∙ zeros-length work_length);
+    zeros = λ i. ap (λ (r : List ℕ). get_or r i 0) e ∙ zeros_at work_length i;
+    space = omega (arith, ap length e ∙ zeros_length work_length);
   }
 
   -- what is needed of the scratch can be cleared
@@ -60,7 +60,7 @@ module _ (b : List ℕ) (w : Wanted) (s : List ℕ) (ys : List Node) (r : List �
     pub finishes : (v : Verdict) (r' : List ℕ) → Ends b w (length ns) r r' v → (zs : List Node) → zs ≡ replicate (length ns) none → (s₃ : List ℕ) → s₃ ≡ cleared b s₂ → Finishes b w s s₃ ys zs r r' v
     finishes v r' E zs ez s₃ es = record {
       ends = subst (λ n. Ends b w n r r' v) l E;
-      scratch_left = es ∙ cleared-same b s s₂ l₂ (λ i. S.beyond (scratch_needed b + i) (omega (arith, needed_as b)));
+      scratch_left = es ∙ cleared_same b s s₂ l₂ (λ i. S.beyond (scratch_needed b + i) (omega (arith, needed_as b)));
       nodes_left = ez ∙ ap (λ n. replicate n none) l;
     }
 
@@ -99,7 +99,7 @@ module _ (b : List ℕ) (w : Wanted) (s : List ℕ) (ys : List Node) (r : List �
     passed = scratch_passed b (length s) (ap (λ (f : Figures). eqb f.number 0) (sym J) ∙ (sym q ∙ is_true t y))
 
     accepted : Accepted b
-    accepted = circuitAccepted b _ (scratch_tells b (length s) passed).0
+    accepted = accepted_circuit b _ (scratch_tells b (length s) passed).0
 
     pub formed : Formed b
     formed = accepted.form
@@ -111,7 +111,7 @@ module _ (b : List ℕ) (w : Wanted) (s : List ℕ) (ys : List Node) (r : List �
     clean = record {
       accepted = accepted;
       enough = omega (arith, (scratch_tells b (length s) passed).1);
-      zeros = λ j l. ap (λ (r : List ℕ). get_or r j 0) is_cleared ∙ cleared-zero b s j l;
+      zeros = λ j l. ap (λ (r : List ℕ). get_or r j 0) is_cleared ∙ cleared_zero b s j l;
     }
 
     -- the source of the circuit as it stands
@@ -125,6 +125,6 @@ module _ (b : List ℕ) (w : Wanted) (s : List ℕ) (ys : List Node) (r : List �
           record {
             answered = F.ends.answered ∙ sym (passed_figures b w (length s) (length ys) r passed);
             written = F.ends.written ∙ sym (passed_result b w (length s) (length ys) r passed);
-            scratch_left = F.scratch_left ∙ cleared-same b s s₁ l₁ (λ i. ap (λ (r : List ℕ). get_or r (scratch_needed b + i) 0) is_cleared ∙ cleared-beyond b s i) ∙ sym (used b s passed);
+            scratch_left = F.scratch_left ∙ cleared_same b s s₁ l₁ (λ i. ap (λ (r : List ℕ). get_or r (scratch_needed b + i) 0) is_cleared ∙ cleared_beyond b s i) ∙ sym (used b s passed);
             nodes_left = F.nodes_left ∙ sym (records_used b (length s) ys passed);
           }

@@ -164,8 +164,8 @@ module _ (b : List ℕ) (survey : Survey) (w : Wanted) (ns : List Node) (s ws r 
       accepts_at : survey_checked b w (length ns) (length r) ≡ answer 0 (figures v).place
       accepts_at = sym answers ∙ ap (λ n. answer n (figures v).place) (eqb-true (figures v).number 0 (sym q ∙ is_true t y))
 
-      all-counted : survey.place ≡ gates b + 1
-      all-counted =
+      all_counted : survey.place ≡ gates b + 1
+      all_counted =
           let h = well_formed F.accepted.form (head_of b) in
           let (p, e) = nodes_enough b w (length ns) r (figures v).place accepts_at in
           ⊎_elim (λ x. x) (λ l. absurd (refused_not p (sym (counted_refused b _ h survey (length ns) F.place_is (omega arith)) ∙ e)))
@@ -179,7 +179,7 @@ module _ (b : List ℕ) (survey : Survey) (w : Wanted) (ns : List Node) (s ws r 
       tabled = record {
         accepted = F.accepted;
         records = min (length ns) most_records;
-        known = F.known all-counted;
+        known = F.known all_counted;
         enough = F.enough;
         space = F.space;
         room = (roomy b w (length ns) r (figures v).place accepts_at).0;

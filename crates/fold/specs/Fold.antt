@@ -18,11 +18,11 @@ use Rattle.admit.specs.declared.wanted.Wanted.{Wanted}
 use Rattle.admit.specs.Admit.{table_checked}
 
 -- what is answered, and what the result holds
-unfoldable pub wanted_checked : (b : List ℕ) → Wanted → (scratchRoom nodeRoom resultRoom : ℕ) → Figures
-wanted_checked b w scratchRoom nodeRoom resultRoom = and_then (ask_checked b scratchRoom nodeRoom) (table_checked b w resultRoom)
+unfoldable pub wanted_checked : (b : List ℕ) → Wanted → (scratch_room node_room result_room : ℕ) → Figures
+wanted_checked b w scratch_room node_room result_room = and_then (ask_checked b scratch_room node_room) (table_checked b w result_room)
 
-unfoldable pub wanted_result : (b : List ℕ) → Wanted → (scratchRoom nodeRoom : ℕ) (before : List ℕ) → List ℕ
-wanted_result b w scratchRoom nodeRoom before = result_after (wanted_checked b w scratchRoom nodeRoom (length before)) (folded_bytes b) before
+unfoldable pub wanted_result : (b : List ℕ) → Wanted → (scratch_room node_room : ℕ) (before : List ℕ) → List ℕ
+wanted_result b w scratch_room node_room before = result_after (wanted_checked b w scratch_room node_room (length before)) (folded_bytes b) before
 
 -- demands 2 and 3, of the bytes that a call with these figures left at the front of the result
 unfoldable pub Promised : List ℕ → Figures → (result : List ℕ) → Type 0
@@ -33,11 +33,11 @@ Promised b f result =
 -- ---- what is asked of, and left by, each part of a call
 
 -- what is judged of a circuit that is accepted, with enough scratch: 18, then 14 and 7; and what the result holds
-unfoldable pub survey_checked : (b : List ℕ) → Wanted → (nodeRoom resultRoom : ℕ) → Figures
-survey_checked b w nodeRoom resultRoom = and_then (nodes_checked b nodeRoom) (table_checked b w resultRoom)
+unfoldable pub survey_checked : (b : List ℕ) → Wanted → (node_room result_room : ℕ) → Figures
+survey_checked b w node_room result_room = and_then (nodes_checked b node_room) (table_checked b w result_room)
 
-unfoldable pub survey_result : (b : List ℕ) → Wanted → (nodeRoom : ℕ) (before : List ℕ) → List ℕ
-survey_result b w nodeRoom before = result_after (survey_checked b w nodeRoom (length before)) (folded_bytes b) before
+unfoldable pub survey_result : (b : List ℕ) → Wanted → (node_room : ℕ) (before : List ℕ) → List ℕ
+survey_result b w node_room before = result_after (survey_checked b w node_room (length before)) (folded_bytes b) before
 
 -- an accepted circuit whose survey was begun with enough scratch: what was found, and where the records were enough, what is known in ns, s and ws
 pub record Findings (b : List ℕ) (survey : Survey) (ns : List Node) (s ws : List ℕ) : Type 0 where
@@ -48,9 +48,9 @@ pub record Findings (b : List ℕ) (survey : Survey) (ns : List Node) (s ws : Li
   pub space : work_length ≤ length ws
 
 -- what is answered, and the result r as it is left
-pub record Ends (b : List ℕ) (w : Wanted) (nodeRoom : ℕ) (r r' : List ℕ) (v : Verdict) : Type 0 where
-  pub answered : figures v ≡ survey_checked b w nodeRoom (length r)
-  pub written : r' ≡ survey_result b w nodeRoom r
+pub record Ends (b : List ℕ) (w : Wanted) (node_room : ℕ) (r r' : List ℕ) (v : Verdict) : Type 0 where
+  pub answered : figures v ≡ survey_checked b w node_room (length r)
+  pub written : r' ≡ survey_result b w node_room r
 
 -- an accepted circuit and enough scratch, zero as far as it is needed
 pub record Clean (b s : List ℕ) : Type 0 where

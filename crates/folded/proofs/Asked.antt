@@ -16,9 +16,9 @@ use Rattle.verdict.specs.declared.Refusal.{Refusal}
 use Rattle.verdict.proofs.Laws.{refusal_number, stop, both_accept, passed, under_refuse, under_then}
 use Rattle.sizes.specs.Sizes.{frames}
 use Rattle.layered.proofs.Search.{equal_true, equal_false}
-use Rattle.layered.proofs.Lists.{tabulate-length}
+use Rattle.layered.proofs.Lists.{tabulate_length}
 use Rattle.circuit.specs.Circuit.{checked}
-use Rattle.circuit.proofs.Judged.{checked-number}
+use Rattle.circuit.proofs.Judged.{checked_number}
 use Rattle.table.specs.Table.{states}
 use Rattle.nodes.specs.declared.Node.{Node}
 use Rattle.records.specs.Records.{none}
@@ -30,7 +30,7 @@ use Rattle.folded.specs.Planned.{counts_to, plan_of, plan_length, folded_plan, a
 
 pub counts_length : (T : ℕ) (S : ℕ → ℕ) → length (counts_to T S) ≡ 17
 unfolding counts_to
-counts_length T S = tabulate-length 17 (λ t. cond (ltb T t) 0 (S t))
+counts_length T S = tabulate_length 17 (λ t. cond (ltb T t) 0 (S t))
 
 pub plan_length_lem : (b : List ℕ) → length (folded_plan b) ≡ plan_length
 unfolding folded_plan plan_of
@@ -73,7 +73,7 @@ module _ (b : List ℕ) (room : ℕ) where
   -- no number is above 6
   pub scratch_number : (scratch_checked b room).number < 7
   unfolding scratch_checked
-  scratch_number = under_then 7 (checked b) _ (omega (arith, checked-number b)) (under_refuse 7 (ltb room (scratch_needed b)) 6 _ (answer 0 0) (lit< tt) (lit< tt))
+  scratch_number = under_then 7 (checked b) _ (omega (arith, checked_number b)) (under_refuse 7 (ltb room (scratch_needed b)) 6 _ (answer 0 0) (lit< tt) (lit< tt))
 
   pub scratch_passed : eqb (scratch_checked b room).number 0 ≡ true → scratch_checked b room ≡ answer 0 0
   scratch_passed q = scratch_zero (scratch_checked b room).place (ap (λ n. answer n (scratch_checked b room).place) (eqb-true _ 0 q))
@@ -113,17 +113,17 @@ module _ (b : List ℕ) (room nodes : ℕ) where
   asked_accepted plan e q = rw e (ap (λ (p : List ℕ). 0 ∷ 0 ∷ p) q)
 
   -- it tells number and place, and the plan
-  pub asked-figures : (n p : ℕ) (plan : List ℕ) → asked b room nodes ≡ n ∷ p ∷ plan → ask_checked b room nodes ≡ answer n p
+  pub asked_figures : (n p : ℕ) (plan : List ℕ) → asked b room nodes ≡ n ∷ p ∷ plan → ask_checked b room nodes ≡ answer n p
   unfolding asked
-  asked-figures n p plan e = ap₂ answer (ap (λ (l : List ℕ). get_or l 0 0) e) (ap (λ (l : List ℕ). get_or l 1 0) e)
+  asked_figures n p plan e = ap₂ answer (ap (λ (l : List ℕ). get_or l 0 0) e) (ap (λ (l : List ℕ). get_or l 1 0) e)
 
   pub asked_plan : (plan : List ℕ) → asked b room nodes ≡ 0 ∷ 0 ∷ plan → plan ≡ folded_plan b
-  asked_plan plan e = ap (drop 2) (sym e ∙ sym (asked_accepted (folded_plan b) (asked-figures 0 0 plan e) refl))
+  asked_plan plan e = ap (drop 2) (sym e ∙ sym (asked_accepted (folded_plan b) (asked_figures 0 0 plan e) refl))
 
   -- there are 23 numbers
-  pub asked-length : length (asked b room nodes) ≡ 2 + plan_length
+  pub asked_length : length (asked b room nodes) ≡ 2 + plan_length
   unfolding asked
-  asked-length = go (eqb (ask_checked b room nodes).number 0)
+  asked_length = go (eqb (ask_checked b room nodes).number 0)
     where
       go : (t : Bool) → suc (suc (length (cond t (folded_plan b) (replicate plan_length 0)))) ≡ 2 + plan_length
       go true = omega (arith, plan_length_lem b)

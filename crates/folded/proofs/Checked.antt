@@ -22,7 +22,7 @@ use Rattle.table.specs.Table.{count_at, states, connected_at, connected, head_le
 use Rattle.table.proofs.Offsets.{part_word, head_length_lem}
 use Rattle.table.proofs.Accepted.{sound}
 use Rattle.layered.specs.Machines.{Machine, Legal}
-use Rattle.layered.proofs.Lists.{total-mul}
+use Rattle.layered.proofs.Lists.{total_mul}
 use Rattle.folded.proofs.Places.{before}
 
 -- ---- tables
@@ -31,8 +31,8 @@ use Rattle.folded.proofs.Places.{before}
 pub record Writable (n m T : ℕ) (C : ℕ → ℕ) (M : Machine) : Type 0 where
   pub sizes : Sized most_inputs n m T
   pub is_legal : Legal (2 ^ n) m T M
-  pub connected-to : (t : ℕ) → t < T → C t < 2 ^ m
-  pub outputs-connected : (t s w : ℕ) → t < T → s < M.states t → w < 2 ^ n → bit_and (M.out t s w) (C t) ≡ M.out t s w
+  pub connected_to : (t : ℕ) → t < T → C t < 2 ^ m
+  pub outputs_connected : (t s w : ℕ) → t < T → s < M.states t → w < 2 ^ n → bit_and (M.out t s w) (C t) ≡ M.out t s w
   pub counts_from : (t : ℕ) → t ≤ T → 1 ≤ M.states t
   pub counts_to_lem : (t : ℕ) → t ≤ T → M.states t ≤ most_states
   pub one_first : M.states 0 ≡ 1
@@ -67,7 +67,7 @@ array_passes b start bad G =
 module _ (b : List ℕ) where
   pub below_is : (t : ℕ) → entries_below b t ≡ before (2 ^ inputs b) (machine b) t
   unfolding entries_below states_below
-  below_is t = sym (total-mul t (2 ^ inputs b) (states b))
+  below_is t = sym (total_mul t (2 ^ inputs b) (states b))
 
   -- ---- the bytes of a legal machine within the limits pass the check
 
@@ -85,7 +85,7 @@ module _ (b : List ℕ) where
     connected_passes : connected_checked b ≡ answer 0 0
     unfolding connected_checked
     connected_passes =
-        finds_none _ 2 (connected_at (frames b)) (answer 0 0) 0 (frames b) (λ t lo hi. lt-leb (2 ^ outputs b) (connected b t) (W.connected-to t (omega arith)))
+        finds_none _ 2 (connected_at (frames b)) (answer 0 0) 0 (frames b) (λ t lo hi. lt-leb (2 ^ outputs b) (connected b t) (W.connected_to t (omega arith)))
 
     -- the head is there
     head_fits : head_length (frames b) ≤ length b
@@ -109,7 +109,7 @@ module _ (b : List ℕ) where
     passes =
         rw (
           head_passes,
-          array_passes b (outputs_at b) (bad_output b) (λ t s w l h k. ap not (eq-eqb _ _ (W.outputs-connected t s w l h k))),
+          array_passes b (outputs_at b) (bad_output b) (λ t s w l h k. ap not (eq-eqb _ _ (W.outputs_connected t s w l h k))),
         ) (array_passes b (nexts_at b) (bad_next b) (λ t s w l h k. lt-leb (states b (suc t)) _ (W.is_legal.next_is t s w l h k)))
 
   -- ---- and what passes the check is such a machine
@@ -123,10 +123,10 @@ module _ (b : List ℕ) where
         record {
           sizes = H.sized;
           is_legal = S.legal;
-          connected-to = H.connected-to;
-          outputs-connected = λ t s w l h k. eqb-true _ _ (not-false _ (S.outputs-connected t s w l h k));
+          connected_to = H.connected_to;
+          outputs_connected = λ t s w l h k. eqb-true _ _ (not-false _ (S.outputs_connected t s w l h k));
           counts_from = H.states_from;
-          counts_to_lem = H.states-to;
+          counts_to_lem = H.states_to;
           one_first = H.one_first;
           one_last = H.one_last;
         },

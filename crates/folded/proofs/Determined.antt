@@ -12,7 +12,7 @@ use Rattle.sizes.specs.Sized.{Sized}
 use Rattle.layered.specs.States.{Words, none, more, outputs as outputs_of, Equivalent, count, number, history}
 use Rattle.layered.specs.Machines.{Legal, feed, Gives, folded}
 use Rattle.layered.proofs.Lists.{Below}
-use Rattle.layered.proofs.States.{some_words, words_more, number_decides, number_below, history_is, history-least}
+use Rattle.layered.proofs.States.{some_words, words_more, number_decides, number_below, history_is, history_least}
 use Rattle.layered.proofs.Machines.{legal, gives, fewest}
 use Rattle.circuit.specs.Circuit.{connected_outputs, output_words}
 use Rattle.layered.specs.Histories.{history_words, history_number}
@@ -21,12 +21,12 @@ use Rattle.table.specs.Table.{states, connected, machine}
 use Rattle.folded.specs.Folded.{folded_bytes}
 use Rattle.layered.specs.Machines.{reached}
 use Rattle.folded.specs.Theorems.{state_of, Smallest, Matches, Folding}
-use Rattle.layered.proofs.Feeding.{words-length, words_append, words_whole, reached-append, reached_below, feed-then}
-use Rattle.layered.proofs.Histories.{numbered-append, number-words, history_below, outputs-then}
+use Rattle.layered.proofs.Feeding.{words_length, words_append, words_whole, reached_append, reached_below, feed_then}
+use Rattle.layered.proofs.Histories.{numbered_append, number_words, history_below, outputs_then}
 use Rattle.layered.proofs.Agreement.{Agree, masked_gives}
 use Rattle.folded.proofs.Checked.{Writable, passed_table}
 use Rattle.folded.proofs.Written.{table_bytes}
-use Rattle.folded.proofs.Read.{bytes_are, agree-bytes}
+use Rattle.folded.proofs.Read.{bytes_are, agree_bytes}
 use Rattle.folded.proofs.Response.{no_telling, history_climbs}
 use Rattle.folded.proofs.Tables.{folded_machine, folded_below}
 use Rattle.folded.proofs.Theorems.{folding}
@@ -35,14 +35,14 @@ use Rattle.folded.proofs.Theorems.{folding}
 
 -- a folding's machine is within the limits
 folding_writable : (b t : List ℕ) → Folding (2 ^ inputs b) (outputs b) (frames b) b t → Writable (inputs b) (outputs b) (frames b) (connected t) (machine t)
-folding_writable b t F = subst₃ (λ n m T. Writable n m T (connected t) (machine t)) F.same_inputs F.same-outputs F.same-frames (passed_table t 0 F.legal).1
+folding_writable b t F = subst₃ (λ n m T. Writable n m T (connected t) (machine t)) F.same_inputs F.same_outputs F.same_frames (passed_table t 0 F.legal).1
 
 -- and matches the circuit
 folding_matches : (b t : List ℕ) → Folding (2 ^ inputs b) (outputs b) (frames b) b t → Matches (2 ^ inputs b) (frames b) b (machine t)
 unfolding Matches
 folding_matches b t F =
     let W = folding_writable b t F in
-    masked_gives (connected_outputs b) (machine t) W.is_legal (λ k s w l h i. rw (← F.same-connected k l) (W.outputs-connected k s w l h i)) (output_words b) F.gives
+    masked_gives (connected_outputs b) (machine t) W.is_legal (λ k s w l h i. rw (← F.same_connected k l) (W.outputs_connected k s w l h i)) (output_words b) F.gives
 
 -- invented layer counts: all foldings of a circuit have the same
 counts_determined : (b t u : List ℕ) → Folding (2 ^ inputs b) (outputs b) (frames b) b t → Folding (2 ^ inputs b) (outputs b) (frames b) b u
@@ -95,16 +95,16 @@ module _
 
       rep_is : (s : ℕ) → s < count K T y k → Words K k (rep s) × (history_number K 0 (rep s) ≡ history K T y k s)
       unfolding rep
-      rep_is s l = number-words K k _ (history_is K T y k s l).0
+      rep_is s l = number_words K k _ (history_is K T y k s l).0
 
       -- they are the smallest that come to their state of the table
       rep_smallest : (s : ℕ) → s < count K T y k → Smallest K t (rep s)
       unfolding Smallest
       rep_smallest s l d U q =
           let (W, e) = rep_is s l in
-          let X : Words K k d = subst (λ r. Words K r d) (words-length W) U in
+          let X : Words K k d = subst (λ r. Words K r d) (words_length W) U in
           let E = (number_decides K T y k _ _).1 ((state_decides h X W).0 q) in
-          omega (arith, e, history-least K T y k s (history_number K 0 d) (history_below X) (E ∙ ap (number K T y k) e ∙ (history_is K T y k s l).1))
+          omega (arith, e, history_least K T y k s (history_number K 0 d) (history_below X) (E ∙ ap (number K T y k) e ∙ (history_is K T y k s l).1))
 
       rep_below : (s : ℕ) → s < count K T y k → state_of t (rep s) < count K T y k
       unfolding state_of
@@ -147,7 +147,7 @@ module _
           let whole = words_whole g W U in
           let a : feed (machine t) k s r ≡ outputs_of K y k (history K T y k s) r =
           ap (λ q. feed (machine t) k q r) (sym (rep_state k g s l))
-          ∙ sym (feed-then (machine t) 0 r W) ∙ ap (drop k) (F.gives (c ++ r) whole ∙ O (c ++ r) whole) ∙ outputs-then K y r W
+          ∙ sym (feed_then (machine t) 0 r W) ∙ ap (drop k) (F.gives (c ++ r) whole ∙ O (c ++ r) whole) ∙ outputs_then K y r W
           ∙ ap (λ i. outputs_of K y k i r) e in
           sym (head-eq_of_cons-eq a)
 
@@ -158,11 +158,11 @@ module _
           let c : List ℕ = rep k g s in
           let (W, e) = rep_is k g s l in
           let U : Words K (suc k) (c ++ (w ∷ [])) = subst (λ r. Words K r (c ++ (w ∷ []))) (omega arith) (words_append W (more v none)) in
-          let p : 0 + length c ≡ k = omega (arith, words-length W) in
+          let p : 0 + length c ≡ k = omega (arith, words_length W) in
           ap (λ i. number K T y (suc k) (i * K + w)) (sym e)
-          ∙ ap (number K T y (suc k)) (sym (numbered-append K 0 c (w ∷ [])))
+          ∙ ap (number K T y (suc k)) (sym (numbered_append K 0 c (w ∷ [])))
           ∙ sym (state_is (suc k) h U)
-          ∙ reached-append (machine t) 0 0 c (w ∷ [])
+          ∙ reached_append (machine t) 0 0 c (w ∷ [])
           ∙ ap₂ (λ i q. (machine t).next i q w) p (rep_state k g s l)
 
     folding_agrees : Agree K T (folded K T y) (machine t)
@@ -181,8 +181,8 @@ module _ (b t : List ℕ) (C : Causal b) (F : Folding (2 ^ inputs b) (outputs b)
   bytes_determined B =
       let p = bytes_are t B (passed_table t 0 F.legal).0 in
       let q : table_bytes (inputs t) (outputs t) (frames t) (connected t) (machine t) ≡ table_bytes (inputs b) (outputs b) (frames b) (connected t) (machine t) =
-      rw (F.same_inputs, F.same-outputs, F.same-frames) in
-      p ∙ q ∙ sym (agree-bytes (inputs b) (outputs b) (frames b) (connected_outputs b) (connected t) (folded_machine b) (machine t) (λ k l. sym (F.same-connected k l)) machine_determined)
+      rw (F.same_inputs, F.same_outputs, F.same_frames) in
+      p ∙ q ∙ sym (agree_bytes (inputs b) (outputs b) (frames b) (connected_outputs b) (connected t) (folded_machine b) (machine t) (λ k l. sym (F.same_connected k l)) machine_determined)
 
 -- so of all lists of bytes exactly one is a folding of a circuit that passes its check
 determined : (b t : List ℕ) → Causal b → Sized 8 (inputs b) (outputs b) (frames b)

@@ -6,11 +6,11 @@ use native.Mathlib.Omega.{arith}
 use lib.ListN.{length, get_or, take}
 use lib.Seq.{take-suc, take_all}
 use Rattle.words.specs.Words.{word_at, word_bytes, bytes_of, all_bytes}
-use Rattle.words.proofs.Laws.{word_is, all_bytes-append}
+use Rattle.words.proofs.Laws.{word_is, all_bytes_append}
 use Rattle.sizes.specs.Sizes.{inputs, outputs, frames}
 use Rattle.layered.specs.Search.{join, tabulate, total}
 use Rattle.layered.specs.Machines.{Machine, entries, table_words}
-use Rattle.layered.proofs.Lists.{Below, total_each, join_cong, tabulate_cong, tabulate-add, join-tabulate}
+use Rattle.layered.proofs.Lists.{Below, total_each, join_cong, tabulate_cong, tabulate_add, join_tabulate}
 use Rattle.layered.proofs.Entries.{entries_cong, entries_counts}
 use Rattle.table.specs.Table.{count_at, states, connected_at, connected, entry_count, outputs_at, nexts_at, table_length, entry_at, machine}
 use Rattle.table.proofs.Offsets.{connected-at, head_length_lem}
@@ -22,17 +22,17 @@ use Rattle.folded.proofs.Written.{table_bytes}
 -- ---- rows of numbers in parts
 
 -- n states of K entries
-states-tabulate : (K n : ℕ) (f : ℕ → ℕ) → join n (λ s. tabulate K (λ w. f (s * K + w))) ≡ tabulate (n * K) f
-states-tabulate K n f =
+states_tabulate : (K n : ℕ) (f : ℕ → ℕ) → join n (λ s. tabulate K (λ w. f (s * K + w))) ≡ tabulate (n * K) f
+states_tabulate K n f =
     join_cong n _ _ (λ s l. tabulate_cong K _ _ (λ w k. ap (λ i. f (i + w)) (sym (total_each s K))))
-    ∙ join-tabulate n (λ s. K) f
+    ∙ join_tabulate n (λ s. K) f
     ∙ ap (λ i. tabulate i f) (total_each n K)
 
 -- all entries
-entries-tabulate : (K T : ℕ) (S f : ℕ → ℕ) → entries K T S (λ t s w. f (total t (λ t. S t * K) + (s * K + w))) ≡ tabulate (total T (λ t. S t * K)) f
+entries_tabulate : (K T : ℕ) (S f : ℕ → ℕ) → entries K T S (λ t s w. f (total t (λ t. S t * K) + (s * K + w))) ≡ tabulate (total T (λ t. S t * K)) f
 unfolding entries
-entries-tabulate K T S f =
-    join_cong T _ _ (λ t b. states-tabulate K (S t) (λ j. f (total t (λ t. S t * K) + j))) ∙ join-tabulate T (λ t. S t * K) f
+entries_tabulate K T S f =
+    join_cong T _ _ (λ t b. states_tabulate K (S t) (λ j. f (total t (λ t. S t * K) + j))) ∙ join_tabulate T (λ t. S t * K) f
 
 -- ---- bytes as words
 
@@ -54,7 +54,7 @@ words_back b B (suc c) h =
     let p : suc (suc j) ≡ 2 * suc c = omega arith in
     let w : bytes_of 2 (word_at b j) ≡ x ∷ y ∷ [] =
     ap (bytes_of 2) (word_is b j ∙ ap (λ i. x + 256 * get_or b i 0) q) ∙ word_bytes_lem x y (B j (omega arith)) (B (suc j) (omega arith)) in
-    all_bytes-append 2 (tabulate c g) (word_at b j ∷ [])
+    all_bytes_append 2 (tabulate c g) (word_at b j ∷ [])
     ∙ ap₂ ◌++◌ (words_back b B c (omega arith)) (append-nil (bytes_of 2 (word_at b j)) ∙ w)
     ∙ sym (append_assoc (take j b) (x ∷ []) (y ∷ []))
     ∙ ap (λ l. l ++ (y ∷ [])) (sym (take-suc b j 0 (omega arith)))
@@ -82,7 +82,7 @@ module _ (b : List ℕ) where
   outs_are : tabulate entry_total (λ i. word (3 + (suc (frames b) + (frames b + i)))) ≡ entries (2 ^ inputs b) (frames b) (states b) (machine b).out
   unfolding word entry_total entry_at outputs_at
   outs_are =
-      sym (entries-tabulate (2 ^ inputs b) (frames b) (states b) (λ i. word (3 + (suc (frames b) + (frames b + i)))))
+      sym (entries_tabulate (2 ^ inputs b) (frames b) (states b) (λ i. word (3 + (suc (frames b) + (frames b + i)))))
       ∙ entries_cong (2 ^ inputs b) (frames b) (states b) _ _ (λ t s w l k j.
       let p : 2 * (3 + (suc (frames b) + (frames b + (before (2 ^ inputs b) (machine b) t + (s * 2 ^ inputs b + w))))) ≡ entry_at b (outputs_at b) t s w =
       omega (arith, below_is b t, head_length_lem (frames b)) in
@@ -91,7 +91,7 @@ module _ (b : List ℕ) where
   nexts_are : tabulate entry_total (λ i. word (3 + (suc (frames b) + (frames b + (entry_total + i))))) ≡ entries (2 ^ inputs b) (frames b) (states b) (machine b).next
   unfolding word entry_total entry_at nexts_at outputs_at entry_count
   nexts_are =
-      sym (entries-tabulate (2 ^ inputs b) (frames b) (states b) (λ i. word (3 + (suc (frames b) + (frames b + (entry_total + i))))))
+      sym (entries_tabulate (2 ^ inputs b) (frames b) (states b) (λ i. word (3 + (suc (frames b) + (frames b + (entry_total + i))))))
       ∙ entries_cong (2 ^ inputs b) (frames b) (states b) _ _ (λ t s w l k j.
       let p : 2 * (3 + (suc (frames b) + (frames b + (entry_total + (before (2 ^ inputs b) (machine b) t + (s * 2 ^ inputs b + w)))))) ≡ entry_at b (nexts_at b) t s w =
       omega (arith, below_is b t, below_is b (frames b), head_length_lem (frames b)) in
@@ -109,12 +109,12 @@ module _ (b : List ℕ) where
   words_are : tabulate word_total word ≡ table_words (inputs b) (outputs b) (2 ^ inputs b) (frames b) (connected b) (machine b)
   unfolding word_total table_words
   words_are =
-      tabulate-add 3 (suc (frames b) + (frames b + (entry_total + entry_total))) word
+      tabulate_add 3 (suc (frames b) + (frames b + (entry_total + entry_total))) word
       ∙ ap₂ ◌++◌ sizes_are
-      (tabulate-add (suc (frames b)) (frames b + (entry_total + entry_total)) (λ i. word (3 + i))
+      (tabulate_add (suc (frames b)) (frames b + (entry_total + entry_total)) (λ i. word (3 + i))
       ∙ ap₂ ◌++◌ counts_are
-      (tabulate-add (frames b) (entry_total + entry_total) (λ i. word (3 + (suc (frames b) + i)))
-      ∙ ap₂ ◌++◌ connecteds_are (tabulate-add entry_total entry_total (λ i. word (3 + (suc (frames b) + (frames b + i)))) ∙ ap₂ ◌++◌ outs_are nexts_are)))
+      (tabulate_add (frames b) (entry_total + entry_total) (λ i. word (3 + (suc (frames b) + i)))
+      ∙ ap₂ ◌++◌ connecteds_are (tabulate_add entry_total entry_total (λ i. word (3 + (suc (frames b) + (frames b + i)))) ∙ ap₂ ◌++◌ outs_are nexts_are)))
 
   length_is : table_length b ≡ 2 * word_total
   unfolding table_length nexts_at outputs_at entry_count entry_total word_total
@@ -128,9 +128,9 @@ module _ (b : List ℕ) where
       sym (take_all (2 * word_total) b (omega arith)) ∙ sym (words_back b B word_total (omega arith)) ∙ ap (all_bytes 2) words_are
 
 -- machines that agree, with the same connected outputs, have the same bytes
-pub agree-bytes : (n m T : ℕ) (C D : ℕ → ℕ) (M N : Machine) → ((t : ℕ) → t < T → C t ≡ D t) → Agree (2 ^ n) T M N → table_bytes n m T C M ≡ table_bytes n m T D N
+pub agree_bytes : (n m T : ℕ) (C D : ℕ → ℕ) (M N : Machine) → ((t : ℕ) → t < T → C t ≡ D t) → Agree (2 ^ n) T M N → table_bytes n m T C M ≡ table_bytes n m T D N
 unfolding table_bytes table_words
-agree-bytes n m T C D M N E A =
+agree_bytes n m T C D M N E A =
     ap word_bytes (ap₂ (λ c e. n ∷ m ∷ T ∷ c ++ e)
     (tabulate_cong (suc T) _ _ (λ t l. A.states_are t (omega arith)))
     (ap₂ ◌++◌ (tabulate_cong T C D E) (ap₂ ◌++◌ (both M.out N.out A.outs_are) (both M.next N.next A.nexts_are))))

@@ -9,11 +9,11 @@ use native.Mathlib.Omega.{arith}
 use lib.ListN.{drop}
 use Rattle.layered.specs.States.{Words, none, more, outputs, Equivalent, count, number, history}
 use Rattle.layered.specs.Machines.{folded}
-use Rattle.layered.proofs.States.{digit_below, empty_below, number_decides, number_below, number_order, history_is, history-least, equivalent_step}
-use Rattle.layered.proofs.Machines.{number-first}
+use Rattle.layered.proofs.States.{digit_below, empty_below, number_decides, number_below, number_order, history_is, history_least, equivalent_step}
+use Rattle.layered.proofs.Machines.{number_first}
 use Rattle.layered.specs.Histories.{history_words, history_number}
 use Rattle.layered.specs.Machines.{reached}
-use Rattle.layered.proofs.Histories.{history_below, number-words, outputs-then}
+use Rattle.layered.proofs.Histories.{history_below, number_words, outputs_then}
 use Rattle.layered.proofs.Feeding.{words_whole}
 
 module _ (K T : ℕ) (y : ℕ → ℕ → ℕ) where
@@ -32,7 +32,7 @@ module _ (K T : ℕ) (y : ℕ → ℕ → ℕ) where
   -- from the start
   pub comes_to : {k : ℕ} {c : List ℕ} → k ≤ T → Words K k c → reached (folded K T y) 0 0 c ≡ number K T y k (history_number K 0 c)
   comes_to {k} {c} b W =
-      ap (λ q. reached (folded K T y) 0 q c) (sym (number-first K T y))
+      ap (λ q. reached (folded K T y) 0 q c) (sym (number_first K T y))
       ∙ reaches 0 0 (omega arith) (empty_below K) W
       ∙ ap (λ i. number K T y i (history_number K 0 c)) (omega arith)
 
@@ -43,7 +43,7 @@ module _ (K T : ℕ) (y : ℕ → ℕ → ℕ) where
   no_telling given O {k} h W U = ((λ E e X. after W X ∙ E e X ∙ sym (after U X)), (λ S e X. sym (after W X) ∙ S e X ∙ after U X))
     where
       after : {c e : List ℕ} → Words K k c → Words K (T - k) e → drop k (given (c ++ e)) ≡ outputs K y k (history_number K 0 c) e
-      after {c} {e} W X = ap (drop k) (O (c ++ e) (words_whole h W X)) ∙ outputs-then K y e W
+      after {c} {e} W X = ap (drop k) (O (c ++ e) (words_whole h W X)) ∙ outputs_then K y e W
 
   -- a history that is the smallest of those that come to its state is the smallest of its class
   pub smallest_class : (k h : ℕ) → h < K ^ k → ((d : List ℕ) → Words K k d → number K T y k (history_number K 0 d) ≡ number K T y k h → h ≤ history_number K 0 d)
@@ -52,15 +52,15 @@ module _ (K T : ℕ) (y : ℕ → ℕ → ℕ) where
     where
       go : Dec (g < K ^ k) → h ≤ g
       go (yes b) =
-          let (W, e) = number-words K k g b in
+          let (W, e) = number_words K k g b in
           omega (arith, S (history_words K k g) W (ap (number K T y k) e ∙ (number_decides K T y k g h).1 E), e)
       go (no n) = omega arith
 
   -- the smallest history that has the number s is the smallest of its class
-  history-smallest : (k s : ℕ) → s < count K T y k → (g : ℕ) → Equivalent K T y k g (history K T y k s) → history K T y k s ≤ g
-  history-smallest k s l =
+  history_smallest : (k s : ℕ) → s < count K T y k → (g : ℕ) → Equivalent K T y k g (history K T y k s) → history K T y k s ≤ g
+  history_smallest k s l =
       let i = history_is K T y k s l in
-      smallest_class k (history K T y k s) i.0 (λ d W q. history-least K T y k s (history_number K 0 d) (history_below W) (q ∙ i.1))
+      smallest_class k (history K T y k s) i.0 (λ d W q. history_least K T y k s (history_number K 0 d) (history_below W) (q ∙ i.1))
 
   -- a larger state has a larger smallest history
   pub history_climbs : (k s r : ℕ) → s < r → r < count K T y k → history K T y k s < history K T y k r
@@ -68,6 +68,6 @@ module _ (K T : ℕ) (y : ℕ → ℕ → ℕ) where
       let m : s < count K T y k = omega arith in
       let i = history_is K T y k s m in
       let j = history_is K T y k r b in
-      let n : ¬ (history K T y k r < history K T y k s) = λ x. omega (arith, i.1, j.1, number_order K T y k _ _ x (history-smallest k s m)) in
+      let n : ¬ (history K T y k r < history K T y k s) = λ x. omega (arith, i.1, j.1, number_order K T y k _ _ x (history_smallest k s m)) in
       let e : ¬ (history K T y k r ≡ history K T y k s) = λ x. omega (arith, i.1, j.1, ap (number K T y k) x) in
       omega arith

@@ -9,14 +9,14 @@ use lib.Bits.{bit_and}
 use lib.Pow.{pow_pos}
 use lib.ListN.{length, drop}
 use Rattle.words.specs.Words.{word_bytes, all_bytes, stored}
-use Rattle.words.proofs.Laws.{all_bytes-length, stored_front}
+use Rattle.words.proofs.Laws.{all_bytes_length, stored_front}
 use Rattle.sizes.specs.Sizes.{inputs, outputs, frames}
 use Rattle.sizes.specs.Sized.{Sized}
 use Rattle.layered.specs.States.{count}
 use Rattle.layered.specs.Machines.{Machine, table_words, folded}
 use Rattle.layered.specs.Search.{total}
 use Rattle.layered.proofs.Lists.{Below}
-use Rattle.layered.proofs.States.{number_below, count_at_most, count-first, count-last}
+use Rattle.layered.proofs.States.{number_below, count_at_most, count_first, count_last}
 use Rattle.layered.proofs.Machines.{legal}
 use Rattle.layered.proofs.Rows.{rows}
 use Rattle.circuit.specs.Circuit.{connected_outputs}
@@ -24,7 +24,7 @@ use Rattle.circuit.specs.Theorems.{response, Causal}
 use Rattle.circuit.proofs.Unconnected.{connected_below}
 use Rattle.folded.specs.Folded.{folded_bytes}
 use Rattle.folded.proofs.Checked.{Writable}
-use Rattle.folded.proofs.Written.{table_bytes, bytes-length, bytes_below}
+use Rattle.folded.proofs.Written.{table_bytes, bytes_length, bytes_below}
 
 -- ---- of a response
 
@@ -33,16 +33,16 @@ pub folded_writable : (n m T : ℕ) (C : ℕ → ℕ) (y : ℕ → ℕ → ℕ) 
 folded_writable n m T C y Z B D E = record {
   sizes = Z;
   is_legal = legal (2 ^ n) m T y B;
-  connected-to = D;
-  outputs-connected = λ t s w l h k. E t _ l;
+  connected_to = D;
+  outputs_connected = λ t s w l h k. E t _ l;
   counts_from = λ t h. omega (arith, number_below (2 ^ n) T y t 0 (one-le-pow t (2 ^ n) (pow_pos n)));
-  counts_to_lem = λ t h. ⊎_elim (λ e. omega (arith, ap (count (2 ^ n) T y) e, last)) (λ l. (rows (2 ^ n) T y).in_word n t refl Z.bits-to l) (eq-or-lt_of_le h);
-  one_first = count-first (2 ^ n) T y;
+  counts_to_lem = λ t h. ⊎_elim (λ e. omega (arith, ap (count (2 ^ n) T y) e, last)) (λ l. (rows (2 ^ n) T y).in_word n t refl Z.bits_to l) (eq-or-lt_of_le h);
+  one_first = count_first (2 ^ n) T y;
   one_last = last;
 }
   where
     last : count (2 ^ n) T y T ≡ 1
-    last = count-last (2 ^ n) T y (pow_pos n)
+    last = count_last (2 ^ n) T y (pow_pos n)
 
 -- ---- of a circuit
 
@@ -63,9 +63,9 @@ unfolding folded_bytes word_bytes
 folded_below b = bytes_below 2 (folded_words b)
 
 -- 8 + 4·T + 4·E of them
-pub folded-length : (b : List ℕ) → length (folded_bytes b) ≡ 8 + 4 * frames b + 4 * (total (frames b) (folded_machine b).states * 2 ^ inputs b)
+pub folded_length : (b : List ℕ) → length (folded_bytes b) ≡ 8 + 4 * frames b + 4 * (total (frames b) (folded_machine b).states * 2 ^ inputs b)
 unfolding folded_bytes table_bytes
-folded-length b = bytes-length (inputs b) (outputs b) (frames b) (connected_outputs b) (folded_machine b)
+folded_length b = bytes_length (inputs b) (outputs b) (frames b) (connected_outputs b) (folded_machine b)
 
 -- the layers below t have at most twice as many entries as there are histories of t words
 pub entries_most : (K T : ℕ) (y : ℕ → ℕ → ℕ) → 2 ≤ K → (t : ℕ) → total t (count K T y) * K ≤ 2 * K ^ t
@@ -82,6 +82,6 @@ entries_most K T y h (suc t) =
     )
 
 -- written word by word to the front of a result
-pub folded-written : (b result : List ℕ) → stored 2 result 0 (folded_words b) ≡ folded_bytes b ++ drop (length (folded_bytes b)) result
+pub folded_written : (b result : List ℕ) → stored 2 result 0 (folded_words b) ≡ folded_bytes b ++ drop (length (folded_bytes b)) result
 unfolding folded_bytes word_bytes
-folded-written b result = stored_front 2 result (folded_words b) ∙ ap (λ n. all_bytes 2 (folded_words b) ++ drop n result) (sym (all_bytes-length 2 (folded_words b)))
+folded_written b result = stored_front 2 result (folded_words b) ∙ ap (λ n. all_bytes 2 (folded_words b) ++ drop n result) (sym (all_bytes_length 2 (folded_words b)))

@@ -22,14 +22,14 @@ use Rattle.table.specs.Table.{states, connected, machine, checked}
 use Rattle.folded.specs.Folded.{folded_bytes, fold_checked}
 use Rattle.folded.specs.Theorems.{state_of, Smallest, Matches, Folding, Canonical, Foldings}
 use Rattle.circuit.proofs.Causal.{causal}
-use Rattle.layered.proofs.Histories.{number-words, history_below}
-use Rattle.layered.proofs.Feeding.{words-length}
+use Rattle.layered.proofs.Histories.{number_words, history_below}
+use Rattle.layered.proofs.Feeding.{words_length}
 use Rattle.folded.proofs.Checked.{Writable}
-use Rattle.layered.proofs.Agreement.{Agree, agree_renumberings, agree-reached, agree_gives}
+use Rattle.layered.proofs.Agreement.{Agree, agree_renumberings, agree_reached, agree_gives}
 use Rattle.folded.proofs.Written.{table_bytes, fits, inputs_back, outputs_back, frames_back, connected_back, machine_back, bytes_pass}
 use Rattle.folded.proofs.Response.{comes_to, no_telling, smallest_class}
 use Rattle.folded.proofs.Tables.{table_writable}
-use Rattle.folded.proofs.Outcomes.{circuit_sized, accepted, written-bytes}
+use Rattle.folded.proofs.Outcomes.{circuit_sized, accepted, written_bytes}
 
 -- ---- a table that is the folded machine of a response which gives the circuit's outputs
 
@@ -42,7 +42,7 @@ module _
   where
     state_is : {k : ℕ} {c : List ℕ} → k ≤ T → Words K k c → state_of t c ≡ number K T y k (history_number K 0 c)
     unfolding state_of
-    state_is h W = agree-reached (folded K T y) (machine t) (legal K m T y B) A 0 0 (omega arith) (legal K m T y B).start_is W ∙ comes_to K T y h W
+    state_is h W = agree_reached (folded K T y) (machine t) (legal K m T y B) A 0 0 (omega arith) (legal K m T y B).start_is W ∙ comes_to K T y h W
 
     apart : (k : ℕ) (c d : List ℕ) → k ≤ T → Words K k c → Words K k d
         → (state_of t c ≡ state_of t d) ↔ ((e : List ℕ) → Words K (T - k) e → drop k (output_words b (c ++ e)) ≡ drop k (output_words b (d ++ e)))
@@ -54,7 +54,7 @@ module _
     every_state : (k s : ℕ) → k ≤ T → s < states t k → (c : List ℕ) × Words K k c × (state_of t c ≡ s)
     every_state k s h l =
         let i = history_is K T y k s (omega (arith, A.states_are k h)) in
-        let (W, e) = number-words K k _ i.0 in
+        let (W, e) = number_words K k _ i.0 in
         (history_words K k (history K T y k s), W, state_is h W ∙ ap (number K T y k) e ∙ i.1)
 
     in_order : (k : ℕ) (c d : List ℕ) → k ≤ T → Words K k c → Words K k d → Smallest K t c → Smallest K t d → history_number K 0 c < history_number K 0 d
@@ -62,7 +62,7 @@ module _
     unfolding Smallest
     in_order k c d h W U S R l =
         let i = smallest_class K T y k (history_number K 0 d) (history_below U) (λ e X q.
-        R e (subst (λ r. Words K r e) (sym (words-length U)) X) (state_is h X ∙ q ∙ sym (state_is h U))) in
+        R e (subst (λ r. Words K r e) (sym (words_length U)) X) (state_is h X ∙ q ∙ sym (state_is h U))) in
         rw (state_is h W, state_is h U) (number_order K T y k _ _ l i)
 
     -- what gives the circuit's outputs gives the response's
@@ -75,9 +75,9 @@ module _
     gives_outputs c W = agree_gives (folded K T y) (machine t) (legal K m T y B) A (outputs_of K y 0 0) (gives K T y) c W ∙ sym (F c W)
 
     -- a machine is judged by what it is when masked
-    fewest-states : (M : Machine) → Legal K m T M → Matches K T b M → (k : ℕ) → k ≤ T → states t k ≤ M.states k
+    fewest_states : (M : Machine) → Legal K m T M → Matches K T b M → (k : ℕ) → k ≤ T → states t k ≤ M.states k
     unfolding Matches
-    fewest-states M L G k h =
+    fewest_states M L G k h =
         let P = masked (connected_outputs b) M in
         omega (arith, fewest K m T y P (masked_legal (connected_outputs b) M L) (gives_response P G) k h, A.states_are k h)
 
@@ -92,15 +92,15 @@ module _
     is_folding : inputs t ≡ inputs b → outputs t ≡ outputs b → frames t ≡ frames b → checked t ≡ answer 0 0 → Folding K m T b t
     is_folding i o f c = record {
       same_inputs = i;
-      same-outputs = o;
-      same-frames = f;
-      same-connected = N;
+      same_outputs = o;
+      same_frames = f;
+      same_connected = N;
       apart = apart;
       every_state = every_state;
       in_order = in_order;
       legal = c;
       gives = gives_outputs;
-      fewest = fewest-states;
+      fewest = fewest_states;
       unique = unique_table;
     }
 
@@ -150,17 +150,17 @@ same_bytes b d C D Z i o f =
 
 -- ---- whatever folding accepts
 
-pub known : (b : List ℕ) (scratchRoom nodeRoom resultRoom p : ℕ) → fold_checked b scratchRoom nodeRoom resultRoom ≡ answer 0 p → Causal b × Sized 8 (inputs b) (outputs b) (frames b)
+pub known : (b : List ℕ) (scratch_room node_room result_room p : ℕ) → fold_checked b scratch_room node_room result_room ≡ answer 0 p → Causal b × Sized 8 (inputs b) (outputs b) (frames b)
 unfolding AcceptedCausal
 known b s n r p e =
     let a = accepted b s n r p e in
-    (causal b a.circuit-place a.circuit_accepted, circuit_sized b a.circuit-place a.circuit_accepted)
+    (causal b a.circuit_place a.circuit_accepted, circuit_sized b a.circuit_place a.circuit_accepted)
 
 pub foldings : Foldings
 unfolding Foldings Canonical
 foldings b before room nodes p e =
     let (C, Z) = known b room nodes (length before) p e in
-    let w = written-bytes b before room nodes p e in (
+    let w = written_bytes b before room nodes p e in (
       rw w (folding b C Z),
-      λ d before' room' nodes' p' i o f e'. rw (w, written-bytes d before' room' nodes' p' e') (same_bytes b d C (known d room' nodes' (length before') p' e').0 Z i o f),
+      λ d before' room' nodes' p' i o f e'. rw (w, written_bytes d before' room' nodes' p' e') (same_bytes b d C (known d room' nodes' (length before') p' e').0 Z i o f),
     )

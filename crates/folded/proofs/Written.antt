@@ -9,13 +9,13 @@ use lib.Pow.{pow_mono}
 use lib.ListN.{length, get_or, length-append, get_or-append}
 use lib.Seq.{get_or-append-add}
 use Rattle.words.specs.Words.{word_at, word_bytes, bytes_of, all_bytes, Fit, more}
-use Rattle.words.proofs.Laws.{all_bytes-length, fit_append, fit_at, word_back}
+use Rattle.words.proofs.Laws.{all_bytes_length, fit_append, fit_at, word_back}
 use Rattle.verdict.specs.Judgements.{answer}
 use Rattle.sizes.specs.Sizes.{inputs, outputs, frames}
 use Rattle.layered.specs.Search.{tabulate, total}
 use Rattle.layered.specs.Machines.{Machine, entries, table_words}
-use Rattle.layered.proofs.Lists.{Below, below_append, below_join, below_tabulate, total_cong, total-mul, tabulate-length, tabulate-at}
-use Rattle.layered.proofs.Entries.{entries-length, entries_at}
+use Rattle.layered.proofs.Lists.{Below, below_append, below_join, below_tabulate, total_cong, total_mul, tabulate_length, tabulate_at}
+use Rattle.layered.proofs.Entries.{entries_length, entries_at}
 use Rattle.table.specs.Table.{count_at, states, connected, states_below, entries_below, entry_count, outputs_at, nexts_at, table_length, entry_at, machine, checked}
 use Rattle.table.proofs.Offsets.{head_length_lem, connected-at}
 use Rattle.layered.proofs.Agreement.{Agree, agree_legal}
@@ -43,19 +43,19 @@ module _ (n m K T : ℕ) (C : ℕ → ℕ) (M : Machine) where
 
   counts_length : length counts ≡ suc T
   unfolding counts
-  counts_length = tabulate-length (suc T) M.states
+  counts_length = tabulate_length (suc T) M.states
 
   connecteds_length : length connecteds ≡ T
   unfolding connecteds
-  connecteds_length = tabulate-length T C
+  connecteds_length = tabulate_length T C
 
   outs_length : length outs ≡ before K M T
   unfolding outs
-  outs_length = entries-length K T M.states M.out
+  outs_length = entries_length K T M.states M.out
 
-  nexts-length : length nexts ≡ before K M T
+  nexts_length : length nexts ≡ before K M T
   unfolding nexts
-  nexts-length = entries-length K T M.states M.next
+  nexts_length = entries_length K T M.states M.next
 
   word_count : length (table_words n m K T C M) ≡ 4 + 2 * T + 2 * before K M T
   word_count =
@@ -65,7 +65,7 @@ module _ (n m K T : ℕ) (C : ℕ → ℕ) (M : Machine) where
         counts_length,
         connecteds_length,
         outs_length,
-        nexts-length,
+        nexts_length,
         length-append counts (connecteds ++ (outs ++ nexts)),
         length-append connecteds (outs ++ nexts),
         length-append outs nexts,
@@ -77,7 +77,7 @@ module _ (n m K T : ℕ) (C : ℕ → ℕ) (M : Machine) where
       let p : 3 + t ≡ suc (suc (suc t)) = omega arith in
       ap₂ (λ l i. get_or l i 0) words_are p
       ∙ get_or-append counts (connecteds ++ (outs ++ nexts)) 0 t (omega (arith, counts_length))
-      ∙ tabulate-at (suc T) t M.states (omega arith)
+      ∙ tabulate_at (suc T) t M.states (omega arith)
 
   -- what stands behind the counts
   after_counts : (i : ℕ) → get_or (table_words n m K T C M) (4 + T + i) 0 ≡ get_or (connecteds ++ (outs ++ nexts)) i 0
@@ -87,7 +87,7 @@ module _ (n m K T : ℕ) (C : ℕ → ℕ) (M : Machine) where
 
   connected_word : (t : ℕ) → t < T → get_or (table_words n m K T C M) (4 + T + t) 0 ≡ C t
   unfolding connecteds
-  connected_word t b = after_counts t ∙ get_or-append connecteds (outs ++ nexts) 0 t (omega (arith, connecteds_length)) ∙ tabulate-at T t C b
+  connected_word t b = after_counts t ∙ get_or-append connecteds (outs ++ nexts) 0 t (omega (arith, connecteds_length)) ∙ tabulate_at T t C b
 
   -- and behind the connected outputs
   after_head : (i : ℕ) → get_or (table_words n m K T C M) (4 + 2 * T + i) 0 ≡ get_or (outs ++ nexts) i 0
@@ -122,12 +122,12 @@ pub fits : {n m T : ℕ} {C : ℕ → ℕ} {M : Machine} → Writable n m T C M 
 unfolding table_words
 fits {n} {m} {T} {C} {M} W =
     let c : Fit 2 (tabulate (suc T) M.states) = fit_at _ (below_tabulate (suc T) M.states (λ t b. omega (arith, W.counts_to_lem t (omega arith)))) in
-    let d : Fit 2 (tabulate T C) = fit_at _ (below_tabulate T C (λ t b. le_trans (W.connected-to t b) (pow_mono W.sizes.outputs-to))) in
+    let d : Fit 2 (tabulate T C) = fit_at _ (below_tabulate T C (λ t b. le_trans (W.connected_to t b) (pow_mono W.sizes.outputs_to))) in
     let o : Fit 2 (entries (2 ^ n) T M.states M.out) =
-    fit_at _ (below_entries (2 ^ n) T M.states M.out (λ t s w b l k. le_trans (W.is_legal.out_is t s w b l k) (pow_mono W.sizes.outputs-to))) in
+    fit_at _ (below_entries (2 ^ n) T M.states M.out (λ t s w b l k. le_trans (W.is_legal.out_is t s w b l k) (pow_mono W.sizes.outputs_to))) in
     let x : Fit 2 (entries (2 ^ n) T M.states M.next) =
     fit_at _ (below_entries (2 ^ n) T M.states M.next (λ t s w b l k. omega (arith, W.is_legal.next_is t s w b l k, W.counts_to_lem (suc t) b))) in
-    more {x = n} (omega (arith, W.sizes.inputs-to)) (more {x = m} (omega (arith, W.sizes.outputs-to)) (more {x = T} (omega (arith, W.sizes.frames-to))
+    more {x = n} (omega (arith, W.sizes.inputs_to)) (more {x = m} (omega (arith, W.sizes.outputs_to)) (more {x = T} (omega (arith, W.sizes.frames_to))
     (fit_append c (fit_append d (fit_append o x)))))
 
 -- ---- the bytes
@@ -137,9 +137,9 @@ unfoldable pub table_bytes : (n m T : ℕ) (C : ℕ → ℕ) → Machine → Lis
 table_bytes n m T C M = word_bytes (table_words n m (2 ^ n) T C M)
 
 -- 8 + 4·T + 4·E bytes
-pub bytes-length : (n m T : ℕ) (C : ℕ → ℕ) (M : Machine) → length (table_bytes n m T C M) ≡ 8 + 4 * T + 4 * (total T M.states * 2 ^ n)
+pub bytes_length : (n m T : ℕ) (C : ℕ → ℕ) (M : Machine) → length (table_bytes n m T C M) ≡ 8 + 4 * T + 4 * (total T M.states * 2 ^ n)
 unfolding table_bytes word_bytes
-bytes-length n m T C M = all_bytes-length 2 (table_words n m (2 ^ n) T C M) ∙ omega (arith, word_count n m (2 ^ n) T C M, total-mul T (2 ^ n) M.states)
+bytes_length n m T C M = all_bytes_length 2 (table_words n m (2 ^ n) T C M) ∙ omega (arith, word_count n m (2 ^ n) T C M, total_mul T (2 ^ n) M.states)
 
 -- each is a byte
 byte_below : (k x : ℕ) → Below 256 (bytes_of k x)
@@ -183,7 +183,7 @@ module _ {n m T : ℕ} {C : ℕ → ℕ} {M : Machine} (W : Writable n m T C M) 
 
   below_back : (t : ℕ) → t ≤ T → entries_below (table_bytes n m T C M) t ≡ before (2 ^ n) M t
   unfolding entries_below states_below
-  below_back t b = ap₂ ◌*◌ (total_cong t _ _ (λ i l. states_back i (omega arith))) (ap (λ k. 2 ^ k) inputs_back) ∙ sym (total-mul t (2 ^ n) M.states)
+  below_back t b = ap₂ ◌*◌ (total_cong t _ _ (λ i l. states_back i (omega arith))) (ap (λ k. 2 ^ k) inputs_back) ∙ sym (total_mul t (2 ^ n) M.states)
 
   count_back : entry_count (table_bytes n m T C M) ≡ before (2 ^ n) M T
   unfolding entry_count
@@ -199,7 +199,7 @@ module _ {n m T : ℕ} {C : ℕ → ℕ} {M : Machine} (W : Writable n m T C M) 
 
   length_back : length (table_bytes n m T C M) ≡ table_length (table_bytes n m T C M)
   unfolding table_length
-  length_back = bytes-length n m T C M ∙ omega (arith, nexts-at, count_back, total-mul T (2 ^ n) M.states)
+  length_back = bytes_length n m T C M ∙ omega (arith, nexts-at, count_back, total_mul T (2 ^ n) M.states)
 
   -- where an entry stands
   entry_back : (start t s w : ℕ) → t < T → entry_at (table_bytes n m T C M) start t s w ≡ start + 2 * (before (2 ^ n) M t + (s * 2 ^ n + w))
@@ -231,10 +231,10 @@ module _ {n m T : ℕ} {C : ℕ → ℕ} {M : Machine} (W : Writable n m T C M) 
       record {
         sizes = W.sizes;
         is_legal = agree_legal M (machine (table_bytes n m T C M)) W.is_legal A;
-        connected-to = λ t b. rw (connected_back t b) (W.connected-to t b);
-        outputs-connected = λ t s w b l k.
+        connected_to = λ t b. rw (connected_back t b) (W.connected_to t b);
+        outputs_connected = λ t s w b l k.
             let l' : s < M.states t = omega (arith, A.states_are t (omega arith)) in
-            rw (← A.outs_are t s w b l' k, connected_back t b) (W.outputs-connected t s w b l' k);
+            rw (← A.outs_are t s w b l' k, connected_back t b) (W.outputs_connected t s w b l' k);
         counts_from = λ t b. rw (states_back t b) (W.counts_from t b);
         counts_to_lem = λ t b. rw (states_back t b) (W.counts_to_lem t b);
         one_first = states_back 0 zero-le ∙ W.one_first;

@@ -43,9 +43,9 @@ delayed_000 : output_words (word_bytes delayed) (0 ∷ 0 ∷ 0 ∷ []) ≡ 0 ∷
 unfolding given delayed
 delayed_000 = refl
 
-silent-all : (v w : ℕ) → output_words (word_bytes silent) (v ∷ w ∷ []) ≡ 0 ∷ 0 ∷ []
+silent_all : (v w : ℕ) → output_words (word_bytes silent) (v ∷ w ∷ []) ≡ 0 ∷ 0 ∷ []
 unfolding given silent
-silent-all v w = refl
+silent_all v w = refl
 
 -- ---- one word of history, and what its continuations give
 
@@ -61,11 +61,11 @@ parity_apart t F e =
     omega (arith, ap (λ l. get_or l 0 0) (sym (ap (drop 1) parity_00) ∙ a ∙ ap (drop 1) parity_10))
 
 -- nothing does
-pub silent-same : (t : List ℕ) → Folding 2 1 2 (word_bytes silent) t → state_of t (0 ∷ []) ≡ state_of t (1 ∷ [])
-silent-same t F = (F.apart 1 (0 ∷ []) (1 ∷ []) (lit≤ tt) (bit_below 0 (lit< tt)) (bit_below 1 (lit< tt))).1 same
+pub silent_same : (t : List ℕ) → Folding 2 1 2 (word_bytes silent) t → state_of t (0 ∷ []) ≡ state_of t (1 ∷ [])
+silent_same t F = (F.apart 1 (0 ∷ []) (1 ∷ []) (lit≤ tt) (bit_below 0 (lit< tt)) (bit_below 1 (lit< tt))).1 same
   where
     same : (e : List ℕ) → Words 2 (2 - 1) e → drop 1 (output_words (word_bytes silent) (0 ∷ e)) ≡ drop 1 (output_words (word_bytes silent) (1 ∷ e))
-    same e (more {w = w} l none) = ap (drop 1) (silent-all 0 w ∙ sym (silent-all 1 w))
+    same e (more {w = w} l none) = ap (drop 1) (silent_all 0 w ∙ sym (silent_all 1 w))
 
 -- ---- False foldings
 
@@ -90,15 +90,15 @@ backwards t e F = omega (arith, F.in_order 1 (0 ∷ []) (1 ∷ []) (lit≤ tt) (
 
 -- Giving each history its own state: nothing tells the histories 0 and 1 of `silent` apart.
 pub each_history : (t : List ℕ) → state_of t (0 ∷ []) ≢ state_of t (1 ∷ []) → ¬ Folding 2 1 2 (word_bytes silent) t
-each_history t n F = n (silent-same t F)
+each_history t n F = n (silent_same t F)
 
 -- Merging states of different layers because their rows agree: state 0 of layer 1 of `delayed` and state 0 of layer 2 have the same row, output
--- 0 and next state 0 (`delayed-rows` in layered), so that merged into one they would leave layer 1 or layer 2 one state of its own: counts
+-- 0 and next state 0 (`delayed_rows` in layered), so that merged into one they would leave layer 1 or layer 2 one state of its own: counts
 -- 1 1 2 1 or 1 2 1 1. The histories 0 and 1, and 00 and 10, keep two states apart.
 module _ (t : List ℕ) (F : Folding 2 1 3 (word_bytes delayed) t) where
   delayed_sizes : (inputs t ≡ 1) × (frames t ≡ 3)
   unfolding given delayed
-  delayed_sizes = (F.same_inputs, F.same-frames)
+  delayed_sizes = (F.same_inputs, F.same_frames)
 
   one_state : {k : ℕ} {c : List ℕ} → k ≤ 3 → states t k ≡ 1 → Words 2 k c → state_of t c ≡ 0
   unfolding state_of
@@ -129,7 +129,7 @@ one_table b d t F G c W = sym (F.gives c W) ∙ G.gives c W
 
 one_for_all : (t : List ℕ) → Folding 2 1 2 (word_bytes parity) t → ¬ Folding 2 1 2 (word_bytes silent) t
 one_for_all t F G =
-    omega (arith, ap (λ l. get_or l 0 0) (sym parity_10 ∙ one_table (word_bytes parity) (word_bytes silent) t F G (1 ∷ 0 ∷ []) (more (lit< tt) (more (lit< tt) none)) ∙ silent-all 1 0))
+    omega (arith, ap (λ l. get_or l 0 0) (sym parity_10 ∙ one_table (word_bytes parity) (word_bytes silent) t F G (1 ∷ 0 ∷ []) (more (lit< tt) (more (lit< tt) none)) ∙ silent_all 1 0))
 
 -- Right in frame 1 and silent later.
 idle_later : (t : List ℕ) → ((k s w : ℕ) → 1 ≤ k → (machine t).out k s w ≡ 0) → ¬ Folding 2 1 2 (word_bytes parity) t

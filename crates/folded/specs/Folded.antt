@@ -20,34 +20,34 @@ unfoldable pub scratch_needed : List ℕ → ℕ
 scratch_needed b = 2 * 2 ^ all_inputs b
 
 -- 6
-abbrev pub six_checked : (needed scratchRoom : ℕ) → Figures
-six_checked needed scratchRoom = refuse (ltb scratchRoom needed) 6 needed (answer 0 0)
+abbrev pub six_checked : (needed scratch_room : ℕ) → Figures
+six_checked needed scratch_room = refuse (ltb scratch_room needed) 6 needed (answer 0 0)
 
 -- what is judged before anything that is lent is used: the circuit's checks, then 6
-unfoldable pub scratch_checked : List ℕ → (scratchRoom : ℕ) → Figures
-scratch_checked b scratchRoom = and_then (checked b) (six_checked (scratch_needed b) scratchRoom)
+unfoldable pub scratch_checked : List ℕ → (scratch_room : ℕ) → Figures
+scratch_checked b scratch_room = and_then (checked b) (six_checked (scratch_needed b) scratch_room)
 
 -- 18 at g: the inputs and gates 1 to g have more distinct nodes than there are records, and g is the smallest such (document 02, Point 10)
-unfoldable pub nodes_checked : List ℕ → (nodeRoom : ℕ) → Figures
-nodes_checked b nodeRoom = refuse_first (λ g. ltb nodeRoom (nodes_to b g)) 18 (λ g. g) (answer 0 0) 0 (suc (gates b))
+unfoldable pub nodes_checked : List ℕ → (node_room : ℕ) → Figures
+nodes_checked b node_room = refuse_first (λ g. ltb node_room (nodes_to b g)) 18 (λ g. g) (answer 0 0) 0 (suc (gates b))
 
 -- what is judged before a circuit's table is known: its checks, 6, 18
-unfoldable pub ask_checked : List ℕ → (scratchRoom nodeRoom : ℕ) → Figures
-ask_checked b scratchRoom nodeRoom = and_then (scratch_checked b scratchRoom) (nodes_checked b nodeRoom)
+unfoldable pub ask_checked : List ℕ → (scratch_room node_room : ℕ) → Figures
+ask_checked b scratch_room node_room = and_then (scratch_checked b scratch_room) (nodes_checked b node_room)
 
 -- and what is judged once its table is known: 7
-unfoldable pub room_checked : List ℕ → (resultRoom : ℕ) → Figures
-room_checked b resultRoom =
-    refuse (ltb resultRoom (length (folded_bytes b))) 7 (length (folded_bytes b))
+unfoldable pub room_checked : List ℕ → (result_room : ℕ) → Figures
+room_checked b result_room =
+    refuse (ltb result_room (length (folded_bytes b))) 7 (length (folded_bytes b))
     (answer 0 (length (folded_bytes b)))
 
 -- what folding answers
-unfoldable pub fold_checked : List ℕ → (scratchRoom nodeRoom resultRoom : ℕ) → Figures
-fold_checked b scratchRoom nodeRoom resultRoom = and_then (ask_checked b scratchRoom nodeRoom) (room_checked b resultRoom)
+unfoldable pub fold_checked : List ℕ → (scratch_room node_room result_room : ℕ) → Figures
+fold_checked b scratch_room node_room result_room = and_then (ask_checked b scratch_room node_room) (room_checked b result_room)
 
 -- what the result holds after folding
-unfoldable pub fold_result : List ℕ → (scratchRoom nodeRoom : ℕ) (before : List ℕ) → List ℕ
-fold_result b scratchRoom nodeRoom before = result_after (fold_checked b scratchRoom nodeRoom (length before)) (folded_bytes b) before
+unfoldable pub fold_result : List ℕ → (scratch_room node_room : ℕ) (before : List ℕ) → List ℕ
+fold_result b scratch_room node_room before = result_after (fold_checked b scratch_room node_room (length before)) (folded_bytes b) before
 
 -- the scratch with the needed numbers zero, the rest as before
 abbrev pub cleared_to : (needed : ℕ) (before : List ℕ) → List ℕ
@@ -61,5 +61,5 @@ unfoldable pub scratch_after : (b before : List ℕ) → List ℕ
 scratch_after b before = cond (eqb (scratch_checked b (length before)).number 0) (cleared b before) before
 
 -- and what the list of records holds: all of it cleared in the same cases
-unfoldable pub nodes_after : (b : List ℕ) (scratchRoom : ℕ) (before : List Node) → List Node
-nodes_after b scratchRoom before = cond (eqb (scratch_checked b scratchRoom).number 0) (replicate (length before) none) before
+unfoldable pub nodes_after : (b : List ℕ) (scratch_room : ℕ) (before : List Node) → List Node
+nodes_after b scratch_room before = cond (eqb (scratch_checked b scratch_room).number 0) (replicate (length before) none) before

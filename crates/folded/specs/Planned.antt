@@ -26,15 +26,15 @@ unfoldable pub folded_plan : (circuit : List ℕ) → List ℕ
 folded_plan b = plan_of (folded_bytes b)
 
 -- what asking returns: number, place and the plan, zeros where it refuses; there is no result, and so no 7
-unfoldable pub asked : List ℕ → (scratchRoom nodeRoom : ℕ) → List ℕ
-asked b scratchRoom nodeRoom =
-    let f = ask_checked b scratchRoom nodeRoom in
+unfoldable pub asked : List ℕ → (scratch_room node_room : ℕ) → List ℕ
+asked b scratch_room node_room =
+    let f = ask_checked b scratch_room node_room in
     f.number ∷ f.place ∷ cond (eqb f.number 0) (folded_plan b) (replicate plan_length 0)
 
 -- what committing answers: 14 is judged after 18 and before 7
-unfoldable pub commit_checked : (b plan : List ℕ) (scratchRoom nodeRoom resultRoom : ℕ) → Figures
-commit_checked b plan scratchRoom nodeRoom resultRoom = and_then (ask_checked b scratchRoom nodeRoom) (refuse (not (equal plan (folded_plan b))) 14 0 (room_checked b resultRoom))
+unfoldable pub commit_checked : (b plan : List ℕ) (scratch_room node_room result_room : ℕ) → Figures
+commit_checked b plan scratch_room node_room result_room = and_then (ask_checked b scratch_room node_room) (refuse (not (equal plan (folded_plan b))) 14 0 (room_checked b result_room))
 
 -- what the result holds after it
-unfoldable pub commit_result : (b plan : List ℕ) (scratchRoom nodeRoom : ℕ) (before : List ℕ) → List ℕ
-commit_result b plan scratchRoom nodeRoom before = result_after (commit_checked b plan scratchRoom nodeRoom (length before)) (folded_bytes b) before
+unfoldable pub commit_result : (b plan : List ℕ) (scratch_room node_room : ℕ) (before : List ℕ) → List ℕ
+commit_result b plan scratch_room node_room before = result_after (commit_checked b plan scratch_room node_room (length before)) (folded_bytes b) before

@@ -37,10 +37,10 @@ module _ (K m T : ℕ) (b t : List ℕ) where
   pub record Folding : Type 0 where
     -- the sizes are the circuit's
     pub same_inputs : inputs t ≡ inputs b
-    pub same-outputs : outputs t ≡ outputs b
-    pub same-frames : frames t ≡ frames b
+    pub same_outputs : outputs t ≡ outputs b
+    pub same_frames : frames t ≡ frames b
     -- the same outputs are connected
-    pub same-connected : (k : ℕ) → k < T → connected t k ≡ connected_outputs b k
+    pub same_connected : (k : ℕ) → k < T → connected t k ≡ connected_outputs b k
     -- two histories of equal length reach the same state exactly when no continuation tells them apart
     pub apart : (k : ℕ) (c d : List ℕ) → k ≤ T → Words K k c → Words K k d
         → (state_of t c ≡ state_of t d) ↔ ((e : List ℕ) → Words K (T - k) e → drop k (output_words b (c ++ e)) ≡ drop k (output_words b (d ++ e)))
@@ -96,8 +96,8 @@ pub record Asking (b : List ℕ) (room nodes : ℕ) (plan : List ℕ) : Type 0 w
   pub enough : (x : ℕ) → get_or plan 20 0 ≤ x → fold_checked b room nodes x ≡ answer 0 (get_or plan 20 0)
   pub too_short : (x : ℕ) → x < get_or plan 20 0 → fold_checked b room nodes x ≡ answer 7 (get_or plan 20 0)
   -- whatever folding writes has the plan's sizes, counts and bytes
-  pub as_folded : (before : List ℕ) (scratchRoom nodeRoom p : ℕ) → fold_checked b scratchRoom nodeRoom (length before) ≡ answer 0 p
-      → plan ≡ plan_of (take p (fold_result b scratchRoom nodeRoom before))
+  pub as_folded : (before : List ℕ) (scratch_room node_room p : ℕ) → fold_checked b scratch_room node_room (length before) ≡ answer 0 p
+      → plan ≡ plan_of (take p (fold_result b scratch_room node_room before))
   -- every layered machine that matches the circuit has at each layer at least as many states as the plan counts
   pub fewest : (M : Machine) → Legal (2 ^ inputs b) (outputs b) (frames b) M → Matches (2 ^ inputs b) (frames b) b M
       → (k : ℕ) → k ≤ frames b → get_or plan (3 + k) 0 ≤ M.states k

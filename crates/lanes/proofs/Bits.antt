@@ -7,7 +7,7 @@ use native.Mathlib.Omega.{arith}
 use lib.Dec.{eqb}
 use lib.Pow.{pow_pos, shr-shr, field, mod-mod-pow}
 use Rattle.circuit.specs.Lists.{bit}
-use Rattle.circuit.proofs.Bits.{bit-none, bit_not}
+use Rattle.circuit.proofs.Bits.{bit_none, bit_not}
 
 -- ---- a part: n bits of x from bit a on
 
@@ -29,5 +29,5 @@ bit_high x a i = ap (λ y. eqb (y % 2) 1) (sym (shr-shr x a i))
 
 -- ---- w ones
 
-pub bit-ones : (w j : ℕ) → j < w → bit (2 ^ w - 1) j ≡ true
-bit-ones w j h = let e : 2 ^ w - 1 ≡ 2 ^ w - 1 - 0 = omega arith in ap (λ x. bit x j) e ∙ bit_not 0 j w h (pow_pos w) ∙ ap not (bit-none j)
+pub bit_ones : (w j : ℕ) → j < w → bit (2 ^ w - 1) j ≡ true
+bit_ones w j h = let e : 2 ^ w - 1 ≡ 2 ^ w - 1 - 0 = omega arith in ap (λ x. bit x j) e ∙ bit_not 0 j w h (pow_pos w) ∙ ap not (bit_none j)

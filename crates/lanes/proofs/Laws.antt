@@ -18,16 +18,16 @@ use Rattle.layered.specs.Search.{every}
 use Rattle.layered.specs.Histories.{history_words}
 use Rattle.layered.proofs.Rows.{pow-mul}
 use Rattle.layered.proofs.Search.{every_each}
-use Rattle.layered.proofs.Histories.{history-length, history_word}
+use Rattle.layered.proofs.Histories.{history_length, history_word}
 use Rattle.circuit.specs.Limits.{most_signals}
 use Rattle.circuit.specs.Lists.{grown, listed, bit, packed}
 use Rattle.circuit.specs.Circuit.{gates, lefts_at, rights_at, operand, all_inputs, gate_signal, input_values, literal_value, gate_value}
 use Rattle.circuit.specs.WellFormed.{LegalGates}
 use Rattle.circuit.proofs.Ahead.{beq_same}
-use Rattle.circuit.proofs.Bits.{digit, bit-none, bit-packed, bit_and_lem, bit_not}
-use Rattle.circuit.proofs.Literals.{operand-before}
+use Rattle.circuit.proofs.Bits.{digit, bit_none, bit_packed, bit_and_lem, bit_not}
+use Rattle.circuit.proofs.Literals.{operand_before}
 use Rattle.circuit.proofs.Laws.{fill_grown, values_grow}
-use Rattle.circuit.proofs.Lists.{listed-after, listed_at}
+use Rattle.circuit.proofs.Lists.{listed_after, listed_at}
 use Rattle.circuit.proofs.Frames.{ends, inputs_are, from_first, only_input}
 use Rattle.lanes.specs.Limits.{lane_bits, lane_count}
 use Rattle.lanes.specs.Lanes.{lane, literal_lanes, sequence, picked, Lanes, InputLanes, FrameLanes, Settled, Ready, Unnamed, FirstUses, SignalLanes}
@@ -40,22 +40,22 @@ map-set f [] j x = refl
 map-set f (y ∷ l) zero x = refl
 map-set f (y ∷ l) (suc j) x = ap (λ s. f y ∷ s) (map-set f l j x)
 
-lane-set : (v : List ℕ) (n x j : ℕ) → lane j (set v n x) ≡ set (lane j v) n (bit x j)
+lane_set : (v : List ℕ) (n x j : ℕ) → lane j (set v n x) ≡ set (lane j v) n (bit x j)
 unfolding lane
-lane-set v n x j = map-set (λ y. bit y j) v n x
+lane_set v n x j = map-set (λ y. bit y j) v n x
 
-pub lane-length : (v : List ℕ) (j : ℕ) → length (lane j v) ≡ length v
+pub lane_length : (v : List ℕ) (j : ℕ) → length (lane j v) ≡ length v
 unfolding lane
-lane-length v j = length-map v (λ y. bit y j)
+lane_length v j = length-map v (λ y. bit y j)
 
-pub lane-at : (v : List ℕ) (j s : ℕ) → get_or (lane j v) s false ≡ bit (get_or v s 0) j
+pub lane_at : (v : List ℕ) (j s : ℕ) → get_or (lane j v) s false ≡ bit (get_or v s 0) j
 unfolding lane
-lane-at v j s = ap (get_or (map (λ y. bit y j) v) s) (sym (bit-none j)) ∙ get_or-map (λ y. bit y j) v s 0
+lane_at v j s = ap (get_or (map (λ y. bit y j) v) s) (sym (bit_none j)) ∙ get_or-map (λ y. bit y j) v s 0
 
 -- the digit that is packed next, as the code has it
 pub digit_is : (v : List ℕ) (i j : ℕ) → get_or v i 0 / 2 ^ j % 2 ≡ cond (get_or (lane j v) i false) 1 0
 unfolding bit
-digit_is v i j = sym (digit (get_or v i 0 / 2 ^ j)) ∙ ap (λ y. cond y 1 0) (sym (lane-at v j i))
+digit_is v i j = sym (digit (get_or v i 0 / 2 ^ j)) ∙ ap (λ y. cond y 1 0) (sym (lane_at v j i))
 
 -- ---- numbers in lanes
 
@@ -64,8 +64,8 @@ abbrev pub PlacesTo : (v : List ℕ) (k : ℕ) (h : ℕ → ℕ) → Type 0
 PlacesTo v k h = (j p : ℕ) → j < lane_count → p < k → bit (get_or v p 0) j ≡ bit (h j) p
 
 -- one bit more
-pub places-more : (v : List ℕ) (k x : ℕ) (h : ℕ → ℕ) → k < length v → PlacesTo v k h → ((j : ℕ) → j < lane_count → bit x j ≡ bit (h j) k) → PlacesTo (set v k x) (k + 1) h
-places-more v k x h room P X j p lj lp = go (dec_lt p k)
+pub places_more : (v : List ℕ) (k x : ℕ) (h : ℕ → ℕ) → k < length v → PlacesTo v k h → ((j : ℕ) → j < lane_count → bit x j ≡ bit (h j) k) → PlacesTo (set v k x) (k + 1) h
+places_more v k x h room P X j p lj lp = go (dec_lt p k)
   where
     go : Dec (p < k) → bit (get_or (set v k x) p 0) j ≡ bit (h j) p
     go (yes l) = rw (get_or-set_other v k p x 0 (λ e. omega arith)) (P j p lj l)
@@ -75,7 +75,7 @@ places-more v k x h room P X j p lj lp = go (dec_lt p k)
 
 -- bit p of the numbers, one to a lane
 pub gathered : (hs : List ℕ) (x p j : ℕ) → x ≡ packed (lane p hs) → bit x j ≡ bit (get_or hs j 0) p
-gathered hs x p j e = ap (λ y. bit y j) e ∙ bit-packed (lane p hs) j ∙ lane-at hs p j
+gathered hs x p j e = ap (λ y. bit y j) e ∙ bit_packed (lane p hs) j ∙ lane_at hs p j
 
 -- ---- neighbours: the numbers from a multiple of lane_count on
 
@@ -106,7 +106,7 @@ module _ (n T t h f k : ℕ) (hf : 1 ≤ f) (hk : k < n) (ht : t ≤ T) where
   input_bit_lem hi =
       let K = 2 ^ n in
       ap (λ w. bit w k)
-      (get_or-append (history_words K t h) (replicate (T - t) 0) 0 (f - 1) (omega (arith, history-length K t h))
+      (get_or-append (history_words K t h) (replicate (T - t) 0) 0 (f - 1) (omega (arith, history_length K t h))
       ∙ history_word K (t - f) t h (f - 1) (omega arith) ∙ ap (λ p. h / p % K) (sym (pow-mul 2 n (t - f))))
       ∙ bit_part h (n * (t - f)) n k hk ∙ ap (λ p. bit h (p + k)) (mul_comm n (t - f))
 
@@ -116,8 +116,8 @@ module _ (n T t h f k : ℕ) (hf : 1 ≤ f) (hk : k < n) (ht : t ≤ T) where
       let c = history_words (2 ^ n) t h in
       let z : List ℕ = replicate (T - t) 0 in
       let d = f - 1 - t in
-      let e : f - 1 ≡ length c + d = omega (arith, history-length (2 ^ n) t h) in
-      ap (λ w. bit w k) (ap (λ x. get_or (c ++ z) x 0) e ∙ get_or-append-add c z d 0 ∙ zeros (T - t) d) ∙ bit-none k
+      let e : f - 1 ≡ length c + d = omega (arith, history_length (2 ^ n) t h) in
+      ap (λ w. bit w k) (ap (λ x. get_or (c ++ z) x 0) e ∙ get_or-append-add c z d 0 ∙ zeros (T - t) d) ∙ bit_none k
     where
       zeros : (d k : ℕ) → get_or {A = ℕ} (replicate d 0) k 0 ≡ 0
       zeros zero k = refl
@@ -132,20 +132,20 @@ whole K T x =
 
 module _ (n T t : ℕ) (h : ℕ → ℕ) where
   -- only the constant is stored
-  pub inputs-none : (v : List ℕ) → 0 < length v → InputLanes n T t h 0 (set v 0 0)
+  pub inputs_none : (v : List ℕ) → 0 < length v → InputLanes n T t h 0 (set v 0 0)
   unfolding Lanes lane input_values grown
-  inputs-none [] p j hj = absurd (omega arith)
-  inputs-none (x ∷ v) p j hj = ap (λ y. y ∷ []) (bit-none j)
+  inputs_none [] p j hj = absurd (omega arith)
+  inputs_none (x ∷ v) p j hj = ap (λ y. y ∷ []) (bit_none j)
 
   -- the lanes of input k of frame f are stored
-  pub inputs-more : (v : List ℕ) (s f k x : ℕ) → s ≡ 1 + ((f - 1) * n + k) → k < n → s < length v → InputLanes n T t h ((f - 1) * n + k) v
+  pub inputs_more : (v : List ℕ) (s f k x : ℕ) → s ≡ 1 + ((f - 1) * n + k) → k < n → s < length v → InputLanes n T t h ((f - 1) * n + k) v
       → ((j : ℕ) → j < lane_count → bit x j ≡ bit (get_or (sequence (2 ^ n) T t (h j)) (f - 1) 0) k) → InputLanes n T t h ((f - 1) * n + (k + 1)) (set v s x)
   unfolding Lanes input_values
-  inputs-more v s f k x es hk room L ex j hj =
+  inputs_more v s f k x es hk room L ex j hj =
       let i = (f - 1) * n + k in
-      rw (es, lane-set v (1 + i) x j)
+      rw (es, lane_set v (1 + i) x j)
       (fill_grown (false ∷ []) (λ _ i. bit (get_or (sequence (2 ^ n) T t (h j)) (i / n) 0) (i % n)) (lane j v) (1 + i) i (bit x j)
-      (omega (arith, lane-length v j)) (L j hj)
+      (omega (arith, lane_length v j)) (L j hj)
       (rw (digits_div (f - 1) {m = n} {r = k} hk, digits_mod (f - 1) {m = n} {r = k} hk) (ex j hj)) (1 + ((f - 1) * n + (k + 1))) ((f - 1) * n + (k + 1)) (omega arith) (omega arith))
 
   -- what is stored of all inputs, by their frames
@@ -158,11 +158,11 @@ module _ (n T t : ℕ) (h : ℕ → ℕ) where
       let e : s ≡ 1 + i = omega (arith, S) in
       let hk : k < n = omega (arith, S, ends f n (from_first n f (s - 1) (omega (arith, S)))) in
       let to : f * n ≤ T * n = mul-le-mul_right n hf in (
-        sym (lane-at v j s)
+        sym (lane_at v j s)
             ∙ sym (get_or-take (1 + T * n) (lane j v) s false (omega (arith, S)))
             ∙ ap (λ l. get_or l s false) (L j lj)
             ∙ ap (λ x. get_or (input_values c n (T * n)) x false) e
-            ∙ listed-after (false ∷ []) (λ i. bit (get_or c (i / n) 0) (i % n)) false (T * n) i (omega (arith, S))
+            ∙ listed_after (false ∷ []) (λ i. bit (get_or c (i / n) 0) (i % n)) false (T * n) i (omega (arith, S))
             ∙ ap₂ (λ w p. bit (get_or c w 0) p) (digits_div (f - 1) {m = n} {r = k} hk) (digits_mod (f - 1) {m = n} {r = k} hk),
         only_input n f s S,
       )
@@ -170,10 +170,10 @@ module _ (n T t : ℕ) (h : ℕ → ℕ) where
 -- ---- signals
 
 -- lane j of a literal
-literal-bit : (v : List ℕ) (l j x : ℕ) → get_or v (l / 2) 0 < 2 ^ lane_count → j < lane_count → x ≡ literal_lanes (get_or v (l / 2) 0) l → bit x j ≡ literal_value (lane j v) l
+literal_bit : (v : List ℕ) (l j x : ℕ) → get_or v (l / 2) 0 < 2 ^ lane_count → j < lane_count → x ≡ literal_lanes (get_or v (l / 2) 0) l → bit x j ≡ literal_value (lane j v) l
 unfolding literal_lanes literal_value
-literal-bit v l j x w hj ex =
-    rw (ex, lane-at v j (l / 2)) (go (eqb (l % 2) 1))
+literal_bit v l j x w hj ex =
+    rw (ex, lane_at v j (l / 2)) (go (eqb (l % 2) 1))
   where
     go : (s : Bool) → bit (cond s (2 ^ lane_count - 1 - get_or v (l / 2) 0) (get_or v (l / 2) 0)) j ≡ cond s (not (bit (get_or v (l / 2) 0) j)) (bit (get_or v (l / 2) 0) j)
     go true = bit_not (get_or v (l / 2) 0) j lane_count hj w
@@ -202,13 +202,13 @@ module _ (b : List ℕ) where
   unfolding gate_value
   gate_lanes v g l r x y j lj el er wl wr ex ey =
       bit_and_lem x y j
-      ∙ ap₂ ◌&&◌ (literal-bit v l j x wl lj ex ∙ ap (literal_value (lane j v)) el) (literal-bit v r j y wr lj ey ∙ ap (literal_value (lane j v)) er)
+      ∙ ap₂ ◌&&◌ (literal_bit v l j x wl lj ex ∙ ap (literal_value (lane j v)) el) (literal_bit v r j y wr lj ey ∙ ap (literal_value (lane j v)) er)
 
   -- a signal that is stored is none of the first k gates, nor do they name it
   settled_other : (v : List ℕ) (k s x : ℕ) → ((g : ℕ) → g < k → ¬ (gate_signal b g ≡ s)) → ((g : ℕ) → g < k → Unnamed b s g) → Settled b v k → Settled b (set v s x) k
   unfolding Settled
   settled_other v k s x none other S g j lg lj =
-      rw (get_or-set_other v s (gate_signal b g) x 0 (none g lg), lane-set v s x j) (S g j lg lj ∙ sym (gate_other (lane j v) s g (bit x j) (other g lg)))
+      rw (get_or-set_other v s (gate_signal b g) x 0 (none g lg), lane_set v s x j) (S g j lg lj ∙ sym (gate_other (lane j v) s g (bit x j) (other g lg)))
 
   settled_fewer : (v : List ℕ) (k i : ℕ) → i ≤ k → Settled b v k → Settled b v i
   unfolding Settled
@@ -244,15 +244,15 @@ module _ (b : List ℕ) where
       -- no gate up to g names the signal of gate g
       unnamed : (i : ℕ) → i ≤ g → Unnamed b n i
       unnamed i h = (
-        λ e. omega (arith, operand-before b (lefts_at b) i _ (L.left i (omega arith)) refl),
-        λ e. omega (arith, operand-before b (rights_at b) i _ (L.right i (omega arith)) refl),
+        λ e. omega (arith, operand_before b (lefts_at b) i _ (L.left i (omega arith)) refl),
+        λ e. omega (arith, operand_before b (rights_at b) i _ (L.right i (omega arith)) refl),
       )
 
       go : Dec (i < g) → bit (get_or (set v n (bit_and x y)) (1 + all_inputs b + i) 0) j ≡ gate_value b (lane j (set v n (bit_and x y))) i
       go (yes h) = settled_other v g n (bit_and x y) (λ k l q. omega arith) (λ k l. unnamed k (omega arith)) S i j h lj
       go (no h) =
           let e : i ≡ g = omega arith in
-          rw (e, ← en, get_or-set_same v n (bit_and x y) 0 room, lane-set v n (bit_and x y) j) (gate_lanes v g l r x y j lj el er wl wr ex ey ∙ sym (gate_other (lane j v) n g (bit (bit_and x y) j) (unnamed g (omega arith))))
+          rw (e, ← en, get_or-set_same v n (bit_and x y) 0 room, lane_set v n (bit_and x y) j) (gate_lanes v g l r x y j lj el er wl wr ex ey ∙ sym (gate_other (lane j v) n g (bit (bit_and x y) j) (unnamed g (omega arith))))
 
 -- the values of all inputs on the history in lane j
 abbrev pub inputs_of : List ℕ → (t : ℕ) (h : ℕ → ℕ) (j : ℕ) → List Bool
@@ -260,27 +260,27 @@ inputs_of b t h j = input_values (sequence (2 ^ inputs b) (frames b) t (h j)) (i
 
 module _ (b : List ℕ) (t : ℕ) (h : ℕ → ℕ) (v : List ℕ) where
   -- as the code has them
-  pub inputs-stored : (n T base : ℕ) → n ≡ inputs b → T ≡ frames b → base ≡ 1 + all_inputs b → InputLanes n T t h (T * n) v → Lanes v base (inputs_of b t h)
-  inputs-stored n T base en eT eb L = rw eb (rw (inputs_are b n T en eT, en, eT) at L)
+  pub inputs_stored : (n T base : ℕ) → n ≡ inputs b → T ≡ frames b → base ≡ 1 + all_inputs b → InputLanes n T t h (T * n) v → Lanes v base (inputs_of b t h)
+  inputs_stored n T base en eT eb L = rw eb (rw (inputs_are b n T en eT, en, eT) at L)
 
   -- a later signal is stored
   pub inputs_kept : (base n x : ℕ) → base ≤ n → Lanes v base (inputs_of b t h) → Lanes (set v n x) base (inputs_of b t h)
   unfolding Lanes
-  inputs_kept base n x e L j hj = rw (lane-set v n x j, take-set-le base (lane j v) n (bit x j) e) (L j hj)
+  inputs_kept base n x e L j hj = rw (lane_set v n x j, take-set-le base (lane j v) n (bit x j) e) (L j hj)
 
 -- once all gates are settled, each lane has the values of all signals
 pub settled_signals : (b : List ℕ) → LegalGates b → (t : ℕ) (h : ℕ → ℕ) (v : List ℕ) → gate_signal b (gates b) ≤ length v → Settled b v (gates b)
     → (base : ℕ) → base ≡ 1 + all_inputs b → Lanes v base (inputs_of b t h) → SignalLanes b t h v
 unfolding Settled Lanes
 settled_signals b L t h v room S base eb I j lj =
-    values_grow b (sequence (2 ^ inputs b) (frames b) t (h j)) (lane j v) L (omega (arith, lane-length v j)) (rw (← eb) (I j lj)) (gates b) (omega arith)
-    (λ g l. lane-at v j (gate_signal b g) ∙ S g j l lj)
+    values_grow b (sequence (2 ^ inputs b) (frames b) t (h j)) (lane j v) L (omega (arith, lane_length v j)) (rw (← eb) (I j lj)) (gates b) (omega arith)
+    (λ g l. lane_at v j (gate_signal b g) ∙ S g j l lj)
 
 -- room that was not used yet is ready for any circuit
 -- a bit of what is picked
-pub picked-bit : (bits : List ℕ) (x p : ℕ) → p < most_bits → bit (picked bits x) p ≡ bit x (get_or bits p 0)
+pub picked_bit : (bits : List ℕ) (x p : ℕ) → p < most_bits → bit (picked bits x) p ≡ bit x (get_or bits p 0)
 unfolding picked
-picked-bit bits x p h = bit-packed (listed [] (λ p. bit x (get_or bits p 0)) most_bits) p ∙ listed_at (λ p. bit x (get_or bits p 0)) false most_bits p h
+picked_bit bits x p h = bit_packed (listed [] (λ p. bit x (get_or bits p 0)) most_bits) p ∙ listed_at (λ p. bit x (get_or bits p 0)) false most_bits p h
 
 pub room_ready : (b v : List ℕ) → v ≡ replicate most_signals 1 → Ready b v
 room_ready b v e z =
@@ -304,8 +304,8 @@ module _ (f : List ℕ) (base l g s : ℕ) (hs : s < base) (room : base ≤ leng
       go true = get_or-set_other f (l / 2) s g 0 (λ e. n (sym e))
       go false = refl
 
-  pub noted-length : length (noted f base l g) ≡ length f
-  noted-length = go (ltb (l / 2) base)
+  pub noted_length : length (noted f base l g) ≡ length f
+  noted_length = go (ltb (l / 2) base)
     where
       go : (t : Bool) → length (cond t (set f (l / 2) g) f) ≡ length f
       go true = length-set f (l / 2) g
@@ -333,7 +333,7 @@ uses_more b f f' base l r g eb room el er ef F s i hs lo hi = go (ℕ_discrete (
     once = noted f base l g
 
     long : base ≤ length once
-    long = omega (arith, noted-length f base l g s in_base room)
+    long = omega (arith, noted_length f base l g s in_base room)
 
     is : (x : ℕ) → get_or (noted once base r g) s 0 ≡ x → i < x
     is x e = subst (λ y. i < y) e (subst (λ k. i < get_or k s 0) ef hi)

@@ -21,8 +21,8 @@ use Rattle.latest.specs.Latest.{input_frames, InputsTo, later_frame, own_input_f
 -- ---- inputs
 
 -- only the constant is stored
-pub inputs-none : (n T : ℕ) (v : List ℕ) → 0 < length v → InputsTo n T 0 (set v 0 0)
-inputs-none n T v h = (get_or-set_same v 0 0 0 h, λ f j hf hj. absurd (omega arith))
+pub inputs_none : (n T : ℕ) (v : List ℕ) → 0 < length v → InputsTo n T 0 (set v 0 0)
+inputs_none n T v h = (get_or-set_same v 0 0 0 h, λ f j hf hj. absurd (omega arith))
 
 -- two inputs of one place are the same
 digits_same : (n f j g k : ℕ) → j < n → k < n → f * n + j ≡ g * n + k → (f ≡ g) × (j ≡ k)
@@ -64,17 +64,17 @@ input_frame n T v hn I i h =
     let e : i / n * n + i % n ≡ i = omega (arith, div-add-mod i n, mul_comm n (i / n)) in
     ap (λ x. get_or v (1 + x) 0) (sym e) ∙ I.1 (i / n) (i % n) ((div-lt_iff_lt-mul {k = n} hn).1 h) (mod-lt i hn) ∙ add-one (i / n)
 
-inputs-listed : (n count : ℕ) (v : List ℕ) → count < length v → get_or v 0 0 ≡ 0 → ((i : ℕ) → i < count → get_or v (1 + i) 0 ≡ frame_of n i)
+inputs_listed : (n count : ℕ) (v : List ℕ) → count < length v → get_or v 0 0 ≡ 0 → ((i : ℕ) → i < count → get_or v (1 + i) 0 ≡ frame_of n i)
     → take (1 + count) v ≡ input_frames n count
 unfolding input_frames grown
-inputs-listed n zero v h z I = take-suc v 0 0 (omega arith) ∙ ap (λ x. x ∷ []) z
-inputs-listed n (suc k) v h z I =
+inputs_listed n zero v h z I = take-suc v 0 0 (omega arith) ∙ ap (λ x. x ∷ []) z
+inputs_listed n (suc k) v h z I =
     let next : 1 + suc k ≡ suc (1 + k) = omega arith in
     ap (λ i. take i v) next ∙ take-suc v (1 + k) 0 (omega arith)
-    ∙ ap₂ (λ (s : List ℕ) (x : ℕ). s ++ (x ∷ [])) (inputs-listed n k v (omega arith) z (λ i l. I i (omega arith))) (I k (omega arith))
+    ∙ ap₂ (λ (s : List ℕ) (x : ℕ). s ++ (x ∷ [])) (inputs_listed n k v (omega arith) z (λ i l. I i (omega arith))) (I k (omega arith))
 
-pub inputs-all : (n T : ℕ) (v : List ℕ) → 1 ≤ n → T * n < length v → InputsTo n T n v → take (1 + T * n) v ≡ input_frames n (T * n)
-inputs-all n T v hn h I = inputs-listed n (T * n) v h I.0 (input_frame n T v hn I)
+pub inputs_all : (n T : ℕ) (v : List ℕ) → 1 ≤ n → T * n < length v → InputsTo n T n v → take (1 + T * n) v ≡ input_frames n (T * n)
+inputs_all n T v hn h I = inputs_listed n (T * n) v h I.0 (input_frame n T v hn I)
 
 -- what is stored of an input is its only frame
 pub input_only : (n T : ℕ) (v : List ℕ) → 1 ≤ n → InputsTo n T n v → (s : ℕ) → 1 ≤ s → s ≤ T * n → OnlyInputOf n (get_or v s 0) s
@@ -98,32 +98,32 @@ module _ (s : Source) where
   abbrev pub placed : (i : ℕ) → List ℕ
   placed i = listed (0 ∷ []) (λ i. frame_of s.inputs (get_or s.places i 0)) i
 
-  pub placed-none : (v : List ℕ) → 0 < length v → take (1 + 0) (set v 0 0) ≡ placed 0
+  pub placed_none : (v : List ℕ) → 0 < length v → take (1 + 0) (set v 0 0) ≡ placed 0
   unfolding grown
-  placed-none v h = take-suc (set v 0 0) 0 0 (simp length-set h) ∙ ap (λ x. x ∷ []) (get_or-set_same v 0 0 0 h)
+  placed_none v h = take-suc (set v 0 0) 0 0 (simp length-set h) ∙ ap (λ x. x ∷ []) (get_or-set_same v 0 0 0 h)
 
-  pub placed-more : (v : List ℕ) (i x : ℕ) → 1 + i < length v → take (1 + i) v ≡ placed i → x ≡ frame_of s.inputs (get_or s.places i 0) → take (1 + (i + 1)) (set v (1 + i) x) ≡ placed (i + 1)
-  placed-more v i x h e ex = fill_grown (0 ∷ []) (λ _ i. frame_of s.inputs (get_or s.places i 0)) v (1 + i) i x h e ex (1 + (i + 1)) (i + 1) (omega arith) refl
+  pub placed_more : (v : List ℕ) (i x : ℕ) → 1 + i < length v → take (1 + i) v ≡ placed i → x ≡ frame_of s.inputs (get_or s.places i 0) → take (1 + (i + 1)) (set v (1 + i) x) ≡ placed (i + 1)
+  placed_more v i x h e ex = fill_grown (0 ∷ []) (λ _ i. frame_of s.inputs (get_or s.places i 0)) v (1 + i) i x h e ex (1 + (i + 1)) (i + 1) (omega arith) refl
 
-  pub placed-all : (v : List ℕ) (i : ℕ) → s.whole ≡ false → s.own.base ≡ 1 + i → take (1 + i) v ≡ placed i → take s.own.base v ≡ own_input_frames s
+  pub placed_all : (v : List ℕ) (i : ℕ) → s.whole ≡ false → s.own.base ≡ 1 + i → take (1 + i) v ≡ placed i → take s.own.base v ≡ own_input_frames s
   unfolding own_input_frames
-  placed-all v i e b h =
+  placed_all v i e b h =
       let p : i ≡ s.own.base - 1 = omega arith in
       rw e (ap (λ i. take i v) b ∙ h ∙ ap placed p)
 
 -- ---- gates
 
 -- before the first gate there is what v begins with
-pub latest-none : (b v : List ℕ) (n : ℕ) → take (n + 0) v ≡ grown (take n v) (later_frame b) 0
+pub latest_none : (b v : List ℕ) (n : ℕ) → take (n + 0) v ≡ grown (take n v) (later_frame b) 0
 unfolding grown
-latest-none b v n = ap (λ i. take i v) (add-zero n)
+latest_none b v n = ap (λ i. take i v) (add-zero n)
 
 module _ (start b v : List ℕ) where
   -- one gate more, where v begins with what was grown of `start`
-  pub latest-more : (g n l r : ℕ) → n < length v → take n v ≡ grown start (later_frame b) g
+  pub latest_more : (g n l r : ℕ) → n < length v → take n v ≡ grown start (later_frame b) g
       → l ≡ operand b (lefts_at b) g → r ≡ operand b (rights_at b) g → l / 2 < n → r / 2 < n
       → (j : ℕ) → j ≡ n + 1 → take j (set v n (max (get_or v (l / 2) 0) (get_or v (r / 2) 0))) ≡ grown start (later_frame b) (g + 1)
   unfolding later_frame
-  latest-more g n l r room e el er hl hr j ej =
+  latest_more g n l r room e el er hl hr j ej =
       fill_grown start (later_frame b) v n g _ room e
       (rw (← e, ← el, ← er, get_or-take n v (l / 2) 0 hl, get_or-take n v (r / 2) 0 hr)) j (g + 1) ej refl

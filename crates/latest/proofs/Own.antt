@@ -17,14 +17,14 @@ use Rattle.circuit.specs.Lists.{grown, listed}
 use Rattle.circuit.specs.Circuit.{gates, lefts_at, rights_at, literal_at, operand, unconnected, all_inputs, all_outputs, gate_signal, gate_of_output, output_signal, frame_of}
 use Rattle.circuit.specs.WellFormed.{WellFormed}
 use Rattle.circuit.specs.declared.Head.{Head}
-use Rattle.circuit.proofs.Literals.{operand-before}
-use Rattle.circuit.proofs.Gates.{closing, closing-connected, closing_blank}
-use Rattle.circuit.proofs.Laws.{length-grown}
-use Rattle.circuit.proofs.Lists.{grown_old, grown-at, grown_start, grown_kept, listed_start, listed-after}
+use Rattle.circuit.proofs.Literals.{operand_before}
+use Rattle.circuit.proofs.Gates.{closing, closing_connected, closing_blank}
+use Rattle.circuit.proofs.Laws.{length_grown}
+use Rattle.circuit.proofs.Lists.{grown_old, grown_at, grown_start, grown_kept, listed_start, listed_after}
 use Rattle.source.specs.Rearranged.{standing, renamed, item_at, connects_at, shown_literal}
 use Rattle.source.specs.Source.{sourced, item_in, shown_signal, Spreads, WholeOf, SourceOf, stands, spread}
 use Rattle.source.specs.declared.Source.{Source}
-use Rattle.source.proofs.Standing.{standing_gate, standing_input, standing_constant, standing-before, renamed-signal, item_whole, shown-none, shown-item}
+use Rattle.source.proofs.Standing.{standing_gate, standing_input, standing_constant, standing_before, renamed_signal, item_whole, shown_none, shown_item}
 use Rattle.source.proofs.Rearranged.{b, rearranged_head, inputs_are, outputs_are, gates_are, inner_left, inner_right, closing_operands}
 use Rattle.source.proofs.Sources.{sourced_whole, sourced_spread, own_well, well, spread_item}
 use Rattle.latest.specs.Latest.{input_frames, later_frame, latest_frames, reaches_later, own_input_frames, own_frames}
@@ -59,10 +59,10 @@ module _ (c : List ℕ) (s : Source) (P : Spreads c s) (w : s.whole ≡ false) w
   start = ap₂ (λ n k. listed (0 ∷ []) (frame_of n) k) (sym (rearranged_head c s P).inputs_is) (inputs_are c s P)
 
   own_length : length (own_input_frames s) ≡ 1 + N
-  own_length = ap length own_start ∙ length-grown (0 ∷ []) _ N
+  own_length = ap length own_start ∙ length_grown (0 ∷ []) _ N
 
   start_length : length (input_frames (inputs r) (all_inputs r)) ≡ 1 + A
-  start_length = ap length start ∙ length-grown (0 ∷ []) _ A
+  start_length = ap length start ∙ length_grown (0 ∷ []) _ A
 
   -- the constant is of no frame
   own_constant : (k : ℕ) → get_or (own_frames s c k) 0 0 ≡ 0
@@ -76,11 +76,11 @@ module _ (c : List ℕ) (s : Source) (P : Spreads c s) (w : s.whole ≡ false) w
   -- a gate's
   own_gate : (g k : ℕ) → g < k → get_or (own_frames s c k) (1 + N + g) 0 ≡ later_frame c (own_frames s c g) g
   unfolding own_frames
-  own_gate g k h = ap (λ i. get_or (own_frames s c k) (i + g) 0) (sym own_length) ∙ grown-at (own_input_frames s) (later_frame c) 0 k g h
+  own_gate g k h = ap (λ i. get_or (own_frames s c k) (i + g) 0) (sym own_length) ∙ grown_at (own_input_frames s) (later_frame c) 0 k g h
 
   gate : (g k : ℕ) → g < k → get_or (latest_frames r k) (1 + A + g) 0 ≡ later_frame r (latest_frames r g) g
   unfolding latest_frames
-  gate g k h = ap (λ i. get_or (latest_frames r k) (i + g) 0) (sym start_length) ∙ grown-at (input_frames (inputs r) (all_inputs r)) (later_frame r) 0 k g h
+  gate g k h = ap (λ i. get_or (latest_frames r k) (i + g) 0) (sym start_length) ∙ grown_at (input_frames (inputs r) (all_inputs r)) (later_frame r) 0 k g h
 
   -- a signal up to gate k has the latest frame of the one as which it stands
   Same : (k : ℕ) → Type 0
@@ -95,21 +95,21 @@ module _ (c : List ℕ) (s : Source) (P : Spreads c s) (w : s.whole ≡ false) w
       let k : suc i - 1 ≡ i = omega arith in
       let e : standing N s.places A (suc i) ≡ 1 + place i = standing_input N s.places A (suc i) (omega arith) (λ z. absurd (omega arith)) ∙ ap (λ i. 1 + place i) k in
       ap₂ (λ l x. get_or l x 0) own_start p
-      ∙ listed-after (0 ∷ []) (λ i. frame_of s.inputs (place i)) 0 N i l
-      ∙ sym (listed-after (0 ∷ []) (frame_of s.inputs) 0 A (place i) (P.places_in i l))
+      ∙ listed_after (0 ∷ []) (λ i. frame_of s.inputs (place i)) 0 N i l
+      ∙ sym (listed_after (0 ∷ []) (frame_of s.inputs) 0 A (place i) (P.places_in i l))
       ∙ sym (ap₂ (λ l x. get_or l x 0) start e)
 
   -- an operand of gate k and the renamed one
   same_operand : (k l m : ℕ) → Same k → l / 2 < 1 + N + k → m ≡ renamed N s.places A l → get_or (own_frames s c k) (l / 2) 0 ≡ get_or (latest_frames r k) (m / 2) 0
   unfolding Same
-  same_operand k l m S h e = S (l / 2) h ∙ ap (λ x. get_or (latest_frames r k) x 0) (sym (ap (λ m. m / 2) e ∙ renamed-signal N s.places A l))
+  same_operand k l m S h e = S (l / 2) h ∙ ap (λ x. get_or (latest_frames r k) x 0) (sym (ap (λ m. m / 2) e ∙ renamed_signal N s.places A l))
 
   same_gate : (k : ℕ) → k < gates c → Same k → later_frame c (own_frames s c k) k ≡ later_frame r (latest_frames r k) k
   unfolding later_frame
   same_gate k h S =
       ap₂ max
-      (same_operand k (operand c (lefts_at c) k) (operand r (lefts_at r) k) S (operand-before c (lefts_at c) k _ (H.legal.left k h) refl) (inner_left c s P k h))
-      (same_operand k (operand c (rights_at c) k) (operand r (rights_at r) k) S (operand-before c (rights_at c) k _ (H.legal.right k h) refl) (inner_right c s P k h))
+      (same_operand k (operand c (lefts_at c) k) (operand r (lefts_at r) k) S (operand_before c (lefts_at c) k _ (H.legal.left k h) refl) (inner_left c s P k h))
+      (same_operand k (operand c (rights_at c) k) (operand r (rights_at r) k) S (operand_before c (rights_at c) k _ (H.legal.right k h) refl) (inner_right c s P k h))
 
   same_more : (k : ℕ) → k < gates c → Same k → Same (suc k)
   unfolding Same own_frames latest_frames
@@ -120,7 +120,7 @@ module _ (c : List ℕ) (s : Source) (P : Spreads c s) (w : s.whole ≡ false) w
       (λ (q : x < 1 + N + k).
       grown_old (own_input_frames s) (later_frame c) 0 k x (omega (arith, own_length))
       ∙ before x q
-      ∙ sym (grown_old (input_frames (inputs r) (all_inputs r)) (later_frame r) 0 k (standing N s.places A x) (omega (arith, start_length, standing-before N s.places A k x P.places_in q))))
+      ∙ sym (grown_old (input_frames (inputs r) (all_inputs r)) (later_frame r) 0 k (standing N s.places A x) (omega (arith, start_length, standing_before N s.places A k x P.places_in q))))
       (eq-or-lt_of_le {n = x} {m = 1 + N + k} (omega arith))
 
   same : (k : ℕ) → k ≤ gates c → Same k
@@ -151,15 +151,15 @@ module _ (c : List ℕ) (s : Source) (P : Spreads c s) (w : s.whole ≡ false) w
   blank_place q h e =
       place_frame q h 0 0 (closing_blank conn (shown_literal c s.shown A) 0 q e) ∙ ap₂ max (constant (gates c + q)) (constant (gates c + q))
 
-  connected-place : (q : ℕ) → q < s.outputs * s.frames → conn q ≡ true → item q < all_outputs c
+  connected_place : (q : ℕ) → q < s.outputs * s.frames → conn q ≡ true → item q < all_outputs c
       → get_or (latest_frames r (gates r)) (output_signal r q) 0 ≡ get_or (own_frames s c (gates c)) (1 + N + gate_of_output c (item q)) 0
   unfolding shown_literal Same latest_frames
-  connected-place q h e l =
+  connected_place q h e l =
       let g : ℕ = gate_of_output c (item q) in
-      let in-network : g < gates c = omega (arith, H.headed.outputs-to) in
+      let in-network : g < gates c = omega (arith, H.headed.outputs_to) in
       let half : 2 * (1 + A + g) / 2 ≡ 1 + A + g = omega arith in
       let f : standing N s.places A (1 + N + g) ≡ 1 + A + g = standing_gate N s.places A (1 + N + g) (omega arith) ∙ omega arith in
-      place_frame q h (2 * (1 + A + g)) 1 (closing-connected conn (shown_literal c s.shown A) 0 q e)
+      place_frame q h (2 * (1 + A + g)) 1 (closing_connected conn (shown_literal c s.shown A) 0 q e)
       ∙ ap₂ max
       (ap (λ i. get_or (latest_frames r (gates c + q)) i 0) half
       ∙ grown_kept (input_frames (inputs r) (all_inputs r)) (later_frame r) 0 (gates c) (gates c + q) (1 + A + g) (omega arith) (omega (arith, start_length))
@@ -175,7 +175,7 @@ module _ (c : List ℕ) (s : Source) (P : Spreads c s) (w : s.whole ≡ false) w
       let g : ℕ = gate_of_output c k in
       let fs : List ℕ = own_frames s c g in
       let none : (at : ℕ) → get_or fs (cond (unconnected c g) 0 (literal_at c at g) / 2) 0 ≡ 0 = λ at. ap (λ t. get_or fs (cond t 0 (literal_at c at g) / 2) 0) u ∙ own_constant g in
-      own_gate g (gates c) (omega (arith, H.headed.outputs-to)) ∙ ap₂ max (none (lefts_at c)) (none (rights_at c))
+      own_gate g (gates c) (omega (arith, H.headed.outputs_to)) ∙ ap₂ max (none (lefts_at c)) (none (rights_at c))
 
   spread_shown : (q : ℕ) → q < s.outputs * s.frames → get_or (latest_frames r (gates r)) (output_signal r q) 0 ≡ get_or (own_frames s c (gates c)) (shown_signal s q) 0
   unfolding connects_at
@@ -185,16 +185,16 @@ module _ (c : List ℕ) (s : Source) (P : Spreads c s) (w : s.whole ≡ false) w
       k_is = spread_item c s w P q
 
       shows : item q < all_outputs c → shown_signal s q ≡ 1 + N + gate_of_output c (item q)
-      shows l = sym (shown-item s q (item q) (sym k_is) (omega (arith, H.head_is.total_is))) ∙ omega (arith, H.head_is.base_is, H.head_is.gates_is, H.head_is.total_is)
+      shows l = sym (shown_item s q (item q) (sym k_is) (omega (arith, H.head_is.total_is))) ∙ omega (arith, H.head_is.base_is, H.head_is.gates_is, H.head_is.total_is)
 
       go : (t : Bool) → ltb (item q) (all_outputs c) ≡ t → (u : Bool) → unconnected c (gate_of_output c (item q)) ≡ u → get_or (latest_frames r (gates r)) (output_signal r q) 0 ≡ get_or (own_frames s c (gates c)) (shown_signal s q) 0
-      go true e false f = let l = ltb-true _ _ e in connected-place q h (ap₂ (λ x y. x && not y) e f) l ∙ ap (λ i. get_or (own_frames s c (gates c)) i 0) (sym (shows l))
+      go true e false f = let l = ltb-true _ _ e in connected_place q h (ap₂ (λ x y. x && not y) e f) l ∙ ap (λ i. get_or (own_frames s c (gates c)) i 0) (sym (shows l))
       go true e true f = let l = ltb-true _ _ e in blank_place q h (ap₂ (λ x y. x && not y) e f) ∙ sym (blank_item (item q) l f) ∙ ap (λ i. get_or (own_frames s c (gates c)) i 0) (sym (shows l))
       go false e u f =
           let l : all_outputs c ≤ item q = ltb-false _ _ e in
           blank_place q h (ap (λ x. x && not (unconnected c (gate_of_output c (item q)))) e)
           ∙ sym (own_constant (gates c))
-          ∙ ap (λ i. get_or (own_frames s c (gates c)) i 0) (shown-none s q (item q) (sym k_is) (omega (arith, H.head_is.total_is)))
+          ∙ ap (λ i. get_or (own_frames s c (gates c)) i 0) (shown_none s q (item q) (sym k_is) (omega (arith, H.head_is.total_is)))
 
 -- ---- a circuit as it stands
 
@@ -209,7 +209,7 @@ module _ (c : List ℕ) (s : Source) (O : WholeOf c s) (W : WellFormed c s.own) 
   unfolding output_signal gate_signal
   whole_shown q h =
       let t : s.own.total ≡ s.total = ap (λ (h : Head). h.total) O.own_is in
-      sym (shown-item s q q (item_whole s q O.whole_is) (omega arith)) ∙ omega (arith, W.head_is.base_is, W.head_is.gates_is, W.head_is.total_is)
+      sym (shown_item s q q (item_whole s q O.whole_is) (omega arith)) ∙ omega (arith, W.head_is.base_is, W.head_is.gates_is, W.head_is.total_is)
 
 -- ---- so a place has the latest frame of what it shows
 
@@ -226,8 +226,8 @@ module _ (c : List ℕ) (s : Source) where
       let W = own_well c s S in
       let k : ℕ = item_in s q in
       ⊎_elim
-      (λ (l : k < s.own.total). omega (arith, shown-item s q k refl l, W))
-      (λ (l : s.own.total ≤ k). omega (arith, shown-none s q k refl l))
+      (λ (l : k < s.own.total). omega (arith, shown_item s q k refl l, W))
+      (λ (l : s.own.total ≤ k). omega (arith, shown_none s q k refl l))
       (below_or k s.own.total)
 
   -- output q's frame f against its latest frame, which v holds at `at`

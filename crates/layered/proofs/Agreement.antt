@@ -44,20 +44,20 @@ agree_renumberings M N P A =
     ((λ R. renumbered_trans N M P (agree_renumbered N M (agree_sym M N A)) R), (λ R. renumbered_trans M N P (agree_renumbered M N A) R))
 
 module _ {K m T : ℕ} (M N : Machine) (L : Legal K m T M) (A : Agree K T M N) where
-  agree-feed : {r : ℕ} {c : List ℕ} (t s : ℕ) → r ≡ T - t → s < M.states t → Words K r c → feed N t s c ≡ feed M t s c
+  agree_feed : {r : ℕ} {c : List ℕ} (t s : ℕ) → r ≡ T - t → s < M.states t → Words K r c → feed N t s c ≡ feed M t s c
   unfolding agree_renumbered
-  agree-feed t s e l W = renumbered_feed M N L (agree_renumbered M N A) t s e l W
+  agree_feed t s e l W = renumbered_feed M N L (agree_renumbered M N A) t s e l W
 
-  pub agree-reached : {r : ℕ} {c : List ℕ} (t s : ℕ) → t + r ≤ T → s < M.states t → Words K r c → reached N t s c ≡ reached M t s c
+  pub agree_reached : {r : ℕ} {c : List ℕ} (t s : ℕ) → t + r ≤ T → s < M.states t → Words K r c → reached N t s c ≡ reached M t s c
   unfolding reached
-  agree-reached t s e l none = refl
-  agree-reached t s e l (more {w = w} {c = c} k W) =
+  agree_reached t s e l none = refl
+  agree_reached t s e l (more {w = w} {c = c} k W) =
       let b : t < T = omega arith in
-      ap (λ q. reached N (suc t) q c) (sym (A.nexts_are t s w b l k)) ∙ agree-reached (suc t) _ (omega arith) (L.next_is t s w b l k) W
+      ap (λ q. reached N (suc t) q c) (sym (A.nexts_are t s w b l k)) ∙ agree_reached (suc t) _ (omega arith) (L.next_is t s w b l k) W
 
   pub agree_gives : (given : List ℕ → List ℕ) → Gives K T M given → Gives K T N given
   unfolding Gives
-  agree_gives given G c W = ap (λ s. feed N 0 s c) (sym A.start_is) ∙ agree-feed 0 _ (omega arith) L.start_is W ∙ G c W
+  agree_gives given G c W = ap (λ s. feed N 0 s c) (sym A.start_is) ∙ agree_feed 0 _ (omega arith) L.start_is W ∙ G c W
 
   pub agree_legal : Legal K m T N
   agree_legal = record {

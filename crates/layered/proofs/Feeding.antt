@@ -10,15 +10,15 @@ use Rattle.layered.specs.Machines.{Machine, Legal, feed, reached, masked}
 
 -- ---- words
 
-pub words-length : {K k : ℕ} {c : List ℕ} → Words K k c → length c ≡ k
-words-length none = refl
-words-length (more l W) = ap suc (words-length W)
+pub words_length : {K k : ℕ} {c : List ℕ} → Words K k c → length c ≡ k
+words_length none = refl
+words_length (more l W) = ap suc (words_length W)
 
 -- each is below K
-pub words-at : {K k : ℕ} {c : List ℕ} → Words K k c → (t : ℕ) → t < k → get_or c t 0 < K
-words-at none t h = absurd (omega arith)
-words-at (more l W) zero h = l
-words-at (more l W) (suc t) h = words-at W t (omega arith)
+pub words_at : {K k : ℕ} {c : List ℕ} → Words K k c → (t : ℕ) → t < k → get_or c t 0 < K
+words_at none t h = absurd (omega arith)
+words_at (more l W) zero h = l
+words_at (more l W) (suc t) h = words_at W t (omega arith)
 
 pub words_append : {K j k : ℕ} {c d : List ℕ} → Words K j c → Words K k d → Words K (j + k) (c ++ d)
 words_append {K} {k = k} {d = d} none U = subst (λ r. Words K r d) (omega arith) U
@@ -39,30 +39,30 @@ sequence K (suc k) (w ∷ c) l f = more (f 0 (omega arith)) (sequence K k c (ome
 
 module _ (M : Machine) where
   -- each word yields one output
-  pub feed-length : (t s : ℕ) (c : List ℕ) → length (feed M t s c) ≡ length c
+  pub feed_length : (t s : ℕ) (c : List ℕ) → length (feed M t s c) ≡ length c
   unfolding feed
-  feed-length t s [] = refl
-  feed-length t s (w ∷ c) = ap suc (feed-length (suc t) (M.next t s w) c)
+  feed_length t s [] = refl
+  feed_length t s (w ∷ c) = ap suc (feed_length (suc t) (M.next t s w) c)
 
-  pub reached-append : (t s : ℕ) (c e : List ℕ) → reached M t s (c ++ e) ≡ reached M (t + length c) (reached M t s c) e
+  pub reached_append : (t s : ℕ) (c e : List ℕ) → reached M t s (c ++ e) ≡ reached M (t + length c) (reached M t s c) e
   unfolding reached
-  reached-append t s [] e = ap (λ k. reached M k s e) (omega arith)
-  reached-append t s (w ∷ c) e =
+  reached_append t s [] e = ap (λ k. reached M k s e) (omega arith)
+  reached_append t s (w ∷ c) e =
       let p : suc t + length c ≡ t + suc (length c) = omega arith in
-      reached-append (suc t) (M.next t s w) c e ∙ ap (λ k. reached M k (reached M (suc t) (M.next t s w) c) e) p
+      reached_append (suc t) (M.next t s w) c e ∙ ap (λ k. reached M k (reached M (suc t) (M.next t s w) c) e) p
 
-  feed-after : (t s : ℕ) (c e : List ℕ) → drop (length c) (feed M t s (c ++ e)) ≡ feed M (t + length c) (reached M t s c) e
+  feed_after : (t s : ℕ) (c e : List ℕ) → drop (length c) (feed M t s (c ++ e)) ≡ feed M (t + length c) (reached M t s c) e
   unfolding reached feed
-  feed-after t s [] e = ap (λ k. feed M k s e) (omega arith)
-  feed-after t s (w ∷ c) e =
+  feed_after t s [] e = ap (λ k. feed M k s e) (omega arith)
+  feed_after t s (w ∷ c) e =
       let p : suc t + length c ≡ t + suc (length c) = omega arith in
-      feed-after (suc t) (M.next t s w) c e ∙ ap (λ k. feed M k (reached M (suc t) (M.next t s w) c) e) p
+      feed_after (suc t) (M.next t s w) c e ∙ ap (λ k. feed M k (reached M (suc t) (M.next t s w) c) e) p
 
   -- after a whole history of k words
-  pub feed-then : {K k : ℕ} {c : List ℕ} (s : ℕ) (e : List ℕ) → Words K k c → drop k (feed M 0 s (c ++ e)) ≡ feed M k (reached M 0 s c) e
-  feed-then {k = k} {c = c} s e W =
-      let p : 0 + length c ≡ k = omega (arith, words-length W) in
-      ap (λ i. drop i (feed M 0 s (c ++ e))) (sym (words-length W)) ∙ feed-after 0 s c e ∙ ap (λ i. feed M i (reached M 0 s c) e) p
+  pub feed_then : {K k : ℕ} {c : List ℕ} (s : ℕ) (e : List ℕ) → Words K k c → drop k (feed M 0 s (c ++ e)) ≡ feed M k (reached M 0 s c) e
+  feed_then {k = k} {c = c} s e W =
+      let p : 0 + length c ≡ k = omega (arith, words_length W) in
+      ap (λ i. drop i (feed M 0 s (c ++ e))) (sym (words_length W)) ∙ feed_after 0 s c e ∙ ap (λ i. feed M i (reached M 0 s c) e) p
 
   -- within the layer
   pub reached_below : {K m T r : ℕ} {c : List ℕ} → Legal K m T M → (t s : ℕ) → t + r ≤ T → s < M.states t → Words K r c → reached M t s c < M.states (t + r)

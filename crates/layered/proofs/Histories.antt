@@ -11,14 +11,14 @@ use lib.Seq.{get_or_at, take_at}
 use Rattle.layered.specs.States.{Words, none, more, outputs}
 use Rattle.layered.specs.Histories.{history_words, history_number}
 use Rattle.layered.proofs.States.{by_words, digit_below, empty_below}
-use Rattle.layered.proofs.Feeding.{words-length, words_append}
+use Rattle.layered.proofs.Feeding.{words_length, words_append}
 
 -- ---- numbers
 
-pub numbered-append : (K h : ℕ) (c d : List ℕ) → history_number K h (c ++ d) ≡ history_number K (history_number K h c) d
+pub numbered_append : (K h : ℕ) (c d : List ℕ) → history_number K h (c ++ d) ≡ history_number K (history_number K h c) d
 unfolding history_number
-numbered-append K h [] d = refl
-numbered-append K h (w ∷ c) d = numbered-append K (h * K + w) c d
+numbered_append K h [] d = refl
+numbered_append K h (w ∷ c) d = numbered_append K (h * K + w) c d
 
 numbered_below : {K k : ℕ} {c : List ℕ} (t h : ℕ) → h < K ^ t → Words K k c → history_number K h c < K ^ (t + k)
 unfolding history_number
@@ -34,14 +34,14 @@ history_below {K} {k} {c} W = subst (λ r. history_number K 0 c < K ^ r) (omega 
 -- ---- words
 
 -- the words of a history with one word more
-pub history-more : (K t h w : ℕ) → w < K → history_words K (suc t) (h * K + w) ≡ history_words K t h ++ (w ∷ [])
+pub history_more : (K t h w : ℕ) → w < K → history_words K (suc t) (h * K + w) ≡ history_words K t h ++ (w ∷ [])
 unfolding history_words
-history-more K t h w l = ap₂ (λ q r. history_words K t q ++ (r ∷ [])) (digits_div h l) (digits_mod h l)
+history_more K t h w l = ap₂ (λ q r. history_words K t q ++ (r ∷ [])) (digits_div h l) (digits_mod h l)
 
 -- each number below K ^ t is the number of its words
-pub number-words : (K t h : ℕ) → h < K ^ t → Words K t (history_words K t h) × (history_number K 0 (history_words K t h) ≡ h)
+pub number_words : (K t h : ℕ) → h < K ^ t → Words K t (history_words K t h) × (history_number K 0 (history_words K t h) ≡ h)
 unfolding history_number history_words
-number-words K t h l = by_words (λ k g. Words K k (history_words K k g) × (history_number K 0 (history_words K k g) ≡ g)) (none, refl) one t h (le_refl t) l
+number_words K t h l = by_words (λ k g. Words K k (history_words K k g) × (history_number K 0 (history_words K k g) ≡ g)) (none, refl) one t h (le_refl t) l
   where
     one : (k g w : ℕ) → k < t → g < K ^ k → w < K → Words K k (history_words K k g) × (history_number K 0 (history_words K k g) ≡ g)
         → Words K (suc k) (history_words K (suc k) (g * K + w)) × (history_number K 0 (history_words K (suc k) (g * K + w)) ≡ g * K + w)
@@ -49,7 +49,7 @@ number-words K t h l = by_words (λ k g. Words K k (history_words K k g) × (his
         let c : List ℕ = history_words K k g in
         rw (digits_div g m, digits_mod g m) (
           subst (λ r. Words K r (c ++ (w ∷ []))) (omega arith) (words_append W (more m none)),
-          numbered-append K 0 c (w ∷ []) ∙ ap (λ i. i * K + w) e,
+          numbered_append K 0 c (w ∷ []) ∙ ap (λ i. i * K + w) e,
         )
 
 -- the words of any number are words, also of one that is no history's
@@ -59,44 +59,44 @@ history-words p zero h = none
 history-words {K} p (suc t) h = subst (λ r. Words K r (history_words K t (h / K) ++ (h % K ∷ []))) (omega arith) (words_append (history-words p t (h / K)) (more (mod-lt h p) none))
 
 -- the history h of t words, and then k words more
-words-follow : {K k : ℕ} {c : List ℕ} (t h : ℕ) → Words K k c → history_words K (t + k) (history_number K h c) ≡ history_words K t h ++ c
+words_follow : {K k : ℕ} {c : List ℕ} (t h : ℕ) → Words K k c → history_words K (t + k) (history_number K h c) ≡ history_words K t h ++ c
 unfolding history_number
-words-follow {K} t h none = ap (λ r. history_words K r h) (add-zero t) ∙ sym (append-nil (history_words K t h))
-words-follow {K} t h (more {k = k} {w = w} {c = c} l W) =
+words_follow {K} t h none = ap (λ r. history_words K r h) (add-zero t) ∙ sym (append-nil (history_words K t h))
+words_follow {K} t h (more {k = k} {w = w} {c = c} l W) =
     let p : t + suc k ≡ suc t + k = omega arith in
     ap (λ r. history_words K r (history_number K (h * K + w) c)) p
-    ∙ words-follow (suc t) (h * K + w) W
-    ∙ ap (λ s. s ++ c) (history-more K t h w l)
+    ∙ words_follow (suc t) (h * K + w) W
+    ∙ ap (λ s. s ++ c) (history_more K t h w l)
     ∙ append_assoc (history_words K t h) (w ∷ []) c
 
 -- words are those of their number
-pub words-number : {K k : ℕ} {c : List ℕ} → Words K k c → history_words K k (history_number K 0 c) ≡ c
+pub words_number : {K k : ℕ} {c : List ℕ} → Words K k c → history_words K k (history_number K 0 c) ≡ c
 unfolding history_words
-words-number {K} {k} {c} W = let p : k ≡ 0 + k = omega arith in ap (λ r. history_words K r (history_number K 0 c)) p ∙ words-follow 0 0 W
+words_number {K} {k} {c} W = let p : k ≡ 0 + k = omega arith in ap (λ r. history_words K r (history_number K 0 c)) p ∙ words_follow 0 0 W
 
 -- a number goes on from what stands before it
-number-after : {K k : ℕ} {c : List ℕ} (h : ℕ) → Words K k c → history_number K h c ≡ h * K ^ k + history_number K 0 c
+number_after : {K k : ℕ} {c : List ℕ} (h : ℕ) → Words K k c → history_number K h c ≡ h * K ^ k + history_number K 0 c
 unfolding history_number
-number-after {K} h none = omega (arith, mul-one h, ap (λ x. h * x) (pow-zero K))
-number-after {K} h (more {k = k} {w = w} {c = c} l W) =
+number_after {K} h none = omega (arith, mul-one h, ap (λ x. h * x) (pow-zero K))
+number_after {K} h (more {k = k} {w = w} {c = c} l W) =
     let more : h * K * K ^ k ≡ h * K ^ suc k = mul_assoc h K (K ^ k) ∙ ap (λ x. h * x) (mul_comm K (K ^ k) ∙ sym (pow-suc K k)) in
     let first : 0 * K + w ≡ w = omega (arith, zero-mul K) in
-    omega (arith, number-after (h * K + w) W, add-mul (h * K) w (K ^ k), more, number-after (0 * K + w) W, ap (λ x. x * K ^ k) first)
+    omega (arith, number_after (h * K + w) W, add-mul (h * K) w (K ^ k), more, number_after (0 * K + w) W, ap (λ x. x * K ^ k) first)
 
 -- the words of a history, by its first word
-pub history-first : (K k w i : ℕ) → w < K → i < K ^ k → history_words K (suc k) (w * K ^ k + i) ≡ w ∷ history_words K k i
+pub history_first : (K k w i : ℕ) → w < K → i < K ^ k → history_words K (suc k) (w * K ^ k + i) ≡ w ∷ history_words K k i
 unfolding history_number
-history-first K k w i l h =
-    let (W, e) = number-words K k i h in
+history_first K k w i l h =
+    let (W, e) = number_words K k i h in
     let first : 0 * K + w ≡ w = omega (arith, zero-mul K) in
-    let number : history_number K (0 * K + w) (history_words K k i) ≡ w * K ^ k + i = omega (arith, number-after (0 * K + w) W, ap (λ x. x * K ^ k) first, e) in
-    ap (history_words K (suc k)) (sym number) ∙ words-number (more l W)
+    let number : history_number K (0 * K + w) (history_words K k i) ≡ w * K ^ k + i = omega (arith, number_after (0 * K + w) W, ap (λ x. x * K ^ k) first, e) in
+    ap (history_words K (suc k)) (sym number) ∙ words_number (more l W)
 
 module _ (K : ℕ) where
-  pub history-length : (t h : ℕ) → length (history_words K t h) ≡ t
+  pub history_length : (t h : ℕ) → length (history_words K t h) ≡ t
   unfolding history_words
-  history-length zero h = refl
-  history-length (suc t) h = length-append (history_words K t (h / K)) _ ∙ add-one _ ∙ ap suc (history-length t (h / K))
+  history_length zero h = refl
+  history_length (suc t) h = length-append (history_words K t (h / K)) _ ∙ add-one _ ∙ ap suc (history_length t (h / K))
 
   -- a history without its last word, and then without d more
   shorter : (h d : ℕ) → h / K / K ^ d ≡ h / K ^ suc d
@@ -107,23 +107,23 @@ module _ (K : ℕ) where
   unfolding history_words
   history_word zero t h f e =
       let e' : t ≡ suc f = omega arith in
-      rw (e', pow-zero K, div-one h) (get_or_at (history_words K f (h / K)) (h % K) [] 0 f (history-length f (h / K)))
+      rw (e', pow-zero K, div-one h) (get_or_at (history_words K f (h / K)) (h % K) [] 0 f (history_length f (h / K)))
   history_word (suc d) t h f e =
       let e' : t ≡ suc (suc (f + d)) = omega arith in
       rw e'
-      (get_or-append (history_words K (suc (f + d)) (h / K)) _ 0 f (omega (arith, history-length (suc (f + d)) (h / K)))
+      (get_or-append (history_words K (suc (f + d)) (h / K)) _ 0 f (omega (arith, history_length (suc (f + d)) (h / K)))
       ∙ history_word d (suc (f + d)) (h / K) f refl
       ∙ ap (λ x. x % K) (shorter h d))
 
   -- d zero words more
-  pub history-zeros : 0 < K → (t h d : ℕ) → history_words K (t + d) (h * K ^ d) ≡ history_words K t h ++ replicate d 0
-  history-zeros p t h zero = rw (add-zero t, pow-zero K, mul-one h) (sym (append-nil (history_words K t h)))
-  history-zeros p t h (suc d) =
+  pub history_zeros : 0 < K → (t h d : ℕ) → history_words K (t + d) (h * K ^ d) ≡ history_words K t h ++ replicate d 0
+  history_zeros p t h zero = rw (add-zero t, pow-zero K, mul-one h) (sym (append-nil (history_words K t h)))
+  history_zeros p t h (suc d) =
       let more : h * K ^ suc d ≡ h * K ^ d * K + 0 = ap (λ k. h * k) (pow-suc K d) ∙ sym (mul_assoc h (K ^ d) K) ∙ sym (add-zero (h * K ^ d * K)) in
       let zeros : ◌≡◌ {A = List ℕ} (replicate d 0 ++ (0 ∷ [])) (replicate (suc d) 0) = replicate-append-replicate d 1 0 ∙ ap (λ k. replicate k 0) (add-one d) in
       ap₂ (history_words K) (omega arith) more
-      ∙ history-more K (t + d) (h * K ^ d) 0 p
-      ∙ ap (λ s. s ++ (0 ∷ [])) (history-zeros p t h d)
+      ∙ history_more K (t + d) (h * K ^ d) 0 p
+      ∙ ap (λ s. s ++ (0 ∷ [])) (history_zeros p t h d)
       ∙ append_assoc (history_words K t h) (replicate d 0) (0 ∷ [])
       ∙ ap (λ s. history_words K t h ++ s) zeros
 
@@ -141,20 +141,20 @@ module _ (K : ℕ) where
   -- its first t words
   pub history_front : (t d x : ℕ) → take t (history_words K (t + d) x) ≡ history_words K t (x / K ^ d)
   history_front t d x =
-      ap (take t) (history_split t d x) ∙ take_at (history_words K t (x / K ^ d)) (history_words K d x) t (history-length t (x / K ^ d))
+      ap (take t) (history_split t d x) ∙ take_at (history_words K t (x / K ^ d)) (history_words K d x) t (history_length t (x / K ^ d))
 
 -- ---- outputs
 
 -- what follows a history's outputs
-outputs-after : (K : ℕ) (y : ℕ → ℕ → ℕ) (t h : ℕ) (c e : List ℕ) → drop (length c) (outputs K y t h (c ++ e)) ≡ outputs K y (t + length c) (history_number K h c) e
+outputs_after : (K : ℕ) (y : ℕ → ℕ → ℕ) (t h : ℕ) (c e : List ℕ) → drop (length c) (outputs K y t h (c ++ e)) ≡ outputs K y (t + length c) (history_number K h c) e
 unfolding outputs history_number
-outputs-after K y t h [] e = ap (λ k. outputs K y k h e) (omega arith)
-outputs-after K y t h (w ∷ c) e =
+outputs_after K y t h [] e = ap (λ k. outputs K y k h e) (omega arith)
+outputs_after K y t h (w ∷ c) e =
     let p : suc t + length c ≡ t + suc (length c) = omega arith in
-    outputs-after K y (suc t) (h * K + w) c e ∙ ap (λ k. outputs K y k (history_number K (h * K + w) c) e) p
+    outputs_after K y (suc t) (h * K + w) c e ∙ ap (λ k. outputs K y k (history_number K (h * K + w) c) e) p
 
 -- after a whole history of k words
-pub outputs-then : (K : ℕ) (y : ℕ → ℕ → ℕ) {k : ℕ} {c : List ℕ} (e : List ℕ) → Words K k c → drop k (outputs K y 0 0 (c ++ e)) ≡ outputs K y k (history_number K 0 c) e
-outputs-then K y {k} {c} e W =
-    let p : 0 + length c ≡ k = omega (arith, words-length W) in
-    ap (λ i. drop i (outputs K y 0 0 (c ++ e))) (sym (words-length W)) ∙ outputs-after K y 0 0 c e ∙ ap (λ i. outputs K y i (history_number K 0 c) e) p
+pub outputs_then : (K : ℕ) (y : ℕ → ℕ → ℕ) {k : ℕ} {c : List ℕ} (e : List ℕ) → Words K k c → drop k (outputs K y 0 0 (c ++ e)) ≡ outputs K y k (history_number K 0 c) e
+outputs_then K y {k} {c} e W =
+    let p : 0 + length c ≡ k = omega (arith, words_length W) in
+    ap (λ i. drop i (outputs K y 0 0 (c ++ e))) (sym (words_length W)) ∙ outputs_after K y 0 0 c e ∙ ap (λ i. outputs K y i (history_number K 0 c) e) p

@@ -28,7 +28,7 @@ unfolding scratch_needed all_inputs
 needed_is b s O = ap₂ (λ (n T : ℕ). 2 * 2 ^ (n * T)) O.inputs_is O.frames_is
 
 pub bits_fit : (b : List ℕ) (s : Source) → CircuitHeaded b → HeadOf b (head_of s) → s.inputs * s.frames ≤ 16
-bits_fit b s H O = rw (O.inputs_is, O.frames_is) H.sizes.bits-to
+bits_fit b s H O = rw (O.inputs_is, O.frames_is) H.sizes.bits_to
 
 -- where the scratch is too short, and where it is enough
 pub takes_none : (needed k : ℕ) (s : List ℕ) (v : Verdict) → k ≡ needed → length s < k → figures v ≡ answer 6 k → Takes needed s s v

@@ -8,12 +8,12 @@ use lib.ListN.{length, get_or, take, drop, length-append, get_or-append}
 use lib.Pow.{pow_mono}
 use lib.Seq.{get_or-append-add, get_or-take, length-take-le}
 use Rattle.words.specs.Words.{all_bytes, word_at, word_bytes, Fit, more, stored}
-use Rattle.words.proofs.Laws.{all_bytes-length, stored_front, word_back, fit_append, fit_at}
+use Rattle.words.proofs.Laws.{all_bytes_length, stored_front, word_back, fit_append, fit_at}
 use Rattle.sizes.specs.Sizes.{inputs, outputs}
 use Rattle.sizes.specs.Sized.{sizes_of}
 use Rattle.sizes.specs.declared.Sizes.{Sizes}
 use Rattle.layered.specs.Search.{tabulate}
-use Rattle.layered.proofs.Lists.{tabulate-length, tabulate-at, tabulated, below_tabulate}
+use Rattle.layered.proofs.Lists.{tabulate_length, tabulate_at, tabulated, below_tabulate}
 use Rattle.table.specs.Sound.{Sound}
 use Rattle.merged.specs.Merged.{Merged, Proper, Same, entries_of, most_merged, first_machine}
 use Rattle.merge.specs.Merge.{target, machine_words, merge_bytes}
@@ -24,15 +24,15 @@ module _ (b : List ℕ) (G : Merged) where
   abbrev L : ℕ
   L = entries_of (target b) G.states
 
-  words-length : length (machine_words b G) ≡ 3 + 2 * L
+  words_length : length (machine_words b G) ≡ 3 + 2 * L
   unfolding machine_words
-  words-length =
+  words_length =
       let t = length-append (tabulate L G.out) (tabulate L G.next) in
-      omega (arith, t, tabulate-length L G.out, tabulate-length L G.next)
+      omega (arith, t, tabulate_length L G.out, tabulate_length L G.next)
 
-  pub bytes-length : length (word_bytes (machine_words b G)) ≡ 6 + 4 * L
+  pub bytes_length : length (word_bytes (machine_words b G)) ≡ 6 + 4 * L
   unfolding word_bytes
-  bytes-length = omega (arith, all_bytes-length 2 (machine_words b G), words-length)
+  bytes_length = omega (arith, all_bytes_length 2 (machine_words b G), words_length)
 
   -- where its words stand
   abbrev bytes : List ℕ
@@ -45,37 +45,37 @@ module _ (b : List ℕ) (G : Merged) where
     fits : Fit 2 (machine_words b G)
     unfolding machine_words
     fits =
-        more {x = inputs b} (omega (arith, Z.headed.sized.inputs-to)) (more {x = outputs b} (omega (arith, Z.headed.sized.outputs-to)) (more {x = G.states} (omega (arith, few))
+        more {x = inputs b} (omega (arith, Z.headed.sized.inputs_to)) (more {x = outputs b} (omega (arith, Z.headed.sized.outputs_to)) (more {x = G.states} (omega (arith, few))
         (fit_append {xs = tabulate L G.out} {ys = tabulate L G.next}
-        (fit_at _ (below_tabulate L G.out (λ e l. lt_of_lt_of_le (P.out_is e l) (pow_mono Z.headed.sized.outputs-to))))
+        (fit_at _ (below_tabulate L G.out (λ e l. lt_of_lt_of_le (P.out_is e l) (pow_mono Z.headed.sized.outputs_to))))
         (fit_at _ (below_tabulate L G.next (λ e l. omega (arith, P.next_is e l, few)))))))
 
     pub inputs_in : word_at bytes 0 ≡ inputs b
     unfolding machine_words
-    inputs_in = word_back (machine_words b G) 0 fits (omega (arith, words-length))
+    inputs_in = word_back (machine_words b G) 0 fits (omega (arith, words_length))
 
     pub outputs_in : word_at bytes 2 ≡ outputs b
     unfolding machine_words
-    outputs_in = word_back (machine_words b G) 1 fits (omega (arith, words-length))
+    outputs_in = word_back (machine_words b G) 1 fits (omega (arith, words_length))
 
     pub states_in : word_at bytes 4 ≡ G.states
     unfolding machine_words
-    states_in = word_back (machine_words b G) 2 fits (omega (arith, words-length))
+    states_in = word_back (machine_words b G) 2 fits (omega (arith, words_length))
 
     array_in : (i : ℕ) → i < 2 * L → word_at bytes (6 + 2 * i) ≡ get_or arrays i 0
     unfolding machine_words
     array_in i l =
         let e : 6 + 2 * i ≡ 2 * suc (suc (suc i)) = omega arith in
-        ap (word_at bytes) e ∙ word_back (machine_words b G) (suc (suc (suc i))) fits (omega (arith, words-length))
+        ap (word_at bytes) e ∙ word_back (machine_words b G) (suc (suc (suc i))) fits (omega (arith, words_length))
 
     pub outs_in : (e : ℕ) → e < L → word_at bytes (6 + 2 * e) ≡ G.out e
     outs_in e l =
-        array_in e (omega arith) ∙ get_or-append (tabulate L G.out) (tabulate L G.next) 0 e (omega (arith, tabulate-length L G.out)) ∙ tabulate-at L e G.out l
+        array_in e (omega arith) ∙ get_or-append (tabulate L G.out) (tabulate L G.next) 0 e (omega (arith, tabulate_length L G.out)) ∙ tabulate_at L e G.out l
 
     pub nexts_in_lem : (e : ℕ) → e < L → word_at bytes (6 + 2 * (L + e)) ≡ G.next e
     nexts_in_lem e l =
-        array_in (L + e) (omega arith) ∙ ap (λ n. get_or arrays (n + e) 0) (sym (tabulate-length L G.out)) ∙ get_or-append-add (tabulate L G.out) (tabulate L G.next) e 0
-        ∙ tabulate-at L e G.next l
+        array_in (L + e) (omega arith) ∙ ap (λ n. get_or arrays (n + e) 0) (sym (tabulate_length L G.out)) ∙ get_or-append-add (tabulate L G.out) (tabulate L G.next) e 0
+        ∙ tabulate_at L e G.next l
 
 -- what the code holds are these words
 module _ (b : List ℕ) (r : Fewest) (F : FewestOf b r) (few : r.states ≤ most_merged) where
@@ -86,9 +86,9 @@ module _ (b : List ℕ) (r : Fewest) (F : FewestOf b r) (few : r.states ≤ most
   unfolding Same
   taken l f h S = tabulated E f (take E l) (length-take-le E l h) (λ i k. get_or-take E l i 0 k ∙ S i k)
 
-  pub words-found : (s : Sizes) (entries : ℕ) → s ≡ sizes_of b → entries ≡ E → entries ≤ 12 → found_words s r entries ≡ machine_words b (first_machine (target b))
+  pub words_found : (s : Sizes) (entries : ℕ) → s ≡ sizes_of b → entries ≡ E → entries ≤ 12 → found_words s r entries ≡ machine_words b (first_machine (target b))
   unfolding machine_words
-  words-found s entries es ee small =
+  words_found s entries es ee small =
       let G = first_machine (target b) in
       ap₂ (λ (s : Sizes) (n : ℕ). s.inputs ∷ s.outputs ∷ r.states ∷ take n r.outs ++ take n r.nexts) es ee
       ∙ ap₂ (λ x y. inputs b ∷ outputs b ∷ r.states ∷ x ++ y)
@@ -101,4 +101,4 @@ pub words_left : (b before after ws : List ℕ) (bytes : ℕ) → after ≡ stor
 unfolding merge_bytes word_bytes
 words_left b before after ws _ e w n =
     let m = machine_words b (first_machine (target b)) in
-    e ∙ ap (stored 2 before 0) w ∙ stored_front 2 before m ∙ ap (λ k. all_bytes 2 m ++ drop k before) (sym (all_bytes-length 2 m) ∙ sym n)
+    e ∙ ap (stored 2 before 0) w ∙ stored_front 2 before m ∙ ap (λ k. all_bytes 2 m ++ drop k before) (sym (all_bytes_length 2 m) ∙ sym n)

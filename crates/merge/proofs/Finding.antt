@@ -57,7 +57,7 @@ module _ (b : List ℕ) (Z : Sound b) (layout : Layout) (el : layout ≡ layout_
   entries_are k = ap (λ w. k * w) stands.words_is
 
   masks : (t : ℕ) → t < frames b → connected b t < 2 ^ outputs b
-  masks = Z.headed.connected-to
+  masks = Z.headed.connected_to
 
   pub held : (starts : List ℕ) (n k : ℕ) → n ≡ inputs b → n ≤ 2 → StartsOf b starts → 1 ≤ k → k ≤ 3 → Held b starts (sought_of layout n k)
   held starts n k en few S some most = record {
@@ -101,11 +101,11 @@ module _ (b : List ℕ) (Z : Sound b) (layout : Layout) (el : layout ≡ layout_
       outs_found e h =
           sym (ap (λ x. digit_of (2 ^ outputs b) (entries_of B k) (x % output_choices B k) e) first_is
           ∙ ap (λ x. digit_of (2 ^ outputs b) (entries_of B k) x e) (digits_mod number packed)
-          ∙ (in_order_all (2 ^ outputs b) (entries_of B k) (pow_pos (outputs b))).digits-packed (λ e. get_or ones e 0) O.small e h)
+          ∙ (in_order_all (2 ^ outputs b) (entries_of B k) (pow_pos (outputs b))).digits_packed (λ e. get_or ones e 0) O.small e h)
 
-      pub nexts-found : Same (entries_of B k) (λ e. get_or nexts e 0) (numbered B k (first_match B k)).next
+      pub nexts_found : Same (entries_of B k) (λ e. get_or nexts e 0) (numbered B k (first_match B k)).next
       unfolding Same
-      nexts-found e h = D e h ∙ sym (ap (λ x. digit_of k (entries_of B k) (x / output_choices B k) e) first_is ∙ ap (λ x. digit_of k (entries_of B k) x e) (digits_div number packed))
+      nexts_found e h = D e h ∙ sym (ap (λ x. digit_of k (entries_of B k) (x / output_choices B k) e) first_is ∙ ap (λ x. digit_of k (entries_of B k) x e) (digits_div number packed))
 
   -- ---- the fewest
 
@@ -143,9 +143,9 @@ module _ (b : List ℕ) (Z : Sound b) (layout : Layout) (el : layout ≡ layout_
     unfolding Fewer
     fewer_more m j l = ⊎_elim (λ e. ap (λ j. first_match B (suc j)) e ∙ unmatched (suc k) (omega arith) number ones searched (omega (arith, count_next)) ∙ ap (λ j. machine_count B (suc j)) (sym e)) (F j) (eq-or-lt_of_le {n = j} {m = k} (omega arith))
 
-    pub found-fewest : (r : Fewest) → k < most_merged → number < (k + 1) ^ ((k + 1) * layout.words) → r.states ≡ k + 1 → r.outs ≡ ones → Digits (k + 1) ((k + 1) * layout.words) number r.nexts
+    pub found_fewest : (r : Fewest) → k < most_merged → number < (k + 1) ^ ((k + 1) * layout.words) → r.states ≡ k + 1 → r.outs ≡ ones → Digits (k + 1) ((k + 1) * layout.words) number r.nexts
         → length r.outs ≡ 12 → length r.nexts ≡ 12 → FewestOf b r
-    found-fewest r few l e eo D lo ln = go searched
+    found_fewest r few l e eo D lo ln = go searched
       where
         is_suc : r.states ≡ suc k
         is_suc = e ∙ add-one k
@@ -164,13 +164,13 @@ module _ (b : List ℕ) (Z : Sound b) (layout : Layout) (el : layout ≡ layout_
                   (subst (λ o. Same (entries_of B (suc k)) (λ e. get_or o e 0) (numbered B (suc k) (first_match B (suc k))).out) (sym eo) (outs_found (suc k) (omega arith) number ones r.nexts h before O free D')));
               nexts_are = λ _. subst (λ j. Same (entries_of B j) (λ e. get_or r.nexts e 0) (first_machine B).next) (sym is_suc)
                   (subst (λ j. Same (entries_of B (suc k)) (λ e. get_or r.nexts e 0) (numbered B j (first_match B j)).next) (sym fewest)
-                  (nexts-found (suc k) (omega arith) number ones r.nexts h before O free D'));
+                  (nexts_found (suc k) (omega arith) number ones r.nexts h before O free D'));
               outs_long = lo;
               nexts_long = ln;
             }
 
-  pub none-fewest : (r : Fewest) → Fewer most_merged → r.states ≡ 4 → length r.outs ≡ 12 → length r.nexts ≡ 12 → FewestOf b r
-  none-fewest r F e lo ln = record {
+  pub none_fewest : (r : Fewest) → Fewer most_merged → r.states ≡ 4 → length r.outs ≡ 12 → length r.nexts ≡ 12 → FewestOf b r
+  none_fewest r F e lo ln = record {
     states_are = e ∙ sym (fewest_is most_merged (le_refl _) F (λ h. absurd (omega arith)));
     outs_are = λ h. absurd (omega arith);
     nexts_are = λ h. absurd (omega arith);

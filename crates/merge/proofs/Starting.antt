@@ -41,7 +41,7 @@ module _ (b : List ℕ) (layout : Layout) (Z : TableHeaded b) (el : layout ≡ l
       turns = omega arith;
       long = length-set starts t start ∙ S.long;
       are = λ i l. ⊎_elim
-          (λ q. ap (λ i. get_or (set starts t start) i 0) q ∙ get_or-set_same starts t start 0 (omega (arith, S.long, Z.sized.frames-to)) ∙ S.start_is ∙ ap (λ i. outputs_at b + 2 * entries_below b i) (sym q))
+          (λ q. ap (λ i. get_or (set starts t start) i 0) q ∙ get_or-set_same starts t start 0 (omega (arith, S.long, Z.sized.frames_to)) ∙ S.start_is ∙ ap (λ i. outputs_at b + 2 * entries_below b i) (sym q))
           (λ k. get_or-set_other starts t i start 0 (λ z. omega arith) ∙ S.are i k)
           (eq-or-lt_of_le {n = i} {m = t} (omega arith));
       start_is = omega (arith, e, same_entries, S.start_is, below_next b t) ∙ ap (λ t. outputs_at b + 2 * entries_below b t) (sym (add-one t));

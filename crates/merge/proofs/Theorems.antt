@@ -25,10 +25,10 @@ use Rattle.table.proofs.Offsets.{arrays_stand}
 use Rattle.merged.specs.Merged.{Merged, Same, entries_of, seen, most_merged, fewest_states, first_machine}
 use Rattle.merged.specs.Theorems.{Chosen, NoneMatches, NoneExactly, Alike, SameMachine, UndecidedZero}
 use Rattle.merged.proofs.Undecided.{undecided_zero}
-use Rattle.merged.proofs.Chosen.{first-chosen, chosen-same, none_exactly, same-machine}
+use Rattle.merged.proofs.Chosen.{first_chosen, chosen_same, none_exactly, same_machine}
 use Rattle.merge.specs.Merge.{target, machine_words, merge_bytes, narrow_checked, machine_checked, merge_checked, merge_result}
 use Rattle.merge.specs.Theorems.{machine_in, Merging, Merges, MergesAlike}
-use Rattle.merge.proofs.Bytes.{bytes-length, inputs_in, outputs_in, states_in, outs_in, nexts_in_lem}
+use Rattle.merge.proofs.Bytes.{bytes_length, inputs_in, outputs_in, states_in, outs_in, nexts_in_lem}
 
 -- ---- the bytes
 
@@ -37,20 +37,20 @@ module _ (b : List ℕ) (Z : Sound b) (few : fewest_states (target b) ≤ most_m
   G = first_machine (target b)
 
   C : Chosen (target b) G
-  C = first-chosen (target b) few
+  C = first_chosen (target b) few
 
-  entries-same : word_at (merge_bytes b) 4 * 2 ^ inputs b ≡ entries_of (target b) G.states
+  entries_same : word_at (merge_bytes b) 4 * 2 ^ inputs b ≡ entries_of (target b) G.states
   unfolding merge_bytes entries_of
-  entries-same = ap (λ k. k * 2 ^ inputs b) (states_in b G Z C.proper few)
+  entries_same = ap (λ k. k * 2 ^ inputs b) (states_in b G Z C.proper few)
 
   pub merging : Merging b
   unfolding merge_bytes Same UndecidedZero
   merging = record {
-    length_is = omega (arith, bytes-length b G, entries-same);
-    inputs-at = inputs_in b G Z C.proper few;
+    length_is = omega (arith, bytes_length b G, entries_same);
+    inputs_at = inputs_in b G Z C.proper few;
     outputs-at = outputs_in b G Z C.proper few;
     chosen = chosen;
-    undecided = undecided_zero (target b) Z.headed.connected-to (machine_in (2 ^ inputs b) (merge_bytes b)) chosen;
+    undecided = undecided_zero (target b) Z.headed.connected_to (machine_in (2 ^ inputs b) (merge_bytes b)) chosen;
   }
     where
       within : (e : ℕ) → e < entries_of (target b) (word_at (merge_bytes b) 4) → e < entries_of (target b) G.states
@@ -58,8 +58,8 @@ module _ (b : List ℕ) (Z : Sound b) (few : fewest_states (target b) ≤ most_m
 
       chosen : Chosen (target b) (machine_in (2 ^ inputs b) (merge_bytes b))
       chosen =
-          chosen-same (target b) G (machine_in (2 ^ inputs b) (merge_bytes b)) (states_in b G Z C.proper few)
-          (λ e l. ap (λ n. word_at (merge_bytes b) (6 + 2 * (n + e))) entries-same ∙ nexts_in_lem b G Z C.proper few e (within e l))
+          chosen_same (target b) G (machine_in (2 ^ inputs b) (merge_bytes b)) (states_in b G Z C.proper few)
+          (λ e l. ap (λ n. word_at (merge_bytes b) (6 + 2 * (n + e))) entries_same ∙ nexts_in_lem b G Z C.proper few e (within e l))
           (λ e l. outs_in b G Z C.proper few e (within e l))
           C
 
@@ -103,7 +103,7 @@ unstrayed c x e = eqb-true (bit_and x c) x (not-false _ e)
 
 strayless : (b : List ℕ) → Sound b → (t s w : ℕ) → t < frames b → s < (machine b).states t → w < 2 ^ inputs b → strays (connected b t) ((machine b).out t s w) ≡ false
 unfolding bad_output
-strayless b Z = Z.outputs-connected
+strayless b Z = Z.outputs_connected
 
 -- a legal table's outputs have no other bits than those that count
 seen_is : (b : List ℕ) → Sound b → (c : List ℕ) → Words (2 ^ inputs b) (frames b) c → seen (target b) (machine b) c ≡ feed (machine b) 0 0 c
@@ -155,21 +155,21 @@ merges_alike b d p q eb ed en em ef econ eout before = (checks, results)
 
     A : Alike (target b) (target d)
     A = record {
-      same-words = ap (λ n. 2 ^ n) en;
+      same_words = ap (λ n. 2 ^ n) en;
       same_bits = em;
-      same-frames = ef;
+      same_frames = ef;
       same_seen = λ c W. seen_is b Zb c W ∙ eout c W ∙ sym (seen_is d Zd c (subst (λ T. Words (2 ^ inputs d) T c) ef (subst (λ n. Words (2 ^ n) (frames b) c) en W)));
-      same-connected = econ;
+      same_connected = econ;
     }
 
     bytes : merge_bytes b ≡ merge_bytes d
-    bytes = bytes_same b d en em (same-machine (target b) (target d) A).1
+    bytes = bytes_same b d en em (same_machine (target b) (target d) A).1
 
     checks : merge_checked b (length before) ≡ merge_checked d (length before)
     checks =
         checks_same b d (length before)
         (narrow_is b Zb ∙ ap (λ n. refuse (ltb 2 n) 2 0 (answer 0 0)) en ∙ sym (narrow_is d Zd))
-        (accepted_at b p eb ∙ sym (accepted_at d q ed)) (same-machine (target b) (target d) A).0 bytes
+        (accepted_at b p eb ∙ sym (accepted_at d q ed)) (same_machine (target b) (target d) A).0 bytes
 
     results : merge_result b before ≡ merge_result d before
     results = results_same b d before checks bytes

@@ -25,7 +25,7 @@ module _ (b : List ℕ) where
   -- the bytes that are written, as they are read
   pub record Merging : Type 0 where
     pub length_is : length (merge_bytes b) ≡ 6 + 4 * (word_at (merge_bytes b) 4 * K)
-    pub inputs-at : word_at (merge_bytes b) 0 ≡ inputs b
+    pub inputs_at : word_at (merge_bytes b) 0 ≡ inputs b
     pub outputs-at : word_at (merge_bytes b) 2 ≡ outputs b
     -- they are a machine of one to three states that matches b; none of fewer states matches, and none of as many that matches comes before it
     pub chosen : Chosen (target b) (machine_in K (merge_bytes b))

@@ -17,9 +17,9 @@ use Rattle.layered.proofs.Search.{below_or, below_suc, iff_eq, least_finds, leas
 use Rattle.merged.specs.Merged.{Target, Merged, Proper, entries_of, layers_of, seen, Matches, matches, Same, Before, Smaller, digit_of, output_choices, machine_count, numbered, first_match, matched, most_merged, fewest_states, first_machine}
 use Rattle.merged.specs.Demands.{Contradicted, Ones, pack_to}
 use Rattle.merged.specs.Theorems.{Chosen, NoneMatches, Tested, FirstChosen, NoneExactly, Only, Alike, SameMachine, InOrder, FirstFound, NoneFound}
-use Rattle.merged.proofs.Demands.{refutes, ones_match, ones-least}
+use Rattle.merged.proofs.Demands.{refutes, ones_match, ones_least}
 use Rattle.merged.proofs.Numbers.{in_order_all, number_back, pack_same}
-use Rattle.merged.proofs.Matching.{tested, matches-same, proper_same, choices_some, numbered_proper, nexts_back, outs_back, number_of, nexts_below, outs_below, outs_packed, number_in, number-matches}
+use Rattle.merged.proofs.Matching.{tested, matches_same, proper_same, choices_some, numbered_proper, nexts_back, outs_back, number_of, nexts_below, outs_below, outs_packed, number_in, number_matches}
 
 -- ---- the first by number
 
@@ -30,7 +30,7 @@ module _ (B : Target) where
     unfolding first_match
     first_below =
         (least_finds (machine_count B k) (number_of B k pos H P e) (λ x. matches B (numbered B k x))
-        (let l = number_in B k pos H P e in omega arith) (subst Yes (sym (number-matches B k pos H P e M)) tt)).1
+        (let l = number_in B k pos H P e in omega arith) (subst Yes (sym (number_matches B k pos H P e M)) tt)).1
 
     pub is_matched : matched B k ≡ true
     unfolding matched
@@ -49,13 +49,13 @@ module _ (B : Target) where
     unfolding fewest_states
     k_some = omega arith
 
-    found-matched : first_match B (fewest_states B) < machine_count B (fewest_states B)
+    found_matched : first_match B (fewest_states B) < machine_count B (fewest_states B)
     unfolding fewest_states matched
-    found-matched = ltb-true _ _ ((least_tells most_merged (λ i. matched B (suc i))).1 (omega arith))
+    found_matched = ltb-true _ _ ((least_tells most_merged (λ i. matched B (suc i))).1 (omega arith))
 
     first_matches : Matches B (first_machine B)
     unfolding first_match Tested
-    first_matches = (tested B (first_machine B)).0 ((least_tells (machine_count B (fewest_states B)) (λ x. matches B (numbered B (fewest_states B) x))).1 found-matched)
+    first_matches = (tested B (first_machine B)).0 ((least_tells (machine_count B (fewest_states B)) (λ x. matches B (numbered B (fewest_states B) x))).1 found_matched)
 
     -- a machine that comes before it has a smaller number
     module _ (H : Merged) (P : Proper B H) (e : H.states ≡ fewest_states B) where
@@ -73,7 +73,7 @@ module _ (B : Target) where
       sooner b =
           let O = output_choices B k in
           let l = (in_order_all k L k_some).ordered H.next (first_machine B).next (nexts_below B k k_some H P e) (λ i l. (in_order_all k L k_some).digits_below _ i) b in
-          let m : (pack_to k H.next L + 1) * O ≤ x / O * O = mul-le-mul_right O (omega (arith, l, nexts_back B k k_some x found-matched)) in
+          let m : (pack_to k H.next L + 1) * O ≤ x / O * O = mul-le-mul_right O (omega (arith, l, nexts_back B k k_some x found_matched)) in
           let o = outs_packed B k k_some H P e in
           omega (arith, m, o, add-mul (pack_to k H.next L) 1 O, one-mul O, div-add-mod' x O)
 
@@ -82,12 +82,12 @@ module _ (B : Target) where
       lower s b =
           let O = output_choices B k in
           let l = (in_order_all (2 ^ B.m) L (pow_pos B.m)).ordered H.out (first_machine B).out (outs_below B k k_some H P e) (λ i l. (in_order_all (2 ^ B.m) L (pow_pos B.m)).digits_below _ i) b in
-          let q : pack_to k H.next L ≡ x / O = pack_same k k_some H.next (first_machine B).next L s ∙ nexts_back B k k_some x found-matched in
+          let q : pack_to k H.next L ≡ x / O = pack_same k k_some H.next (first_machine B).next L s ∙ nexts_back B k k_some x found_matched in
           omega (arith, ap (λ c. c * O) q, l, outs_back B k k_some x, div-add-mod' x O)
 
-    pub first-chosen : Chosen B (first_machine B)
+    pub first_chosen : Chosen B (first_machine B)
     unfolding Smaller
-    first-chosen = record {
+    first_chosen = record {
       proper = numbered_proper B (fewest_states B) k_some _;
       few = few;
       matching = first_matches;
@@ -102,13 +102,13 @@ module _ (B : Target) where
 
 pub first_is_chosen : FirstChosen
 unfolding FirstChosen
-first_is_chosen B few = first-chosen B few
+first_is_chosen B few = first_chosen B few
 
 pub none_exactly : NoneExactly
 unfolding NoneExactly NoneMatches
 none_exactly B = (
   (λ l H P f M. none_fewer B H P M (omega arith)),
-  λ N. let n : ¬ (fewest_states B ≤ most_merged) = λ few. let C = first-chosen B few in N (first_machine B) C.proper few C.matching in omega arith,
+  λ N. let n : ¬ (fewest_states B ≤ most_merged) = λ few. let C = first_chosen B few in N (first_machine B) C.proper few C.matching in omega arith,
 )
 
 -- ---- only one
@@ -142,14 +142,14 @@ only B G H S R = (k, nexts, outs)
     L : ℕ
     L = entries_of B G.states
 
-    same-L : entries_of B H.states ≡ entries_of B G.states
-    same-L = ap (entries_of B) (sym k)
+    same_L : entries_of B H.states ≡ entries_of B G.states
+    same_L = ap (entries_of B) (sym k)
 
     not_G : Before L G.next H.next ⊎ (((j : ℕ) → j < L → G.next j ≡ H.next j) × Before L G.out H.out) → ⊥
     not_G X = R.first G S.proper S.matching k X
 
     not_H : Before L H.next G.next ⊎ (((j : ℕ) → j < L → H.next j ≡ G.next j) × Before L H.out G.out) → ⊥
-    not_H X = S.first H R.proper R.matching (sym k) (subst (λ n. Before n H.next G.next ⊎ (((j : ℕ) → j < n → H.next j ≡ G.next j) × Before n H.out G.out)) (sym same-L) X)
+    not_H X = S.first H R.proper R.matching (sym k) (subst (λ n. Before n H.next G.next ⊎ (((j : ℕ) → j < n → H.next j ≡ G.next j) × Before n H.out G.out)) (sym same_L) X)
 
     nexts : (j : ℕ) → j < L → G.next j ≡ H.next j
     nexts = ⊎_elim (λ b. absurd (not_G (inl b))) (⊎_elim (λ b. absurd (not_H (inl b))) (λ s. s)) (compare L G.next H.next)
@@ -162,12 +162,12 @@ before_same : {n : ℕ} {f g h : ℕ → ℕ} → Same n g h → Before n f g �
 unfolding Same
 before_same S b = record { place = b.place; inside = b.inside; same = λ j l. b.same j l ∙ S j (omega (arith, b.inside)); less = omega (arith, b.less, S b.place b.inside) }
 
-pub chosen-same : (B : Target) (G H : Merged) → H.states ≡ G.states → Same (entries_of B H.states) H.next G.next → Same (entries_of B H.states) H.out G.out → Chosen B G → Chosen B H
+pub chosen_same : (B : Target) (G H : Merged) → H.states ≡ G.states → Same (entries_of B H.states) H.next G.next → Same (entries_of B H.states) H.out G.out → Chosen B G → Chosen B H
 unfolding Smaller Same
-chosen-same B G H k N O C = record {
+chosen_same B G H k N O C = record {
   proper = proper_same B G H C.proper (sym k) nexts outs;
   few = subst (λ n. n ≤ most_merged) (sym k) C.few;
-  matching = matches-same B G H C.proper (sym k) nexts outs C.matching;
+  matching = matches_same B G H C.proper (sym k) nexts outs C.matching;
   fewest = λ F P M. subst (λ n. n ≤ F.states) (sym k) (C.fewest F P M);
   first = λ F P M e S. C.first F P M (e ∙ k) (⊎_elim (λ b. inl (before_same (at e N) b)) (λ s. inr ((λ j l. s.0 j l ∙ at e N j l), before_same (at e O) s.1)) S);
 }
@@ -189,54 +189,54 @@ module _ (B C : Target) (A : Alike B C) where
   unfolding feed
   seen_same M t s r c l none = refl
   seen_same M t s (suc r) (w ∷ c) l (more b W) =
-      ap₂ ◌∷◌ (ap (bit_and (M.out t s w)) (A.same-connected t (omega arith))) (seen_same M (suc t) (M.next t s w) r c (omega arith) W)
+      ap₂ ◌∷◌ (ap (bit_and (M.out t s w)) (A.same_connected t (omega arith))) (seen_same M (suc t) (M.next t s w) r c (omega arith) W)
 
   layers_same : (G : Merged) (c : List ℕ) → Words B.K B.T c → seen B (layers_of B.K G) c ≡ seen C (layers_of C.K G) c
   unfolding seen
-  layers_same G c W = seen_same (layers_of B.K G) 0 0 B.T c (omega arith) W ∙ ap (λ K. feed (masked C.connected (layers_of K G)) 0 0 c) A.same-words
+  layers_same G c W = seen_same (layers_of B.K G) 0 0 B.T c (omega arith) W ∙ ap (λ K. feed (masked C.connected (layers_of K G)) 0 0 c) A.same_words
 
   matches_alike : (G : Merged) → matches B G ≡ matches C G
   unfolding Tested Matches
   matches_alike G =
       iff_eq _ _
       (λ y. subst Yes (sym ((tested C G).1 (λ c W.
-      let W' = subst (λ K. Words K B.T c) (sym A.same-words) (subst (λ T. Words C.K T c) (sym A.same-frames) W) in
+      let W' = subst (λ K. Words K B.T c) (sym A.same_words) (subst (λ T. Words C.K T c) (sym A.same_frames) W) in
       sym (layers_same G c W') ∙ (tested B G).0 (holds _ y) c W' ∙ A.same_seen c W'))) tt)
       (λ y. subst Yes (sym ((tested B G).1 (λ c W.
-      let W' = subst (λ T. Words C.K T c) A.same-frames (subst (λ K. Words K B.T c) A.same-words W) in
+      let W' = subst (λ T. Words C.K T c) A.same_frames (subst (λ K. Words K B.T c) A.same_words W) in
       layers_same G c W ∙ (tested C G).0 (holds _ y) c W' ∙ sym (A.same_seen c W)))) tt)
     where
       holds : (b : Bool) → Yes b → b ≡ true
       holds true y = refl
       holds false y = absurd y
 
-  numbered-same : (k x : ℕ) → numbered B k x ≡ numbered C k x
+  numbered_same : (k x : ℕ) → numbered B k x ≡ numbered C k x
   unfolding entries_of output_choices
-  numbered-same k x =
-      ap₂ (λ K m. record { states = k; next = digit_of k (k * K) (x / (2 ^ m) ^ (k * K)); out = digit_of (2 ^ m) (k * K) (x % (2 ^ m) ^ (k * K)) }) A.same-words A.same_bits
+  numbered_same k x =
+      ap₂ (λ K m. record { states = k; next = digit_of k (k * K) (x / (2 ^ m) ^ (k * K)); out = digit_of (2 ^ m) (k * K) (x % (2 ^ m) ^ (k * K)) }) A.same_words A.same_bits
 
   count_same : (k : ℕ) → machine_count B k ≡ machine_count C k
   unfolding entries_of output_choices machine_count
-  count_same k = ap₂ (λ K m. k ^ (k * K) * (2 ^ m) ^ (k * K)) A.same-words A.same_bits
+  count_same k = ap₂ (λ K m. k ^ (k * K) * (2 ^ m) ^ (k * K)) A.same_words A.same_bits
 
   pub match_same : (k : ℕ) → first_match B k ≡ first_match C k
   unfolding first_match
   match_same k =
-      least_cong (machine_count B k) _ _ (λ x l. matches_alike (numbered B k x) ∙ ap (matches C) (numbered-same k x))
+      least_cong (machine_count B k) _ _ (λ x l. matches_alike (numbered B k x) ∙ ap (matches C) (numbered_same k x))
       ∙ ap (λ n. least n (λ x. matches C (numbered C k x))) (count_same k)
 
-  pub fewest-same : fewest_states B ≡ fewest_states C
+  pub fewest_same : fewest_states B ≡ fewest_states C
   unfolding fewest_states matched
-  fewest-same = ap suc (least_cong most_merged _ _ (λ i l. ap₂ ltb (match_same (suc i)) (count_same (suc i))))
+  fewest_same = ap suc (least_cong most_merged _ _ (λ i l. ap₂ ltb (match_same (suc i)) (count_same (suc i))))
 
-  pub machine-same : first_machine B ≡ first_machine C
-  machine-same =
-      numbered-same (fewest_states B) (first_match B (fewest_states B))
-      ∙ ap (numbered C (fewest_states B)) (match_same (fewest_states B)) ∙ ap (λ k. numbered C k (first_match C k)) fewest-same
+  pub machine_same : first_machine B ≡ first_machine C
+  machine_same =
+      numbered_same (fewest_states B) (first_match B (fewest_states B))
+      ∙ ap (numbered C (fewest_states B)) (match_same (fewest_states B)) ∙ ap (λ k. numbered C k (first_match C k)) fewest_same
 
-pub same-machine : SameMachine
+pub same_machine : SameMachine
 unfolding SameMachine
-same-machine B C A = (fewest-same B C A, machine-same B C A)
+same_machine B C A = (fewest_same B C A, machine_same B C A)
 
 -- ---- a search in order
 
@@ -294,7 +294,7 @@ module _ (B : Target) (k : ℕ) (pos : 0 < k) where
             omega arith
 
         at_least : Matches B (numbered B k y) → y / output_choices B k ≡ c → pack_to (2 ^ B.m) ones E ≤ pack_to (2 ^ B.m) (numbered B k y).out E
-        at_least M e = pack_mono (2 ^ B.m) ones _ E (ones-least B (digit_of k E c) ones E O (numbered B k y) (λ j l. ap (λ d. digit_of k E d j) (sym e)) M)
+        at_least M e = pack_mono (2 ^ B.m) ones _ E (ones_least B (digit_of k E c) ones E O (numbered B k y) (λ j l. ap (λ d. digit_of k E d j) (sym e)) M)
 
         go : (b : Bool) → matches B (numbered B k y) ≡ b → y / output_choices B k ≡ c → b ≡ false
         go false q e = refl
@@ -304,7 +304,7 @@ module _ (B : Target) (k : ℕ) (pos : 0 < k) where
     unfolding first_match
     found_first =
         least_is (machine_count B k) number (λ x. matches B (numbered B k x)) (let l = number_in B k pos G P refl in omega (arith, is_number)) none_before
-        (λ l. subst (λ y. matches B (numbered B k y) ≡ true) is_number (number-matches B k pos G P refl (ones_match B masks G P O free)))
+        (λ l. subst (λ y. matches B (numbered B k y) ≡ true) is_number (number_matches B k pos G P refl (ones_match B masks G P O free)))
 
 pub first_found : FirstFound
 unfolding FirstFound

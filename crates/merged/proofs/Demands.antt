@@ -11,7 +11,7 @@ use Rattle.layered.specs.States.{Words, none, more}
 use Rattle.layered.specs.Machines.{Machine, feed, masked}
 use Rattle.layered.proofs.States.{some_words, digit_below, empty_below}
 use Rattle.circuit.specs.Lists.{bit}
-use Rattle.circuit.proofs.Bits.{bit_and_lem, masked-equal}
+use Rattle.circuit.proofs.Bits.{bit_and_lem, masked_equal}
 use Rattle.merged.specs.Merged.{Target, Merged, Proper, entries_of, layers_of, seen, Matches, Same}
 use Rattle.merged.specs.Demands.{target_after, state_after, Demand, Contradicted, Ones}
 use Rattle.merged.specs.Theorems.{ByDemands}
@@ -52,7 +52,7 @@ module _ (B : Target) where
     follows t h r d l e none = refl
     follows t h (suc r) (w ∷ d) l e (more b W) =
         ap₂ ◌∷◌
-        (masked-equal B.m (B.connected t) _ _ (masks t (omega arith)) (λ i li c. S (state_after B G.next t h * B.K + w) i _ li (record {
+        (masked_equal B.m (B.connected t) _ _ (masks t (omega arith)) (λ i li c. S (state_after B G.next t h * B.K + w) i _ li (record {
           t = t;
           h = h;
           w = w;
@@ -119,6 +119,6 @@ ones_match B masks G P O N = fulfilled B masks G P held
         go true q = absurd (N (record { e = e; i = i; bit_in = l; one = (O.are e i (demand_in B G P (entries_of B G.states) e i false D) l).0 q; zero = D }))
 
 -- and no output of a machine with these next states that matches is smaller
-pub ones-least : (B : Target) (f ones : ℕ → ℕ) (L : ℕ) → Ones B f L ones → (H : Merged) → Same L f H.next → Matches B H → (e : ℕ) → e < L → ones e ≤ H.out e
-ones-least B f ones L O H S M e l =
+pub ones_least : (B : Target) (f ones : ℕ → ℕ) (L : ℕ) → Ones B f L ones → (H : Merged) → Same L f H.next → Matches B H → (e : ℕ) → e < L → ones e ≤ H.out e
+ones_least B f ones L O H S M e l =
     bits_le B.m (ones e) (H.out e) (O.small e l) (λ i li b. satisfied B H M L e i true (demand_same B f H.next L e i true S ((O.are e i l li).0 b)))

@@ -10,7 +10,7 @@ use lib.Pow.{pow_pos}
 use Rattle.layered.specs.Histories.{history_number}
 use Rattle.layered.specs.Machines.{Legal, Gives, masked}
 use Rattle.layered.proofs.Search.{every_true, every_each, equal_lists, equal_true}
-use Rattle.layered.proofs.Histories.{history_below, number-words, words-number}
+use Rattle.layered.proofs.Histories.{history_below, number_words, words_number}
 use Rattle.layered.proofs.Machines.{masked_legal}
 use Rattle.layered.proofs.Agreement.{agree_gives}
 use Rattle.merged.specs.Merged.{Target, Merged, Proper, entries_of, layers_of, seen, Matches, matches, Same, digit_of, output_choices, machine_count, numbered}
@@ -23,8 +23,8 @@ unfolding Tested Matches matches
 tested B G = (
   (λ e c W.
       let same = every_each _ (B.K ^ B.T) e (history_number B.K 0 c) (history_below W) in
-      subst (λ d. seen B (layers_of B.K G) d ≡ seen B B.machine d) (words-number W) (equal_lists _ _ (subst Yes (sym same) tt))),
-  λ M. every_true _ (B.K ^ B.T) (λ h l. equal_true _ _ (M _ (number-words B.K B.T h l).0)),
+      subst (λ d. seen B (layers_of B.K G) d ≡ seen B B.machine d) (words_number W) (equal_lists _ _ (subst Yes (sym same) tt))),
+  λ M. every_true _ (B.K ^ B.T) (λ h l. equal_true _ _ (M _ (number_words B.K B.T h l).0)),
 )
 
 -- a machine is a legal layered one
@@ -37,10 +37,10 @@ layers_legal B G P = record {
 }
 
 -- machines with the same entries match alike
-pub matches-same : (B : Target) (G H : Merged) → Proper B G → G.states ≡ H.states → Same (entries_of B G.states) G.next H.next → Same (entries_of B G.states) G.out H.out
+pub matches_same : (B : Target) (G H : Merged) → Proper B G → G.states ≡ H.states → Same (entries_of B G.states) G.next H.next → Same (entries_of B G.states) G.out H.out
     → Matches B G → Matches B H
 unfolding Matches seen Same entries_of Gives
-matches-same B G H P e N O M =
+matches_same B G H P e N O M =
     agree_gives (masked B.connected (layers_of B.K G)) (masked B.connected (layers_of B.K H)) (masked_legal B.connected _ (layers_legal B G P))
     (record {
       states_are = λ t l. e;
@@ -100,19 +100,19 @@ module _ (B : Target) (k : ℕ) (pos : 0 < k) where
     unfolding InOrder machine_count number_of
     number_in = digits_lt ((in_order_all k L pos).pack_below H.next nexts_below) outs_packed
 
-    pub same-nexts : Same L H.next (numbered B k number_of).next
+    pub same_nexts : Same L H.next (numbered B k number_of).next
     unfolding InOrder Same number_of
-    same-nexts i l = sym (ap (λ c. digit_of k L c i) (digits_div (pack_to k H.next L) outs_packed) ∙ (in_order_all k L pos).digits-packed H.next nexts_below i l)
+    same_nexts i l = sym (ap (λ c. digit_of k L c i) (digits_div (pack_to k H.next L) outs_packed) ∙ (in_order_all k L pos).digits_packed H.next nexts_below i l)
 
     pub same_outs : Same L H.out (numbered B k number_of).out
     unfolding InOrder Same number_of
     same_outs i l =
-        sym (ap (λ c. digit_of (2 ^ B.m) L c i) (digits_mod (pack_to k H.next L) outs_packed) ∙ (in_order_all (2 ^ B.m) L (pow_pos B.m)).digits-packed H.out outs_below i l)
+        sym (ap (λ c. digit_of (2 ^ B.m) L c i) (digits_mod (pack_to k H.next L) outs_packed) ∙ (in_order_all (2 ^ B.m) L (pow_pos B.m)).digits_packed H.out outs_below i l)
 
     -- the machine of its number matches where it does
-    pub number-matches : Matches B H → matches B (numbered B k number_of) ≡ true
+    pub number_matches : Matches B H → matches B (numbered B k number_of) ≡ true
     unfolding Tested
-    number-matches M =
+    number_matches M =
         (tested B (numbered B k number_of)).1
-        (matches-same B H (numbered B k number_of) P e (subst (λ n. Same (entries_of B n) H.next (numbered B k number_of).next) (sym e) same-nexts)
+        (matches_same B H (numbered B k number_of) P e (subst (λ n. Same (entries_of B n) H.next (numbered B k number_of).next) (sym e) same_nexts)
         (subst (λ n. Same (entries_of B n) H.out (numbered B k number_of).out) (sym e) same_outs) M)

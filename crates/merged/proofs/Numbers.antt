@@ -102,7 +102,7 @@ unfolding InOrder Same digit_of
 in_order_all k L pos = record {
   digits_below = λ c e. mod-lt _ pos;
   pack_below = λ f b. pack_small k pos f L b;
-  digits-packed = λ f b. packed_digit k pos f L b;
+  digits_packed = λ f b. packed_digit k pos f L b;
   ordered = λ f g bf bg B. in_order k pos f g L bf bg B;
   skips = λ c d p l a b. stays k pos L c d p l a b;
   ahead = λ c p. goes_on k pos L c p;

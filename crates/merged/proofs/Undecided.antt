@@ -7,7 +7,7 @@ use native.Mathlib.Omega.{arith}
 use lib.Dec.{eqb}
 use borrow.Author.Tests.{eqb-true, eqb-false, eq-eqb, ne_eqb}
 use Rattle.circuit.specs.Lists.{bit}
-use Rattle.circuit.proofs.Bits.{bit-zero, bit-suc}
+use Rattle.circuit.proofs.Bits.{bit_zero, bit_suc}
 use Rattle.merged.specs.Merged.{Target, Merged, Proper, entries_of, Same, Before, Smaller}
 use Rattle.merged.specs.Demands.{state_after, Demand}
 use Rattle.merged.specs.Theorems.{Chosen, Used, UndecidedZero}
@@ -22,22 +22,22 @@ clear x (suc i) = clear (x / 2) i * 2 + x % 2
 
 cleared : (x i : ℕ) → bit (clear x i) i ≡ false
 unfolding clear
-cleared x zero = let e : x / 2 * 2 % 2 ≡ 0 = omega arith in bit-zero _ ∙ ap (λ k. eqb k 1) e
-cleared x (suc i) = let e : (clear (x / 2) i * 2 + x % 2) / 2 ≡ clear (x / 2) i = omega arith in bit-suc _ i ∙ ap (λ y. bit y i) e ∙ cleared (x / 2) i
+cleared x zero = let e : x / 2 * 2 % 2 ≡ 0 = omega arith in bit_zero _ ∙ ap (λ k. eqb k 1) e
+cleared x (suc i) = let e : (clear (x / 2) i * 2 + x % 2) / 2 ≡ clear (x / 2) i = omega arith in bit_suc _ i ∙ ap (λ y. bit y i) e ∙ cleared (x / 2) i
 
 clear_others : (x i j : ℕ) → ((j ≡ i) → ⊥) → bit (clear x i) j ≡ bit x j
 unfolding clear
 clear_others x zero zero n = absurd (n refl)
-clear_others x zero (suc j) n = let e : x / 2 * 2 / 2 ≡ x / 2 = omega arith in bit-suc _ j ∙ ap (λ y. bit y j) e ∙ sym (bit-suc x j)
-clear_others x (suc i) zero n = let e : (clear (x / 2) i * 2 + x % 2) % 2 ≡ x % 2 = omega arith in bit-zero _ ∙ ap (λ k. eqb k 1) e ∙ sym (bit-zero x)
+clear_others x zero (suc j) n = let e : x / 2 * 2 / 2 ≡ x / 2 = omega arith in bit_suc _ j ∙ ap (λ y. bit y j) e ∙ sym (bit_suc x j)
+clear_others x (suc i) zero n = let e : (clear (x / 2) i * 2 + x % 2) % 2 ≡ x % 2 = omega arith in bit_zero _ ∙ ap (λ k. eqb k 1) e ∙ sym (bit_zero x)
 clear_others x (suc i) (suc j) n =
     let e : (clear (x / 2) i * 2 + x % 2) / 2 ≡ clear (x / 2) i = omega arith in
-    bit-suc _ j ∙ ap (λ y. bit y j) e ∙ clear_others (x / 2) i j (λ q. n (ap suc q)) ∙ sym (bit-suc x j)
+    bit_suc _ j ∙ ap (λ y. bit y j) e ∙ clear_others (x / 2) i j (λ q. n (ap suc q)) ∙ sym (bit_suc x j)
 
 clear_less : (x i : ℕ) → bit x i ≡ true → clear x i < x
 unfolding clear
-clear_less x zero b = let o = eqb-true (x % 2) 1 (sym (bit-zero x) ∙ b) in omega arith
-clear_less x (suc i) b = let l = clear_less (x / 2) i (sym (bit-suc x i) ∙ b) in omega arith
+clear_less x zero b = let o = eqb-true (x % 2) 1 (sym (bit_zero x) ∙ b) in omega arith
+clear_less x (suc i) b = let l = clear_less (x / 2) i (sym (bit_suc x i) ∙ b) in omega arith
 
 -- ---- one entry changed
 
@@ -81,8 +81,8 @@ module _ (B : Target) (masks : (t : ℕ) → t < B.T → B.connected t < 2 ^ B.m
       out_is = λ j h. change_all (λ j x. x < 2 ^ B.m) G.out e (clear (G.out e) i) j (λ q. omega (arith, clear_less (G.out e) i b, C.proper.out_is e l)) (λ _. C.proper.out_is j h);
     }
 
-    lower-bits : (j k : ℕ) (v : Bool) → k < B.m → Demand B G.next L j k v → bit (changed G.out e (clear (G.out e) i) j) k ≡ v
-    lower-bits j k v h D = change_all (λ j x. bit x k ≡ v) G.out e (clear (G.out e) i) j at (λ _. satisfied B G C.matching L j k v D)
+    lower_bits : (j k : ℕ) (v : Bool) → k < B.m → Demand B G.next L j k v → bit (changed G.out e (clear (G.out e) i) j) k ≡ v
+    lower_bits j k v h D = change_all (λ j x. bit x k ≡ v) G.out e (clear (G.out e) i) j at (λ _. satisfied B G C.matching L j k v D)
       where
         is_i : (v : Bool) → Demand B G.next L e i v → bit (clear (G.out e) i) i ≡ v
         is_i true D = absurd (N D)
@@ -100,7 +100,7 @@ module _ (B : Target) (masks : (t : ℕ) → t < B.T → B.connected t < 2 ^ B.m
     not_set : ⊥
     unfolding Smaller Same
     not_set =
-        C.first lower lower_proper (fulfilled B masks lower lower_proper lower-bits) refl
+        C.first lower lower_proper (fulfilled B masks lower lower_proper lower_bits) refl
         (inr ((λ j h. refl), change_before L G.out e (clear (G.out e) i) l (clear_less (G.out e) i b)))
 
   pub zero_output : (i : ℕ) → (Demand B G.next L e i true → ⊥) → bit (G.out e) i ≡ false
@@ -135,8 +135,8 @@ module _ (B : Target) (masks : (t : ℕ) → t < B.T → B.connected t < 2 ^ B.m
         ap (λ s. first (s * B.K + h % B.K)) I
         ∙ change_off G.next e 0 _ (λ q. N (record { t = t; h = h / B.K; w = h % B.K; frame_in = lt; history_in = before_below B.K t h lh; word_in = word_below B.K t h lh; comes = q }))
 
-    sooner-bits : (j k : ℕ) (v : Bool) → k < B.m → Demand B first L j k v → bit (G.out j) k ≡ v
-    sooner-bits j k v h D =
+    sooner_bits : (j k : ℕ) (v : Bool) → k < B.m → Demand B first L j k v → bit (G.out j) k ≡ v
+    sooner_bits j k v h D =
         satisfied B G C.matching L j k v
         (record {
           t = D.t;
@@ -153,11 +153,11 @@ module _ (B : Target) (masks : (t : ℕ) → t < B.T → B.connected t < 2 ^ B.m
 
     not_used : ⊥
     unfolding Smaller
-    not_used = C.first sooner sooner_proper (fulfilled B masks sooner sooner_proper sooner-bits) refl (inl (change_before L G.next e 0 l pos))
+    not_used = C.first sooner sooner_proper (fulfilled B masks sooner sooner_proper sooner_bits) refl (inl (change_before L G.next e 0 l pos))
 
-  pub zero-next : (Used B G.next e → ⊥) → G.next e ≡ 0
-  zero-next N = let n : ¬ (0 < G.next e) = not_used N in omega arith
+  pub zero_next : (Used B G.next e → ⊥) → G.next e ≡ 0
+  zero_next N = let n : ¬ (0 < G.next e) = not_used N in omega arith
 
 pub undecided_zero : UndecidedZero
 unfolding UndecidedZero
-undecided_zero B masks G C = record { outputs = λ e i l h N. zero_output B masks G C e l i N; nexts = λ e l N. zero-next B masks G C e l N }
+undecided_zero B masks G C = record { outputs = λ e i l h N. zero_output B masks G C e l i N; nexts = λ e l N. zero_next B masks G C e l N }

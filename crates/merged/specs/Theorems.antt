@@ -57,11 +57,11 @@ UndecidedZero = (B : Target) → ((t : ℕ) → t < B.T → B.connected t < 2 ^ 
 
 -- two targets of equal sizes and connections that give the same outputs on every sequence have the same first machine
 pub record Alike (B C : Target) : Type 0 where
-  pub same-words : B.K ≡ C.K
+  pub same_words : B.K ≡ C.K
   pub same_bits : B.m ≡ C.m
-  pub same-frames : B.T ≡ C.T
+  pub same_frames : B.T ≡ C.T
   pub same_seen : (c : List ℕ) → Words B.K B.T c → seen B B.machine c ≡ seen C C.machine c
-  pub same-connected : (t : ℕ) → t < B.T → B.connected t ≡ C.connected t
+  pub same_connected : (t : ℕ) → t < B.T → B.connected t ≡ C.connected t
 
 unfoldable pub SameMachine : Type 0
 SameMachine = (B C : Target) → Alike B C → (fewest_states B ≡ fewest_states C) × (first_machine B ≡ first_machine C)
@@ -77,7 +77,7 @@ ByDemands = (B : Target) → ((t : ℕ) → t < B.T → B.connected t < 2 ^ B.m)
 pub record Numbered (k L : ℕ) : Type 0 where
   pub digits_below : (c e : ℕ) → digit_of k L c e < k
   pub pack_below : (f : ℕ → ℕ) → ((e : ℕ) → e < L → f e < k) → pack_to k f L < k ^ L
-  pub digits-packed : (f : ℕ → ℕ) → ((e : ℕ) → e < L → f e < k) → Same L (digit_of k L (pack_to k f L)) f
+  pub digits_packed : (f : ℕ → ℕ) → ((e : ℕ) → e < L → f e < k) → Same L (digit_of k L (pack_to k f L)) f
   pub ordered : (f g : ℕ → ℕ) → ((e : ℕ) → e < L → f e < k) → ((e : ℕ) → e < L → g e < k) → Before L f g → pack_to k f L < pack_to k g L
   pub skips : (c d p : ℕ) → p ≤ L → c ≤ d → d < skipped k L c p → Same p (digit_of k L c) (digit_of k L d)
   pub ahead : (c p : ℕ) → c < skipped k L c p

@@ -100,8 +100,8 @@ module _ (R : ℕ) (D : Nodes) (l p q : ℕ) (laid : Laid R D) (pos : 0 < l) (sm
         one_is = λ _. (id_in.0, id_in.1, ends_here R D l p q j (id - 2) x at_is shown passed laid pos b (omega (arith, id_in)) (subst (Stops x l p q) e s));
       }
 
-  pub id-none : (j : ℕ) → j ≡ R → Passed R D l p q j → SoughtId R D l p q 4294967295
-  id-none j e passed = record {
+  pub id_none : (j : ℕ) → j ≡ R → Passed R D l p q j → SoughtId R D l p q 4294967295
+  id_none j e passed = record {
     none_is = λ _. sought_end R D l p q laid pos (subst (Passed R D l p q) e passed) (home_below R l p q);
     one_is = λ n. absurd (n refl);
   }

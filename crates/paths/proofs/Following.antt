@@ -16,12 +16,12 @@ use borrow.Author.Tests.{lt-ltb, le-ltb, eq-eqb, ne_eqb, eqb-true, eqb-false}
 use Rattle.layered.specs.Search.{tally, tabulate, total}
 use Rattle.layered.specs.Histories.{history_words}
 use Rattle.layered.specs.Machines.{Machine, Legal, reached}
-use Rattle.layered.proofs.Search.{tally_cong, tally_either, tally-zero, tally_nowhere}
-use Rattle.layered.proofs.Lists.{tabulate-length, tabulate-add, join-tabulate, tally_digit, set_append_right}
+use Rattle.layered.proofs.Search.{tally_cong, tally_either, tally_zero, tally_nowhere}
+use Rattle.layered.proofs.Lists.{tabulate_length, tabulate_add, join_tabulate, tally_digit, set_append_right}
 use Rattle.paths.specs.Paths.{leads_to, leads, histories, smallest_of, smallest, of_states}
 use Rattle.paths.specs.Progress.{last_entry, followed, leads_so_far, histories_so_far, smallest_so_far, numbers_so_far, smaller}
-use Rattle.paths.proofs.Smallest.{smallest-none, smallest_below, smallest_cong, smallest_digit, smallest_either}
-use Rattle.paths.proofs.Arrays.{states-length, states-at, states_cong, states-set, states_in}
+use Rattle.paths.proofs.Smallest.{smallest_none, smallest_below, smallest_cong, smallest_digit, smallest_either}
+use Rattle.paths.proofs.Arrays.{states_length, states_at, states_cong, states_set, states_in}
 use Rattle.paths.proofs.Leading.{leads_on, front_below, last_below, last_tells, last_is}
 
 -- ---- tests
@@ -79,13 +79,13 @@ module _ (K : ℕ) (M : Machine) where
   elsewhere t e f (suc l) h n = rw (ne_eqb l t (λ q. n (ap suc q)))
 
   -- the numbers by the tests
-  same-histories : (t e u f l s : ℕ) → ((h : ℕ) → h < K ^ l → leads_so_far K M t e l s h ≡ leads_so_far K M u f l s h) → histories_so_far K M t e l s ≡ histories_so_far K M u f l s
+  same_histories : (t e u f l s : ℕ) → ((h : ℕ) → h < K ^ l → leads_so_far K M t e l s h ≡ leads_so_far K M u f l s h) → histories_so_far K M t e l s ≡ histories_so_far K M u f l s
   unfolding histories_so_far
-  same-histories t e u f l s q = tally_cong (K ^ l) q
+  same_histories t e u f l s q = tally_cong (K ^ l) q
 
-  same-smallest : (t e u f l s : ℕ) → ((h : ℕ) → h < K ^ l → leads_so_far K M t e l s h ≡ leads_so_far K M u f l s h) → smallest_so_far K M t e l s ≡ smallest_so_far K M u f l s
+  same_smallest : (t e u f l s : ℕ) → ((h : ℕ) → h < K ^ l → leads_so_far K M t e l s h ≡ leads_so_far K M u f l s h) → smallest_so_far K M t e l s ≡ smallest_so_far K M u f l s
   unfolding smallest_so_far
-  same-smallest t e u f l s q = smallest_cong (K ^ l) _ _ q
+  same_smallest t e u f l s q = smallest_cong (K ^ l) _ _ q
 
   -- once all entries of a layer before t were followed, its numbers are the whole ones
   pub whole_histories : (t e l s : ℕ) → l ≤ t → histories_so_far K M t e l s ≡ histories K M l s
@@ -160,16 +160,16 @@ module _ (K : ℕ) (M : Machine) where
         go (yes q) = subst Yes (none q) a
         go (no q) = subst Yes (not_new h q) b
 
-    pub histories-more : histories_so_far K M t (e₀ + 1) (suc t) x₀ ≡ histories_so_far K M t e₀ (suc t) x₀ + histories K M t s
+    pub histories_more : histories_so_far K M t (e₀ + 1) (suc t) x₀ ≡ histories_so_far K M t e₀ (suc t) x₀ + histories K M t s
     unfolding histories_so_far histories new
-    histories-more =
+    histories_more =
         tally_cong (K ^ suc t) (λ h l. gains h)
         ∙ tally_either (K ^ suc t) (leads_so_far K M t e₀ (suc t) x₀) new (λ h l. apart h)
         ∙ ap (λ n. tally (K ^ suc t) (leads_so_far K M t e₀ (suc t) x₀) + n) (ap (λ n. tally n new) (pow-suc K t) ∙ tally_digit (K ^ t) K w (leads K M t s) lw)
 
-    pub smallest-more : 0 < histories K M t s → smallest_so_far K M t (e₀ + 1) (suc t) x₀ ≡ smaller (histories_so_far K M t e₀ (suc t) x₀) (smallest_so_far K M t e₀ (suc t) x₀) (smallest K M t s * K + w)
+    pub smallest_more : 0 < histories K M t s → smallest_so_far K M t (e₀ + 1) (suc t) x₀ ≡ smaller (histories_so_far K M t e₀ (suc t) x₀) (smallest_so_far K M t e₀ (suc t) x₀) (smallest K M t s * K + w)
     unfolding histories_so_far smallest_so_far histories smallest new
-    smallest-more p =
+    smallest_more p =
         let n : tally (K ^ suc t) new ≡ tally (K ^ t) (leads K M t s) = ap (λ n. tally n new) (pow-suc K t) ∙ tally_digit (K ^ t) K w (leads K M t s) lw in
         smallest_cong (K ^ suc t) _ (λ h. leads_so_far K M t e₀ (suc t) x₀ h || new h) (λ h l. gains h)
         ∙ smallest_either (K ^ suc t) (leads_so_far K M t e₀ (suc t) x₀) new (omega arith)
@@ -184,7 +184,7 @@ module _ (K T : ℕ) (M : Machine) where
   unfolding numbers_so_far
   numbers_length t e =
       length-append (of_states T M.states (histories_so_far K M t e)) (of_states T M.states (smallest_so_far K M t e))
-      ∙ ap₂ ◌+◌ (states-length T M.states (histories_so_far K M t e)) (states-length T M.states (smallest_so_far K M t e))
+      ∙ ap₂ ◌+◌ (states_length T M.states (histories_so_far K M t e)) (states_length T M.states (smallest_so_far K M t e))
 
   -- those of a state
   module _ (t e l s : ℕ) (b : l ≤ T) (k : s < M.states l) where
@@ -192,23 +192,23 @@ module _ (K T : ℕ) (M : Machine) where
     unfolding numbers_so_far
     histories_read =
         get_or-append (of_states T M.states (histories_so_far K M t e)) (of_states T M.states (smallest_so_far K M t e)) 0 (total l M.states + s)
-        (omega (arith, states-length T M.states (histories_so_far K M t e), states_in T M.states (histories_so_far K M t e) l s b k))
-        ∙ states-at T M.states (histories_so_far K M t e) l s b k
+        (omega (arith, states_length T M.states (histories_so_far K M t e), states_in T M.states (histories_so_far K M t e) l s b k))
+        ∙ states_at T M.states (histories_so_far K M t e) l s b k
 
     pub smallest_read : get_or (numbers_so_far K T M t e) (total (suc T) M.states + (total l M.states + s)) 0 ≡ smallest_so_far K M t e l s
     unfolding numbers_so_far
     smallest_read =
-        ap (λ n. get_or (numbers_so_far K T M t e) (n + (total l M.states + s)) 0) (sym (states-length T M.states (histories_so_far K M t e)))
+        ap (λ n. get_or (numbers_so_far K T M t e) (n + (total l M.states + s)) 0) (sym (states_length T M.states (histories_so_far K M t e)))
         ∙ get_or-append-add (of_states T M.states (histories_so_far K M t e)) (of_states T M.states (smallest_so_far K M t e)) _ 0
-        ∙ states-at T M.states (smallest_so_far K M t e) l s b k
+        ∙ states_at T M.states (smallest_so_far K M t e) l s b k
 
   -- the same histories followed, the same numbers
   same_numbers : (t e u f : ℕ) → ((l h : ℕ) → l ≤ T → h < K ^ l → followed K M t e l h ≡ followed K M u f l h) → numbers_so_far K T M t e ≡ numbers_so_far K T M u f
   unfolding numbers_so_far leads_so_far
   same_numbers t e u f q =
       ap₂ ◌++◌
-      (states_cong T M.states _ _ (λ l s b k. same-histories K M t e u f l s (λ h j. ap (λ a. a && leads K M l s h) (q l h b j))))
-      (states_cong T M.states _ _ (λ l s b k. same-smallest K M t e u f l s (λ h j. ap (λ a. a && leads K M l s h) (q l h b j))))
+      (states_cong T M.states _ _ (λ l s b k. same_histories K M t e u f l s (λ h j. ap (λ a. a && leads K M l s h) (q l h b j))))
+      (states_cong T M.states _ _ (λ l s b k. same_smallest K M t e u f l s (λ h j. ap (λ a. a && leads K M l s h) (q l h b j))))
 
   -- one number of the first array and one of the second are replaced
   replace : (A B : List ℕ) (n i x y : ℕ) → length A ≡ n → i < n → set A i x ++ set B i y ≡ set (set (A ++ B) (n + i) y) i x
@@ -235,11 +235,11 @@ module _ (K T : ℕ) (M : Machine) where
       let f = histories_so_far K M t e in
       let g = smallest_so_far K M t e in
       ap₂ ◌++◌
-      (states-set T M.states f (histories_so_far K M t (e + 1)) (suc t) x b k (λ u r c j n. same-histories K M t (e + 1) t e u r (λ h i. unchanged K M t s w l u r h n))
-      ∙ ap (set (of_states T M.states f) (total (suc t) M.states + x)) (histories-more K M t s w l))
-      (states-set T M.states g (smallest_so_far K M t (e + 1)) (suc t) x b k (λ u r c j n. same-smallest K M t (e + 1) t e u r (λ h i. unchanged K M t s w l u r h n))
-      ∙ ap (set (of_states T M.states g) (total (suc t) M.states + x)) (smallest-more K M t s w l p))
-      ∙ replace (of_states T M.states f) (of_states T M.states g) _ _ _ _ (states-length T M.states f) (states_in T M.states f (suc t) x b k)
+      (states_set T M.states f (histories_so_far K M t (e + 1)) (suc t) x b k (λ u r c j n. same_histories K M t (e + 1) t e u r (λ h i. unchanged K M t s w l u r h n))
+      ∙ ap (set (of_states T M.states f) (total (suc t) M.states + x)) (histories_more K M t s w l))
+      (states_set T M.states g (smallest_so_far K M t (e + 1)) (suc t) x b k (λ u r c j n. same_smallest K M t (e + 1) t e u r (λ h i. unchanged K M t s w l u r h n))
+      ∙ ap (set (of_states T M.states g) (total (suc t) M.states + x)) (smallest_more K M t s w l p))
+      ∙ replace (of_states T M.states f) (of_states T M.states g) _ _ _ _ (states_length T M.states f) (states_in T M.states f (suc t) x b k)
 
   module _ {m : ℕ} (L : Legal K m T M) (P : 0 < K) where
     -- the entries of a state that no history leads to add nothing
@@ -248,7 +248,7 @@ module _ (K T : ℕ) (M : Machine) where
     state_skipped t s b z = same_numbers t (s * K) t (suc s * K) (λ l h c k. go l h k (ℕ_discrete l (suc t)))
       where
         no_entry : (h : ℕ) → h < K ^ suc t → ¬ (leads_to K M t (h / K) ≡ s)
-        no_entry h k q = eqb-false _ s (tally-zero (K ^ t) (λ h. eqb (leads_to K M t h) s) z (h / K) (front_below K M P t h k)) q
+        no_entry h k q = eqb-false _ s (tally_zero (K ^ t) (λ h. eqb (leads_to K M t h) s) z (h / K) (front_below K M P t h k)) q
 
         go : (l h : ℕ) → h < K ^ l → Dec (l ≡ suc t) → followed K M t (s * K) l h ≡ followed K M t (suc s * K) l h
         go l h k (yes q) =
@@ -274,16 +274,16 @@ module _ (K T : ℕ) (M : Machine) where
             at (no q) (no r) = earlier K M t (M.states t * K) (suc l) h (omega arith) ∙ sym (earlier K M (suc t) 0 (suc l) h (omega arith))
 
   -- all layers: the numbers are the whole ones
-  pub all-followed : numbers_so_far K T M T 0 ≡ of_states T M.states (histories K M) ++ of_states T M.states (smallest K M)
+  pub all_followed : numbers_so_far K T M T 0 ≡ of_states T M.states (histories K M) ++ of_states T M.states (smallest K M)
   unfolding numbers_so_far
-  all-followed =
+  all_followed =
       ap₂ ◌++◌ (states_cong T M.states _ _ (λ l s b k. whole_histories K M T 0 l s b)) (states_cong T M.states _ _ (λ l s b k. whole_smallest K M T 0 l s b))
 
   -- at the start: one history leads to the start, and all other numbers are zero
   module _ (one : M.states 0 ≡ 1) (start : M.start ≡ 0) where
-    first-histories : (s : ℕ) → s ≡ 0 → histories_so_far K M 0 0 0 s ≡ 1
+    first_histories : (s : ℕ) → s ≡ 0 → histories_so_far K M 0 0 0 s ≡ 1
     unfolding histories_so_far leads_so_far followed leads leads_to history_words reached tally
-    first-histories s e = rw (e, pow-zero K, start)
+    first_histories s e = rw (e, pow-zero K, start)
 
     no_histories : (l s : ℕ) → histories_so_far K M 0 0 (suc l) s ≡ 0
     unfolding histories_so_far leads_so_far
@@ -292,27 +292,27 @@ module _ (K T : ℕ) (M : Machine) where
     no_smallest : (l s : ℕ) → smallest_so_far K M 0 0 l s ≡ 0
     unfolding smallest_so_far histories_so_far
     no_smallest zero s = lt-one (smallest_below (K ^ 0) 1 _ (le_refl 1) (le_of_eq (pow-zero K)))
-    no_smallest (suc l) s = smallest-none (K ^ suc l) _ (no_histories l s)
+    no_smallest (suc l) s = smallest_none (K ^ suc l) _ (no_histories l s)
 
     zeros : List ℕ
     zeros = of_states T M.states (λ t s. 0)
 
     zeros_are : zeros ≡ tabulate (total (suc T) M.states) (λ i. 0)
     unfolding zeros of_states
-    zeros_are = join-tabulate (suc T) M.states (λ i. 0)
+    zeros_are = join_tabulate (suc T) M.states (λ i. 0)
 
-    pub none-followed : let n = total (suc T) M.states in numbers_so_far K T M 0 0 ≡ set (tabulate (n + n) (λ i. 0)) 0 1
+    pub none_followed : let n = total (suc T) M.states in numbers_so_far K T M 0 0 ≡ set (tabulate (n + n) (λ i. 0)) 0 1
     unfolding numbers_so_far zeros total
-    none-followed =
+    none_followed =
         let n = total (suc T) M.states in
         let f = histories_so_far K M 0 0 in
         let k : 0 < M.states 0 = omega arith in
         let z : total 0 M.states + 0 ≡ 0 = omega arith in
         ap₂ ◌++◌
-        (states-set T M.states (λ t s. 0) f 0 0 zero-le k other ∙ ap₂ (set zeros) z (first-histories 0 refl) ∙ ap (λ l. set l 0 1) zeros_are)
+        (states_set T M.states (λ t s. 0) f 0 0 zero-le k other ∙ ap₂ (set zeros) z (first_histories 0 refl) ∙ ap (λ l. set l 0 1) zeros_are)
         (states_cong T M.states _ _ (λ l s b k. no_smallest l s) ∙ zeros_are)
-        ∙ sym (set-append_left (tabulate n (λ i. 0)) (tabulate n (λ i. 0)) 0 1 (omega (arith, tabulate-length n (λ i. 0), states_in T M.states f 0 0 zero-le k)))
-        ∙ ap (λ l. set l 0 1) (sym (tabulate-add n n (λ i. 0)))
+        ∙ sym (set-append_left (tabulate n (λ i. 0)) (tabulate n (λ i. 0)) 0 1 (omega (arith, tabulate_length n (λ i. 0), states_in T M.states f 0 0 zero-le k)))
+        ∙ ap (λ l. set l 0 1) (sym (tabulate_add n n (λ i. 0)))
       where
         other : (l r : ℕ) → l ≤ T → r < M.states l → (l ≡ 0 → r ≡ 0 → ⊥) → histories_so_far K M 0 0 l r ≡ 0
         other zero r b k n = absurd (n refl (omega arith))

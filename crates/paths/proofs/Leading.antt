@@ -8,8 +8,8 @@ use lib.Arith.{digits_lt, digits_div, digits_mod}
 use lib.ListN.{length}
 use Rattle.layered.specs.Histories.{history_words}
 use Rattle.layered.specs.Machines.{Machine, Legal, reached}
-use Rattle.layered.proofs.Feeding.{reached-append, reached_below}
-use Rattle.layered.proofs.Histories.{history-length, number-words}
+use Rattle.layered.proofs.Feeding.{reached_append, reached_below}
+use Rattle.layered.proofs.Histories.{history_length, number_words}
 use Rattle.paths.specs.Paths.{leads_to}
 use Rattle.paths.specs.Progress.{last_entry}
 
@@ -19,13 +19,13 @@ module _ (K : ℕ) (M : Machine) where
   unfolding leads_to history_words reached
   leads_on t h =
       let c : List ℕ = history_words K t (h / K) in
-      let e : 0 + length c ≡ t = omega (arith, history-length K t (h / K)) in
-      reached-append M 0 M.start c (h % K ∷ []) ∙ ap (λ u. M.next u (reached M 0 M.start c) (h % K)) e
+      let e : 0 + length c ≡ t = omega (arith, history_length K t (h / K)) in
+      reached_append M 0 M.start c (h % K ∷ []) ∙ ap (λ u. M.next u (reached M 0 M.start c) (h % K)) e
 
   -- within the layer
   pub leads_below : {m T : ℕ} → Legal K m T M → (t h : ℕ) → t ≤ T → h < K ^ t → leads_to K M t h < M.states t
   unfolding leads_to
-  leads_below L t h b l = let e : 0 + t ≡ t = omega arith in rw e at (reached_below M L 0 M.start (omega arith) L.start_is (number-words K t h l).0)
+  leads_below L t h b l = let e : 0 + t ≡ t = omega arith in rw e at (reached_below M L 0 M.start (omega arith) L.start_is (number_words K t h l).0)
 
   -- a history without its last word
   pub front_below : 0 < K → (t h : ℕ) → h < K ^ suc t → h / K < K ^ t

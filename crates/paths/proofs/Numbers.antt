@@ -8,7 +8,7 @@ use lib.Arith.{digits_lt}
 use lib.Dec.{lit<}
 use lib.ListN.{length, get_or, set, length-set}
 use Rattle.words.specs.Words.{number_at, Fit, stored, Held}
-use Rattle.words.proofs.Laws.{fit_append, stored-length, stored_over, stored-held, held_number, stored-set}
+use Rattle.words.proofs.Laws.{fit_append, stored_length, stored_over, stored_held, held_number, stored_set}
 use Rattle.sizes.specs.Sizes.{inputs, frames}
 use Rattle.layered.specs.Search.{total}
 use Rattle.layered.proofs.Search.{tally_at_most}
@@ -21,13 +21,13 @@ use Rattle.paths.specs.Progress.{histories_so_far, smallest_so_far, numbers_so_f
 use Rattle.paths.proofs.Arrays.{states_in, fit_states}
 use Rattle.paths.proofs.Places.{state_in, gap_at}
 use Rattle.paths.proofs.Smallest.{smallest_tells, smallest_below}
-use Rattle.paths.proofs.Following.{histories-more, numbers_length, histories_read, smallest_read, entry_followed, state_skipped, layer_followed}
+use Rattle.paths.proofs.Following.{histories_more, numbers_length, histories_read, smallest_read, entry_followed, state_skipped, layer_followed}
 
 -- number j of those that were stored
 number_of : (v r : List ℕ) (i : ℕ) (xs : List ℕ) (j : ℕ) → r ≡ stored 4 v i xs → Fit 4 xs → i + 4 * length xs ≤ length v → j < length xs → number_at 4 r (i + 4 * j) ≡ get_or xs j 0
 number_of v r i xs j e F room l =
-    let n : length (stored 4 v i xs) ≡ length v = stored-length 4 v i xs room in
-    ap (λ r. number_at 4 r (i + 4 * j)) e ∙ held_number 4 (stored 4 v i xs) i xs j (stored-held 4 v i xs (omega arith)) F (omega arith) l
+    let n : length (stored 4 v i xs) ≡ length v = stored_length 4 v i xs room in
+    ap (λ r. number_at 4 r (i + 4 * j)) e ∙ held_number 4 (stored 4 v i xs) i xs j (stored_held 4 v i xs (omega arith)) F (omega arith) l
 
 -- numbers j and n + j of them, where histories come to one state more
 added_numbers : (v r : List ℕ) (i : ℕ) (xs : List ℕ) (n j c o : ℕ) → r ≡ stored 4 v i xs → Fit 4 xs → length xs ≡ n + n → i + 4 * (n + n) ≤ length v → j < n
@@ -41,8 +41,8 @@ added_numbers v r i xs n j c o e F l room h =
     let w : number_at 4 r (i + 4 * j + 4 * n) ≡ get_or xs (n + j) 0 = ap (number_at 4 r) p ∙ number_of v r i xs (n + j) e F (omega arith) (omega arith) in
     let m : length (set xs (n + j) y) ≡ length xs = length-set xs (n + j) y in
     ap₂ (λ k y. stored 4 (stored 4 r (i + 4 * j + 4 * n) (y ∷ [])) (i + 4 * j) ((k + c) ∷ [])) q (ap₂ (λ k z. smaller k z o) q w)
-    ∙ ap (λ r. stored 4 r (i + 4 * j) ((x + c) ∷ [])) (ap₂ (λ r k. stored 4 r k (y ∷ [])) e p ∙ stored-set 4 v i xs (n + j) y (omega arith) (omega arith))
-    ∙ stored-set 4 v i (set xs (n + j) y) j (x + c) (omega arith) (omega arith)
+    ∙ ap (λ r. stored 4 r (i + 4 * j) ((x + c) ∷ [])) (ap₂ (λ r k. stored 4 r k (y ∷ [])) e p ∙ stored_set 4 v i xs (n + j) y (omega arith) (omega arith))
+    ∙ stored_set 4 v i (set xs (n + j) y) j (x + c) (omega arith) (omega arith)
 
 -- ---- of a table
 
@@ -52,7 +52,7 @@ module _ (b : List ℕ) (Z : Sound b) where
 
   -- a history of up to T words has 16 bits
   pub power_most : (l : ℕ) → l ≤ frames b → K ^ l ≤ 65536
-  power_most l h = power_fits (inputs b) l (omega (arith, Z.headed.sized.bits-to, mul-le-mul_left (inputs b) h))
+  power_most l h = power_fits (inputs b) l (omega (arith, Z.headed.sized.bits_to, mul-le-mul_left (inputs b) h))
 
   pub words_some : 0 < K
   words_some = one-le-pow (inputs b) 2 (omega arith)
@@ -112,7 +112,7 @@ module _ (b : List ℕ) (Z : Sound b) where
       -- the numbers of its next state still fit
       pub sum_fits : number_at 4 r (histories_at b (suc t) next) + histories K (machine b) t s < 2 ^ 32
       sum_fits =
-          omega (arith, histories_there t (s * K + w) v r room S (suc t) next ht next_in, histories-more K (machine b) t s w hw, histories_most t (s * K + w + 1) (suc t) next ht)
+          omega (arith, histories_there t (s * K + w) v r room S (suc t) next ht next_in, histories_more K (machine b) t s w hw, histories_most t (s * K + w + 1) (suc t) next ht)
 
       pub entry_added : added r (histories_at b (suc t) next) (gap b) (histories K (machine b) t s) (smallest K (machine b) t s * K + w)
           ≡ stored 4 v (reach_head b) (so_far b t (s * K + (w + 1)))
@@ -147,7 +147,7 @@ module _ (b : List ℕ) (Z : Sound b) where
 
   -- numbers that were stored leave the length
   pub kept_length : (v r : List ℕ) (t e : ℕ) → reach_head b + 8 * all_states b ≤ length v → r ≡ stored 4 v (reach_head b) (so_far b t e) → length r ≡ length v
-  kept_length v r t e room S = ap length S ∙ stored-length 4 v (reach_head b) (so_far b t e) (omega (arith, so_far_length t e))
+  kept_length v r t e room S = ap length S ∙ stored_length 4 v (reach_head b) (so_far b t e) (omega (arith, so_far_length t e))
 
   -- and they stand there
   pub following : (v r : List ℕ) (t e : ℕ) → reach_head b + 8 * all_states b ≤ length v → r ≡ stored 4 v (reach_head b) (so_far b t e) → Following b r t e
@@ -156,7 +156,7 @@ module _ (b : List ℕ) (Z : Sound b) where
       record {
         sound = Z;
         room = omega arith;
-        held = subst (λ r. Held 4 r (reach_head b) (so_far b t e)) (sym S) (stored-held 4 v (reach_head b) (so_far b t e) (omega arith));
+        held = subst (λ r. Held 4 r (reach_head b) (so_far b t e)) (sym S) (stored_held 4 v (reach_head b) (so_far b t e) (omega arith));
       }
 
   -- others are stored over them

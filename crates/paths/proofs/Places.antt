@@ -58,7 +58,7 @@ module _ (b : List ℕ) where
     pub from_is : l.from ≡ histories_at b t 0
     pub to_is : l.to ≡ histories_at b (suc t) 0
     pub gap_is : l.gap ≡ gap b
-    pub words-to : l.words ≤ 256
+    pub words_to : l.words ≤ 256
 
   pub layer_is : TableHeaded b → (t : ℕ) (l : Layer) → l ≡ layer_of b t → LayerIs t l
   layer_is H t l e =
@@ -69,15 +69,15 @@ module _ (b : List ℕ) where
         from_is = ap (λ (l : Layer). l.from) e;
         to_is = ap (λ (l : Layer). l.to) e;
         gap_is = ap (λ (l : Layer). l.gap) e;
-        words-to = omega (arith, words_most (inputs b) H.sized.inputs-to);
+        words_to = omega (arith, words_most (inputs b) H.sized.inputs_to);
       }
 
   -- ---- its next states
 
   module _ (t s w : ℕ) where
-    pub next-at : nexts_at b + 2 * entries_below b t + 2 * (s * 2 ^ inputs b) + 2 * w ≡ entry_at b (nexts_at b) t s w
+    pub next_at : nexts_at b + 2 * entries_below b t + 2 * (s * 2 ^ inputs b) + 2 * w ≡ entry_at b (nexts_at b) t s w
     unfolding entry_at
-    next-at = omega arith
+    next_at = omega arith
 
     pub next_inside : TableHeaded b → t < frames b → s < states b t → w < 2 ^ inputs b → entry_at b (nexts_at b) t s w + 2 ≤ length b
     unfolding entry_at

@@ -9,27 +9,27 @@ use lib.Arith.{digits_lt, digits_div, digits_mod}
 use lib.Dec.{T, ltb, eqb}
 use borrow.Author.Tests.{eqb-true, eqb-false, ltb-true, ltb-false, eq-eqb, ne_eqb}
 use Rattle.layered.specs.Search.{least, tally}
-use Rattle.layered.proofs.Search.{least_tells, least_is, least_cong, least_below, tally_cong, tally_some, tally-zero}
+use Rattle.layered.proofs.Search.{least_tells, least_is, least_cong, least_below, tally_cong, tally_some, tally_zero}
 use Rattle.paths.specs.Paths.{smallest_of}
 use Rattle.paths.specs.Progress.{smaller}
 
-pub smallest-none : (n : ℕ) (p : ℕ → Bool) → tally n p ≡ 0 → smallest_of n p ≡ 0
+pub smallest_none : (n : ℕ) (p : ℕ → Bool) → tally n p ≡ 0 → smallest_of n p ≡ 0
 unfolding smallest_of
-smallest-none n p e = rw (eq-eqb (tally n p) 0 e)
+smallest_none n p e = rw (eq-eqb (tally n p) 0 e)
 
-smallest-least : (n : ℕ) (p : ℕ → Bool) → 0 < tally n p → smallest_of n p ≡ least n p
+smallest_least : (n : ℕ) (p : ℕ → Bool) → 0 < tally n p → smallest_of n p ≡ least n p
 unfolding smallest_of
-smallest-least n p l = rw (ne_eqb (tally n p) 0 (λ e. omega arith))
+smallest_least n p l = rw (ne_eqb (tally n p) 0 (λ e. omega arith))
 
 -- it is below n, the test holds of it, and of none before it
 pub smallest_tells : (n : ℕ) (p : ℕ → Bool) → 0 < tally n p → (smallest_of n p < n) × (p (smallest_of n p) ≡ true) × ((i : ℕ) → i < smallest_of n p → p i ≡ false)
 smallest_tells n p l =
     let b = least_below n p l in
     let t = least_tells n p in
-    rw (smallest-least n p l) (b, t.1 b, t.0)
+    rw (smallest_least n p l) (b, t.1 b, t.0)
 
 pub smallest_is : (n a : ℕ) (p : ℕ → Bool) → a < n → p a ≡ true → ((i : ℕ) → i < a → p i ≡ false) → smallest_of n p ≡ a
-smallest_is n a p l t f = smallest-least n p (tally_some n a p l (subst⁻¹ T t tt)) ∙ least_is n a p (omega arith) f (λ h. t)
+smallest_is n a p l t f = smallest_least n p (tally_some n a p l (subst⁻¹ T t tt)) ∙ least_is n a p (omega arith) f (λ h. t)
 
 pub smallest_cong : (n : ℕ) (p q : ℕ → Bool) → ((i : ℕ) → i < n → p i ≡ q i) → smallest_of n p ≡ smallest_of n q
 unfolding smallest_of
@@ -92,7 +92,7 @@ module _ (n : ℕ) (p q : ℕ → Bool) (some : 0 < tally n q) where
     where
       go : (z l : Bool) → eqb (tally n p) 0 ≡ z → ltb (smallest_of n q) (smallest_of n p) ≡ l
           → smallest_of n (λ i. p i || q i) ≡ cond (z || l) (smallest_of n q) (smallest_of n p)
-      go true l e f = other (λ i h. tally-zero n p (eqb-true (tally n p) 0 e) i (omega (arith, (smallest_tells n q some).0)))
+      go true l e f = other (λ i h. tally_zero n p (eqb-true (tally n p) 0 e) i (omega (arith, (smallest_tells n q some).0)))
       go false true e f = other (λ i h. (smallest_tells n p (positive (tally n p) e)).2 i (omega (arith, ltb-true (smallest_of n q) (smallest_of n p) f)))
       go false false e f = known (positive (tally n p) e) (ltb-false (smallest_of n q) (smallest_of n p) f)
 

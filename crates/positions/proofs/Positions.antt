@@ -8,7 +8,7 @@ use lib.Dec.{ltb, leb, eqb}
 use borrow.Author.Tests.{lt-ltb, le-ltb, ltb-false, leb-false, eqb-false}
 use Rattle.verdict.specs.Judgements.{answer, refuse, and_then}
 use Rattle.verdict.specs.declared.Figures.{Figures}
-use Rattle.verdict.proofs.Laws.{both_accept, passed, refuse-then}
+use Rattle.verdict.proofs.Laws.{both_accept, passed, refuse_then}
 use Rattle.sizes.specs.Sizes.{inputs, frames}
 use Rattle.table.specs.Table.{states}
 use Rattle.positions.specs.Positions.{place_checked, position_checked}
@@ -29,7 +29,7 @@ module _ (b : List ℕ) (t s : ℕ) where
       → y ≡ cond (eqb t T) (answer 10 T) (answer 0 0) → z ≡ cond (leb K w) (answer 9 0) (answer 0 0) → r ≡ position_checked b t s w
   unfolding position_checked
   position_stages w T K r x y z eT eK er ex ey ez =
-      er ∙ ap₂ and_then ex (ap₂ and_then ey ez ∙ refuse-then (eqb t T) 10 T _ refl ∙ ap₂ (λ (T K : ℕ). refuse (eqb t T) 10 T (refuse (leb K w) 9 0 (answer 0 0))) eT eK)
+      er ∙ ap₂ and_then ex (ap₂ and_then ey ez ∙ refuse_then (eqb t T) 10 T _ refl ∙ ap₂ (λ (T K : ℕ). refuse (eqb t T) 10 T (refuse (leb K w) 9 0 (answer 0 0))) eT eK)
 
 -- two tests of one judgement are two judgements
 apart : (s t : Bool) (k p : ℕ) (f : Figures) → refuse (s || t) k p f ≡ refuse s k p (refuse t k p f)

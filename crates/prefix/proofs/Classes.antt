@@ -16,8 +16,8 @@ use Rattle.layered.specs.Machines.{Legal}
 use Rattle.layered.proofs.Search.{least_finds, eq-eqb as eq-holds}
 use Rattle.layered.proofs.Lists.{drop-take}
 use Rattle.layered.proofs.Pigeonhole.{pigeonhole}
-use Rattle.layered.proofs.Feeding.{words-length, words_append, words_whole, reached_below}
-use Rattle.layered.proofs.Histories.{history_below, history-words, number-words, words-number}
+use Rattle.layered.proofs.Feeding.{words_length, words_append, words_whole, reached_below}
+use Rattle.layered.proofs.Histories.{history_below, history-words, number_words, words_number}
 use Rattle.circuit.specs.Circuit.{output_words}
 use Rattle.table.specs.Table.{states, machine}
 use Rattle.folded.specs.Theorems.{state_of, Folding}
@@ -32,8 +32,8 @@ module _ (K : ℕ) (t : List ℕ) (k : ℕ) where
   first_to {c} W =
       let b = history_below W in
       let p : ℕ → Bool = λ h. eqb (state_of t (history_words K k h)) (state_of t c) in
-      let f = least_finds (K ^ k) (history_number K 0 c) p (omega (arith, b)) (eq-holds (ap (state_of t) (words-number W))) in
-      ((number-words K k (least (K ^ k) p) (omega (arith, b, f.1))).0, eqb→eq _ _ f.0)
+      let f = least_finds (K ^ k) (history_number K 0 c) p (omega (arith, b)) (eq-holds (ap (state_of t) (words_number W))) in
+      ((number_words K k (least (K ^ k) p) (omega (arith, b, f.1))).0, eqb→eq _ _ f.0)
 
 -- ---- outputs of d, which has the first r of b's T frames
 
@@ -45,18 +45,18 @@ module _
     abbrev rest : List ℕ
     rest = history_words K (T - r) 0
 
-    rest-words : Words K (T - r) rest
-    rest-words = history-words some (T - r) 0
+    rest_words : Words K (T - r) rest
+    rest_words = history-words some (T - r) 0
 
     -- on each sequence of d, by what b gives whatever follows
-    pub first-outputs : {c : List ℕ} → Words K r c → output_words d c ≡ take r (output_words b (c ++ rest))
-    first-outputs {c} W = ap (output_words d) (sym (take_at c rest r (words-length W))) ∙ E (c ++ rest) (words_whole h W rest-words)
+    pub first_outputs : {c : List ℕ} → Words K r c → output_words d c ≡ take r (output_words b (c ++ rest))
+    first_outputs {c} W = ap (output_words d) (sym (take_at c rest r (words_length W))) ∙ E (c ++ rest) (words_whole h W rest_words)
 
     -- behind a history of k words
-    outputs-behind : {k : ℕ} {c e : List ℕ} → k ≤ r → Words K k c → Words K (r - k) e
+    outputs_behind : {k : ℕ} {c e : List ℕ} → k ≤ r → Words K k c → Words K (r - k) e
         → drop k (output_words d (c ++ e)) ≡ take (r - k) (drop k (output_words b (c ++ (e ++ rest))))
-    outputs-behind {k} {c} {e} l W U =
-        ap (drop k) (first-outputs (words_whole l W U))
+    outputs_behind {k} {c} {e} l W U =
+        ap (drop k) (first_outputs (words_whole l W U))
         ∙ drop-take k r (output_words b ((c ++ e) ++ rest))
         ∙ ap (λ x. take (r - k) (drop k (output_words b x))) (append_assoc c e rest)
 
@@ -67,8 +67,8 @@ module _
       pub one_state : (k : ℕ) (c e : List ℕ) → k ≤ r → Words K k c → Words K k e → state_of t c ≡ state_of t e → state_of s c ≡ state_of s e
       one_state k c e l W U q =
           (G.apart k c e l W U).1 (λ x X.
-          let Y : Words K (T - k) (x ++ rest) = subst (λ i. Words K i (x ++ rest)) (omega arith) (words_append X rest-words) in
-          outputs-behind l W X ∙ ap (take (r - k)) ((F.apart k c e (omega arith) W U).0 q (x ++ rest) Y) ∙ sym (outputs-behind l U X))
+          let Y : Words K (T - k) (x ++ rest) = subst (λ i. Words K i (x ++ rest)) (omega arith) (words_append X rest_words) in
+          outputs_behind l W X ∙ ap (take (r - k)) ((F.apart k c e (omega arith) W U).0 q (x ++ rest) Y) ∙ sym (outputs_behind l U X))
 
       pub unions : (k x : ℕ) → k ≤ r → (joined : ℕ → Bool) × ((c : List ℕ) → Words K k c → (state_of s c ≡ x) ↔ (joined (state_of t c) ≡ true))
       unions k x l = (

@@ -11,7 +11,7 @@ use Rattle.layered.specs.States.{Words, none, more}
 use Rattle.circuit.specs.Examples.{silent, delayed}
 use Rattle.circuit.specs.Circuit.{connected_outputs, output_words}
 use Rattle.folded.specs.Theorems.{state_of, Folding}
-use Rattle.folded.proofs.Wrong.{given, next_output_alone, silent-same}
+use Rattle.folded.proofs.Wrong.{given, next_output_alone, silent_same}
 use Rattle.prefix.specs.FirstFrames.{FirstFrames}
 
 connected_alike : (k : ℕ) → k < 2 → connected_outputs (word_bytes silent) k ≡ connected_outputs (word_bytes delayed) k
@@ -24,16 +24,16 @@ given_alike : (c : List ℕ) → Words 2 3 c → output_words (word_bytes silent
 unfolding given silent delayed
 given_alike c (more l (more k (more j none))) = refl
 
-pub silent-first : FirstFrames (word_bytes delayed) (word_bytes silent)
+pub silent_first : FirstFrames (word_bytes delayed) (word_bytes silent)
 unfolding given silent delayed
-silent-first = record {
+silent_first = record {
   same_inputs = refl;
-  same-outputs = refl;
+  same_outputs = refl;
   no_longer = lit≤ tt;
-  same-connected = connected_alike;
-  same-words = given_alike;
+  same_connected = connected_alike;
+  same_words = given_alike;
 }
 
 pub other_way : (t s : List ℕ) → Folding 2 1 3 (word_bytes delayed) t → Folding 2 1 2 (word_bytes silent) s
     → ¬ ((k : ℕ) (c d : List ℕ) → k ≤ 2 → Words 2 k c → Words 2 k d → state_of s c ≡ state_of s d → state_of t c ≡ state_of t d)
-other_way t s F G R = next_output_alone t (R 1 (0 ∷ []) (1 ∷ []) (lit≤ tt) (more (lit< tt) none) (more (lit< tt) none) (silent-same s G)) F
+other_way t s F G R = next_output_alone t (R 1 (0 ∷ []) (1 ∷ []) (lit≤ tt) (more (lit< tt) none) (more (lit< tt) none) (silent_same s G)) F

@@ -8,9 +8,9 @@ use Rattle.circuit.specs.Circuit.{connected_outputs, output_words}
 pub record FirstFrames (b d : List ℕ) : Type 0 where
   -- as many inputs and outputs a frame, and no more frames
   pub same_inputs : inputs d ≡ inputs b
-  pub same-outputs : outputs d ≡ outputs b
+  pub same_outputs : outputs d ≡ outputs b
   pub no_longer : frames d ≤ frames b
   -- in the frames of d the same outputs are connected
-  pub same-connected : (k : ℕ) → k < frames d → connected_outputs d k ≡ connected_outputs b k
+  pub same_connected : (k : ℕ) → k < frames d → connected_outputs d k ≡ connected_outputs b k
   -- on every sequence of b, d gives what b gives in these frames
-  pub same-words : (c : List ℕ) → Words (2 ^ inputs b) (frames b) c → output_words d (take (frames d) c) ≡ take (frames d) (output_words b c)
+  pub same_words : (c : List ℕ) → Words (2 ^ inputs b) (frames b) c → output_words d (take (frames d) c) ≡ take (frames d) (output_words b c)

@@ -25,13 +25,13 @@ unfolding Quoted price risen rise states_cents state_cents total
 quoted = (refl, refl)
 
 -- no fewer frames, and as many states at each layer that both charge: so as many charged states
-more-charged : (b d : List ℕ) → frames b ≤ frames d → ((t : ℕ) → t < frames b → states b t ≤ states d t) → charged b ≤ charged d
+more_charged : (b d : List ℕ) → frames b ≤ frames d → ((t : ℕ) → t < frames b → states b t ≤ states d t) → charged b ≤ charged d
 unfolding charged states_below
-more-charged b d f h = le_trans (total_mono (frames b) (states b) (states d) h) (total_le (frames b) (frames d) (states d) f)
+more_charged b d f h = le_trans (total_mono (frames b) (states b) (states d) h) (total_le (frames b) (frames d) (states d) f)
 
 pub costs_no_less : (b d : List ℕ) (p q : ℕ) → checked b ≡ answer 0 p → checked d ≡ answer 0 q → frames b ≤ frames d → ((t : ℕ) → t < frames b → states b t ≤ states d t)
     → (priced b).cents ≤ (priced d).cents
-costs_no_less b d p q e g f h = rw (cents_are b p e, cents_are d q g) (price_le (frames b) (frames d) (charged b) (charged d) f (more-charged b d f h))
+costs_no_less b d p q e g f h = rw (cents_are b p e, cents_are d q g) (price_le (frames b) (frames d) (charged b) (charged d) f (more_charged b d f h))
 
 pub never_falls : (b : List ℕ) → NeverFalls b
 unfolding NeverFalls
@@ -42,5 +42,5 @@ unfolding FoldedCheapest NeverFalls AcceptedCausal
 folded_cheapest b c p q e g i o f G =
     let F = folding c (causal c p e) (circuit_sized c p e) in
     let L : Legal (2 ^ inputs c) (outputs c) (frames c) (machine b) = subst₃ (λ n m T. Legal (2 ^ n) m T (machine b)) i o f (sound b q g).legal in
-    let s : frames (folded_bytes c) ≡ frames c = F.same-frames in
+    let s : frames (folded_bytes c) ≡ frames c = F.same_frames in
     (F.legal, never_falls (folded_bytes c) b 0 q F.legal g (f ∙ sym s) (λ t h. F.fewest (machine b) L G t (omega arith)))

@@ -14,7 +14,7 @@ use Rattle.verdict.proofs.Laws.{never, accepts}
 use Rattle.table.specs.Sound.{TableHeaded}
 use Rattle.table.proofs.Accepted.{sound}
 use Rattle.folded.specs.Folded.{folded_bytes, fold_checked, fold_result}
-use Rattle.folded.proofs.Outcomes.{accepted, written-bytes}
+use Rattle.folded.proofs.Outcomes.{accepted, written_bytes}
 use Rattle.fold.specs.Fold.{Promised}
 use Rattle.report.specs.Report.{table_lines, refusal_line, Appended}
 use Rattle.report.proofs.Appending.{append_front}
@@ -53,7 +53,7 @@ module _ (b : List ℕ) (x : Verdict) (answers : figures x ≡ fold_checked b sc
 
     module _ (before : List ℕ) (lent : length before ≡ result_lent) (result : List ℕ) (left : result ≡ fold_result b scratch_lent nodes_lent before) where
       wrote : take w result ≡ folded_bytes b
-      wrote = ap (take w) left ∙ written-bytes b before scratch_lent nodes_lent w (rw lent (accepts x _ w answers accepts-it))
+      wrote = ap (take w) left ∙ written_bytes b before scratch_lent nodes_lent w (rw lent (accepts x _ w answers accepts-it))
 
       pub prints_table : {out out' : List ℕ} {n : ℕ} → Appended out 0 (table_lines (take w result)) out' n
           → (n ≡ length (program_lines b)) × ((out' ≡ program_lines b ++ drop n out) × (n ≤ length out))

@@ -64,7 +64,7 @@ module _ (b ws : List ℕ) where
 
   pub quiet_steps : QuietSteps b ws
   unfolding QuietSteps quiet_steps_by steps_by all_accepted left_at outputs_of silenced words_of feed reached
-  quiet_steps p [] h = record { accepted = tt; position_same = refl; position_is = ap (λ (k : ℕ). at k p.state) (sym (add-zero p.layer)); outputs-silenced = refl; outputs_are = refl }
+  quiet_steps p [] h = record { accepted = tt; position_same = refl; position_is = ap (λ (k : ℕ). at k p.state) (sym (add-zero p.layer)); outputs_silenced = refl; outputs_are = refl }
   quiet_steps p (i ∷ is) h =
       let t = p.layer in
       let s = p.state in
@@ -78,7 +78,7 @@ module _ (b ws : List ℕ) where
         accepted = rw a.1 r.accepted;
         position_same = rw (a.0, a.1) r.position_same;
         position_is = rw a.1 (r.position_is ∙ ap (λ (k : ℕ). at k (reached (machine b) (suc t) n (words_of is))) k);
-        outputs-silenced = rw (a.0, a.1) (ap (λ (l : List ℕ). cond (is_quiet ws i.minute) 0 ((machine b).out t s w) ∷ l) r.outputs-silenced);
+        outputs_silenced = rw (a.0, a.1) (ap (λ (l : List ℕ). cond (is_quiet ws i.minute) 0 ((machine b).out t s w) ∷ l) r.outputs_silenced);
         outputs_are = rw a.1 (ap (λ (l : List ℕ). (machine b).out t s w ∷ l) r.outputs_are);
       }
 

@@ -54,7 +54,7 @@ pub record AsPlain (b windows : List ℕ) (p : Position) (is : List TimedWord) :
   -- it is the one that the table's machine moves to, fed the words
   pub position_is : left_at p (steps_by b p (words_of is)) ≡ record { layer = p.layer + length is; state = reached (machine b) p.layer p.state (words_of is) }
   -- each output is the plain step's, or 0 where its minute is quiet
-  pub outputs-silenced : outputs_of (quiet_steps_by b windows p is) ≡ silenced windows is (outputs_of (steps_by b p (words_of is)))
+  pub outputs_silenced : outputs_of (quiet_steps_by b windows p is) ≡ silenced windows is (outputs_of (steps_by b p (words_of is)))
   -- and the plain steps' are those that the machine yields
   pub outputs_are : outputs_of (steps_by b p (words_of is)) ≡ feed (machine b) p.layer p.state (words_of is)
 

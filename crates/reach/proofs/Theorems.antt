@@ -13,8 +13,8 @@ use Rattle.layered.specs.States.{Words}
 use Rattle.layered.specs.Histories.{history_words, history_number}
 use Rattle.layered.proofs.Search.{tally_some, tally_nowhere}
 use Rattle.layered.proofs.Lists.{total_cong, total_each, total_swap, tally_once}
-use Rattle.layered.proofs.Feeding.{words-length}
-use Rattle.layered.proofs.Histories.{number-words, history_below, words-number}
+use Rattle.layered.proofs.Feeding.{words_length}
+use Rattle.layered.proofs.Histories.{number_words, history_below, words_number}
 use Rattle.layered.proofs.Rows.{pow-mul}
 use Rattle.table.specs.Table.{states, machine}
 use Rattle.table.specs.Sound.{Sound}
@@ -23,7 +23,7 @@ use Rattle.folded.specs.Theorems.{state_of, Smallest, Folding, Foldings}
 use Rattle.folded.proofs.Theorems.{foldings}
 use Rattle.paths.specs.Paths.{leads_to, leads, histories, smallest}
 use Rattle.reach.specs.Theorems.{Reach, FoldedReach, Reaches, FoldedReaches}
-use Rattle.paths.proofs.Smallest.{smallest-none, smallest_tells}
+use Rattle.paths.proofs.Smallest.{smallest_none, smallest_tells}
 use Rattle.paths.proofs.Leading.{leads_below}
 use Rattle.reach.proofs.Bytes.{written}
 
@@ -39,16 +39,16 @@ module _ (b : List ℕ) where
 
   state_leads : {t : ℕ} {c : List ℕ} → Words K t c → leads_to K (machine b) t (history_number K 0 c) ≡ state_of b c
   unfolding leads_to state_of
-  state_leads W = ap (state_of b) (words-number W)
+  state_leads W = ap (state_of b) (words_number W)
 
   -- a history that leads to a state makes it reached
   reached : {t : ℕ} {c : List ℕ} → Words K t c → 0 < histories K (machine b) t (state_of b c)
   unfolding histories leads
   reached {t} {c} W = tally_some (K ^ t) (history_number K 0 c) (λ h. eqb (leads_to K (machine b) t h) (state_of b c)) (history_below W) (subst⁻¹ Yes (eq-eqb _ _ (state_leads W)) tt)
 
-  none-smaller : (t : ℕ) (c : List ℕ) → Words K t c → smallest K (machine b) t (state_of b c) ≤ history_number K 0 c
+  none_smaller : (t : ℕ) (c : List ℕ) → Words K t c → smallest K (machine b) t (state_of b c) ≤ history_number K 0 c
   unfolding smallest histories leads
-  none-smaller t c W =
+  none_smaller t c W =
       let p : ℕ → _ = λ h. eqb (leads_to K (machine b) t h) (state_of b c) in
       let n : ¬ (history_number K 0 c < smallest K (machine b) t (state_of b c)) =
       λ l. eqb-false _ _ ((smallest_tells (K ^ t) p (reached W)).2 (history_number K 0 c) l) (state_leads W) in
@@ -58,19 +58,19 @@ module _ (b : List ℕ) where
   unfolding smallest histories leads
   leads_there t s l =
       let (k, e, f) = smallest_tells (K ^ t) (λ h. eqb (leads_to K (machine b) t h) s) l in
-      let (W, n) = number-words K t _ k in
+      let (W, n) = number_words K t _ k in
       (history_words K t (smallest K (machine b) t s), W, sym (leads_state t _) ∙ eqb-true _ s e, n)
 
   unreached : (t s : ℕ) → (histories K (machine b) t s ≡ 0) ↔ ((c : List ℕ) → Words K t c → state_of b c ≡ s → ⊥)
   unfolding histories leads
   unreached t s = (
     (λ z c W e. omega (arith, reached W, ap (histories K (machine b) t) e)),
-    (λ n. tally_nowhere (K ^ t) (λ h. eqb (leads_to K (machine b) t h) s) (λ h l. ne_eqb _ s (λ e. n (history_words K t h) (number-words K t h l).0 (sym (leads_state t h) ∙ e)))),
+    (λ n. tally_nowhere (K ^ t) (λ h. eqb (leads_to K (machine b) t h) s) (λ h l. ne_eqb _ s (λ e. n (history_words K t h) (number_words K t h l).0 (sym (leads_state t h) ∙ e)))),
   )
 
   unreached_zero : (t s : ℕ) → histories K (machine b) t s ≡ 0 → smallest K (machine b) t s ≡ 0
   unfolding smallest histories
-  unreached_zero t s z = smallest-none (K ^ t) _ z
+  unreached_zero t s z = smallest_none (K ^ t) _ z
 
   -- ---- of a table that is accepted
 
@@ -92,7 +92,7 @@ module _ (b : List ℕ) where
       unreached = unreached;
       unreached_zero = unreached_zero;
       leads_there = leads_there;
-      none-smaller = none-smaller;
+      none_smaller = none_smaller;
     }
 
   -- ---- of a folded table
@@ -104,11 +104,11 @@ module _ (b : List ℕ) where
         subst (λ s. 0 < histories K (machine b) t s) e (reached W)
 
     -- the words of a state's smallest history are its smallest
-    smallest-words : (t s : ℕ) {c : List ℕ} → Words K t c → state_of b c ≡ s → history_number K 0 c ≡ smallest K (machine b) t s → Smallest K b c
+    smallest_words : (t s : ℕ) {c : List ℕ} → Words K t c → state_of b c ≡ s → history_number K 0 c ≡ smallest K (machine b) t s → Smallest K b c
     unfolding Smallest
-    smallest-words t s {c} W e n d D f =
-        let D' : Words K t d = subst (λ k. Words K k d) (words-length W) D in
-        omega (arith, none-smaller t d D', ap (smallest K (machine b) t) (f ∙ e))
+    smallest_words t s {c} W e n d D f =
+        let D' : Words K t d = subst (λ k. Words K k d) (words_length W) D in
+        omega (arith, none_smaller t d D', ap (smallest K (machine b) t) (f ∙ e))
 
     ascending : (t r s : ℕ) → t ≤ frames b → r < s → s < states b t → smallest K (machine b) t r < smallest K (machine b) t s
     ascending t r s h l k =
@@ -116,10 +116,10 @@ module _ (b : List ℕ) where
         let (d, U, f, m) = leads_there t s (every_state t s h k) in
         let apart : ¬ (smallest K (machine b) t r ≡ smallest K (machine b) t s) =
         λ q.
-        let same : c ≡ d = sym (words-number W) ∙ ap (history_words K t) (n ∙ q ∙ sym m) ∙ words-number U in
+        let same : c ≡ d = sym (words_number W) ∙ ap (history_words K t) (n ∙ q ∙ sym m) ∙ words_number U in
         omega (arith, sym e ∙ ap (state_of b) same ∙ f) in
         let before : ¬ (smallest K (machine b) t s < smallest K (machine b) t r) =
-        λ q. omega (arith, F.in_order t d c (omega arith) U W (smallest-words t s U f m) (smallest-words t r W e n) (omega arith)) in
+        λ q. omega (arith, F.in_order t d c (omega arith) U W (smallest_words t s U f m) (smallest_words t r W e n) (omega arith)) in
         omega arith
 
     folded_reach : FoldedReach b
@@ -133,4 +133,4 @@ pub folded_reaches : (b : List ℕ) → FoldedReaches b
 unfolding FoldedReaches Foldings
 folded_reaches b d before room nodes p e q =
     let F = subst (Folding (2 ^ inputs d) (outputs d) (frames d) d) (sym q) (foldings d before room nodes p e).0 in
-    folded_reach b (outputs d) (frames d) d (subst (λ n. Folding (2 ^ n) (outputs d) (frames d) d b) (sym F.same_inputs) F) F.same-frames
+    folded_reach b (outputs d) (frames d) d (subst (λ n. Folding (2 ^ n) (outputs d) (frames d) d b) (sym F.same_inputs) F) F.same_frames

@@ -19,10 +19,10 @@ module _ (b : List ℕ) where
   -- the bytes, as they are read: none of the numbers is too large for its word
   pub record Written : Type 0 where
     pub length_is : length (reach_bytes b) ≡ reach_head b + 8 * all_states b
-    pub frames-at : word_at (reach_bytes b) 0 ≡ frames b
-    pub states-at : (t : ℕ) → t ≤ frames b → word_at (reach_bytes b) (2 + 2 * t) ≡ states b t
+    pub frames_at : word_at (reach_bytes b) 0 ≡ frames b
+    pub states_at : (t : ℕ) → t ≤ frames b → word_at (reach_bytes b) (2 + 2 * t) ≡ states b t
     pub histories-at : (t s : ℕ) → t ≤ frames b → s < states b t → number_at 4 (reach_bytes b) (histories_at b t s) ≡ histories_to b t s
-    pub smallest-at : (t s : ℕ) → t ≤ frames b → s < states b t → number_at 4 (reach_bytes b) (histories_at b t s + gap b) ≡ smallest_to b t s
+    pub smallest_at : (t s : ℕ) → t ≤ frames b → s < states b t → number_at 4 (reach_bytes b) (histories_at b t s + gap b) ≡ smallest_to b t s
 
   pub record Reach : Type 0 where
     pub written : Written
@@ -35,7 +35,7 @@ module _ (b : List ℕ) where
     pub leads_there : (t s : ℕ) → 0 < histories_to b t s
         → (c : List ℕ) × Words K t c × (state_of b c ≡ s) × (history_number K 0 c ≡ smallest_to b t s)
     -- and no smaller one does
-    pub none-smaller : (t : ℕ) (c : List ℕ) → Words K t c → smallest_to b t (state_of b c) ≤ history_number K 0 c
+    pub none_smaller : (t : ℕ) (c : List ℕ) → Words K t c → smallest_to b t (state_of b c) ≤ history_number K 0 c
 
   -- where b is what folding a circuit d wrote: every state is reached, and smallest histories ascend with the state's number
   pub record FoldedReach : Type 0 where

@@ -53,9 +53,9 @@ module _ (ns : List Node) (i : ℕ) (x : Node) (two : 2 ≤ i) (h : i - 2 < leng
       small (suc zero) = inl (omega arith)
       small (suc (suc f)) = inr (omega arith)
 
-  pub stored-added : Added (nodes_in ns) (nodes_in (set ns (i - 2) x)) i x.level x.low x.high
+  pub stored_added : Added (nodes_in ns) (nodes_in (set ns (i - 2) x)) i x.level x.low x.high
   unfolding nodes_in
-  stored-added = record {
+  stored_added = record {
     here_level = ap (λ x. x.level) stored_here;
     here_low = ap (λ x. x.low) stored_here;
     here_high = ap (λ x. x.high) stored_here;

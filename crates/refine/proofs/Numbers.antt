@@ -8,16 +8,16 @@ use native.Mathlib.Numerals.{add-one}
 use native.Mathlib.Omega.{arith}
 use lib.Dec.{T}
 use Rattle.layered.specs.Search.{least, tally}
-use Rattle.layered.proofs.Search.{eq-eqb, tally-more, tally-none, tally_at_most, tally_lt, least_finds, least_here, least-none, search_below}
+use Rattle.layered.proofs.Search.{eq-eqb, tally_more, tally_none, tally_at_most, tally_lt, least_finds, least_here, least_none, search_below}
 use Rattle.diagrams.specs.Numbering.{first_same, is_new, number_same, count_same}
 use Rattle.diagrams.proofs.Numbering.{first_le, new_own}
 
 -- ---- the least of which a test holds
 
-least-holds : (n : ℕ) (p : ℕ → Bool) → least n p < n → T (p (least n p))
-least-holds n p l =
+least_holds : (n : ℕ) (p : ℕ → Bool) → least n p < n → T (p (least n p))
+least_holds n p l =
     ⊎_elim (λ (w : (i : ℕ) × (i < n) × T (p i)). (least_finds n w.0 p (omega arith) w.2).0)
-    (λ (none : (i : ℕ) → i < n → T (p i) → ⊥). absurd (omega (arith, least-none n p none)))
+    (λ (none : (i : ℕ) → i < n → T (p i) → ⊥). absurd (omega (arith, least_none n p none)))
     (search_below n p)
 
 -- ---- numbers
@@ -38,12 +38,12 @@ module _ (same : ℕ → ℕ → Bool) where
   -- a new one has the next number
   pub new_number : (c : ℕ) → first_same same c ≡ c → (number_same same c ≡ count_same same c) × (count_same same (c + 1) ≡ count_same same c + 1)
   unfolding number_same count_same
-  new_number c e = (ap (λ g. tally g (is_new same)) e, rw (add-one c, add-one (tally c (is_new same))) (tally-more (is_new same) c (first_new c e)))
+  new_number c e = (ap (λ g. tally g (is_new same)) e, rw (add-one c, add-one (tally c (is_new same))) (tally_more (is_new same) c (first_new c e)))
 
   -- one that is not new adds no number
   pub later_count : (c : ℕ) → first_same same c < c → count_same same (c + 1) ≡ count_same same c
   unfolding count_same
-  later_count c l = rw (add-one c) (tally-none (is_new same) c (λ t. omega (arith, new_own same c t)))
+  later_count c l = rw (add-one c) (tally_none (is_new same) c (λ t. omega (arith, new_own same c t)))
 
   module _ (on : Transitive same) where
     -- the first that is the same as one is new
@@ -54,8 +54,8 @@ module _ (same : ℕ → ℕ → Bool) where
         (λ (e : first_same same c ≡ c). ap (first_same same) e)
         (λ (l : first_same same c < c).
         let p : ℕ → Bool = λ k. same k c in
-        let t : T (p (least c p)) = least-holds c p l in
-        least-none (least c p) _ (λ k b s. omega (arith, (least_finds c k p (omega arith) (on k (least c p) c s t)).1)))
+        let t : T (p (least c p)) = least_holds c p l in
+        least_none (least c p) _ (λ k b s. omega (arith, (least_finds c k p (omega arith) (on k (least c p) c s t)).1)))
         (eq-or-lt_of_le (first_le same c))
 
     -- one that is not new has the number of the first that is the same
@@ -73,7 +73,7 @@ module _ (same : ℕ → ℕ → Bool) where
     unfolding first_same
     none_first c none =
         ⊎_elim (λ (e : first_same same c ≡ c). sym e)
-        (λ (b : first_same same c < c). absurd (none _ b (first_new _ (first-first c)) (least-holds c (λ k. same k c) b)))
+        (λ (b : first_same same c < c). absurd (none _ b (first_new _ (first-first c)) (least_holds c (λ k. same k c) b)))
         (eq-or-lt_of_le (first_le same c))
 
     -- a new one before c that is the same is the first

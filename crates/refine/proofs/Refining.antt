@@ -62,9 +62,9 @@ pub record Numbered (s₀ s w : List ℕ) (rows : Rows) (c fresh : ℕ) : Type 0
   pub kept : (j : ℕ) → Outside rows.copy c j → Outside rows.numbers c j → get_or s j 0 ≡ get_or s₀ j 0
   pub long : length s ≡ length s₀
 
-pub numbered-none : (s w : List ℕ) (rows : Rows) → Numbered s s w rows 0 0
+pub numbered_none : (s w : List ℕ) (rows : Rows) → Numbered s s w rows 0 0
 unfolding count_same tally
-numbered-none s w rows = record {
+numbered_none s w rows = record {
   copied = λ d l. absurd (omega arith);
   numbered = λ d l. absurd (omega arith);
   counted = refl;
@@ -72,8 +72,8 @@ numbered-none s w rows = record {
   long = refl;
 }
 
-pub numbered-all : (s₀ s w : List ℕ) (rows : Rows) (c fresh : ℕ) → c ≡ rows.count → Numbered s₀ s w rows c fresh → Refined s₀ s w rows fresh
-numbered-all s₀ s w rows c fresh e N = record {
+pub numbered_all : (s₀ s w : List ℕ) (rows : Rows) (c fresh : ℕ) → c ≡ rows.count → Numbered s₀ s w rows c fresh → Refined s₀ s w rows fresh
+numbered_all s₀ s w rows c fresh e N = record {
   numbered = λ d l. N.numbered d (omega arith);
   counted = N.counted ∙ ap (count_same (same_row (number_in s₀ rows) w rows)) e;
   kept = λ j o p. N.kept j (λ l. omega (arith, o l)) (λ l. omega (arith, p l));

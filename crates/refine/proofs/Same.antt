@@ -7,7 +7,7 @@ use native.Mathlib.Numerals.{add-one}
 use native.Mathlib.Omega.{arith}
 use lib.Dec.{T, eqb, eqb→eq}
 use Rattle.layered.specs.Search.{every}
-use Rattle.layered.proofs.Search.{both, eq-eqb, every-all, all-every}
+use Rattle.layered.proofs.Search.{both, eq-eqb, every_all, all_every}
 use Rattle.refine.specs.Limits.{bucket_count, hash_factor}
 use Rattle.refine.specs.Rows.{part_in, same_row}
 use Rattle.refine.specs.Buckets.{hash_to, row_hash}
@@ -39,13 +39,13 @@ module _ (before : ℕ → ℕ) (w : List ℕ) (rows : Rows) where
   unfolding same_row
   row_parts d c t =
       let b = (both (eqb (before d) (before c)) (every rows.parts (λ i. eqb (part_in w rows d i) (part_in w rows c i)))).0 t in
-      (eqb→eq _ _ b.0, λ i l. eqb→eq _ _ (every-all (λ i. eqb (part_in w rows d i) (part_in w rows c i)) rows.parts b.1 i l))
+      (eqb→eq _ _ b.0, λ i l. eqb→eq _ _ (every_all (λ i. eqb (part_in w rows d i) (part_in w rows c i)) rows.parts b.1 i l))
 
   pub parts_row : (d c : ℕ) → before d ≡ before c → ((i : ℕ) → i < rows.parts → Alike d c i) → T (same_row before w rows d c)
   unfolding same_row
   parts_row d c e f =
       (both (eqb (before d) (before c)) (every rows.parts (λ i. eqb (part_in w rows d i) (part_in w rows c i)))).1
-      (eq-eqb e, all-every (λ i. eqb (part_in w rows d i) (part_in w rows c i)) rows.parts (λ i l. eq-eqb (f i l)))
+      (eq-eqb e, all_every (λ i. eqb (part_in w rows d i) (part_in w rows c i)) rows.parts (λ i l. eq-eqb (f i l)))
 
   hash_equal : (d c i : ℕ) → i ≤ rows.parts → T (same_row before w rows d c) → hash_to (before d) (part_in w rows d) i ≡ hash_to (before c) (part_in w rows c) i
   unfolding hash_to

@@ -27,8 +27,8 @@ digit_next k L c r i rest x pos l m er ex D e a b = ⊎_elim at past (eq-or-lt_o
     past : i - 1 < e → get_or (set r (i - 1) x) e 0 ≡ c / k ^ (L - suc e) % k
     past q = get_or-set_other r (i - 1) e x 0 (λ z. omega arith) ∙ D e (omega arith) b
 
-pub rest-next : (k L c i rest : ℕ) → 0 < i → i ≤ L → rest ≡ c / k ^ (L - i) → rest / k ≡ c / k ^ (L - (i - 1))
-rest-next k L c i rest pos l er =
+pub rest_next : (k L c i rest : ℕ) → 0 < i → i ≤ L → rest ≡ c / k ^ (L - i) → rest / k ≡ c / k ^ (L - (i - 1))
+rest_next k L c i rest pos l er =
     let j : suc (L - i) ≡ L - (i - 1) = omega arith in
     ap (λ y. y / k) er ∙ div-div-eq-div-mul c (k ^ (L - i)) k ∙ ap (λ d. c / d) (sym (pow-suc k (L - i)) ∙ ap (λ j. k ^ j) j)
 

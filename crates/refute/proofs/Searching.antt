@@ -32,9 +32,9 @@ pub digits_same : (k L c : ℕ) (r : List ℕ) → Digits k L c r → Same L (λ
 unfolding Same
 digits_same k L c r D = D
 
-pub digits-chosen : (a : Sought) (c : ℕ) (r : List ℕ) → 0 < a.states → a.entries ≤ length r → Digits a.states a.entries c r → Candidate a r
+pub digits_chosen : (a : Sought) (c : ℕ) (r : List ℕ) → 0 < a.states → a.entries ≤ length r → Digits a.states a.entries c r → Candidate a r
 unfolding InOrder
-digits-chosen a c r pos l D = record { long = l; small = λ e b. subst (λ x. x < a.states) (sym (D e b)) ((in_order_all a.states a.entries pos).digits_below c e) }
+digits_chosen a c r pos l D = record { long = l; small = λ e b. subst (λ x. x < a.states) (sym (D e b)) ((in_order_all a.states a.entries pos).digits_below c e) }
 
 module _ (B : Target) where
   contradicted_same : (f g : ℕ → ℕ) (p : ℕ) → Same p f g → Contradicted B f p → Contradicted B g p

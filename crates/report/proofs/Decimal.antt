@@ -27,13 +27,13 @@ unfolding decimal digits
 one_digit n h = rw (lt-ltb n 10 h)
 
 -- a longer number is its tenth part, and then the last digit
-pub more-digits : (n : ℕ) → 10 ≤ n → decimal n ≡ decimal (n / 10) ++ ((48 + n % 10) ∷ [])
+pub more_digits : (n : ℕ) → 10 ≤ n → decimal n ≡ decimal (n / 10) ++ ((48 + n % 10) ∷ [])
 unfolding decimal digits
-more-digits n h = rw (le-ltb n 10 h) (ap (λ (d : List ℕ). d ++ ((48 + n % 10) ∷ [])) (enough n (suc (n / 10)) (n / 10) (omega arith) (omega arith)))
+more_digits n h = rw (le-ltb n 10 h) (ap (λ (d : List ℕ). d ++ ((48 + n % 10) ∷ [])) (enough n (suc (n / 10)) (n / 10) (omega arith) (omega arith)))
 
 -- so it has one digit more
 pub one_more : (n : ℕ) → 10 ≤ n → length (decimal n) ≡ length (decimal (n / 10)) + 1
-one_more n h = rw (more-digits n h, length-append)
+one_more n h = rw (more_digits n h, length-append)
 
 -- a number below 10^(k + 1) has at most k + 1 digits
 pub digits_most : (k n : ℕ) → n < 10 ^ suc k → length (decimal n) ≤ suc k

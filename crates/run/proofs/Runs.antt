@@ -18,7 +18,7 @@ use Rattle.sizes.specs.Limits.{most_outputs}
 use Rattle.sizes.specs.Sized.{Fed}
 use Rattle.sizes.proofs.Laws.{fed}
 use Rattle.layered.specs.Machines.{Machine, feed, Gives}
-use Rattle.layered.proofs.Feeding.{sequence, words-length, feed-length}
+use Rattle.layered.proofs.Feeding.{sequence, words_length, feed_length}
 use Rattle.layered.proofs.Agreement.{masked_gives}
 use Rattle.table.specs.Table.{machine, checked}
 use Rattle.table.specs.Sound.{Sound}
@@ -32,7 +32,7 @@ run_feeds b words room p e =
     let s = both_accept (checked b) (sequence_checked (inputs b) (frames b) words room) p e in
     let f = fed (inputs b) (frames b) words room p s.2 in
     let r = sequence (2 ^ inputs b) (frames b) words f.0.as_many f.0.below in
-    (r, f.2, feed-length (machine b) 0 0 words ∙ words-length r ∙ sym f.2)
+    (r, f.2, feed_length (machine b) 0 0 words ∙ words_length r ∙ sym f.2)
 
 -- ---- a mask of all ones
 
@@ -40,25 +40,25 @@ all_ones : (x m : ℕ) → x < 2 ^ m → m ≤ most_outputs → bit_and x 65535 
 all_ones x m h l = and_mask x 16 ∙ mod-eq_of_lt (lt_of_lt_of_le h (pow_mono {j = 16} l))
 
 -- it shows what a run gives
-shown-all : (b words : List ℕ) → Sound b → Fed (inputs b) (frames b) words → shown b 65535 words ≡ feed (machine b) 0 0 words
+shown_all : (b words : List ℕ) → Sound b → Fed (inputs b) (frames b) words → shown b 65535 words ≡ feed (machine b) 0 0 words
 unfolding Gives
-shown-all b words S f =
-    masked_gives (λ _. 65535) (machine b) S.legal (λ t s w h l k. all_ones ((machine b).out t s w) (outputs b) (S.legal.out_is t s w h l k) S.headed.sized.outputs-to)
+shown_all b words S f =
+    masked_gives (λ _. 65535) (machine b) S.legal (λ t s w h l k. all_ones ((machine b).out t s w) (outputs b) (S.legal.out_is t s w h l k) S.headed.sized.outputs_to)
     (feed (machine b) 0 0) (λ c W. refl) words (sequence (2 ^ inputs b) (frames b) words f.as_many f.below)
 
 -- ---- a run, word by word
 
 -- one output more is stored, and the machine goes on from where it moved to
-pub feed-more : (M : Machine) (words r : List ℕ) (t s o s' : ℕ) → t < length words → t < length r → o ≡ M.out t s (get_or words t 0) → s' ≡ M.next t s (get_or words t 0)
+pub feed_more : (M : Machine) (words r : List ℕ) (t s o s' : ℕ) → t < length words → t < length r → o ≡ M.out t s (get_or words t 0) → s' ≡ M.next t s (get_or words t 0)
     → feed M 0 0 words ≡ take t r ++ feed M t s (drop t words) → feed M 0 0 words ≡ take (t + 1) (set r t o) ++ feed M (t + 1) s' (drop (t + 1) words)
 unfolding feed
-feed-more M words r t s o s' hw hr eo es e = e ∙ rw (add-one, drop-cons words t 0 hw, take-suc-set r t o hr, eo, es, append_snoc)
+feed_more M words r t s o s' hw hr eo es e = e ∙ rw (add-one, drop-cons words t 0 hw, take-suc-set r t o hr, eo, es, append_snoc)
 
 -- after the last word
-pub feed-all : (M : Machine) (words r before : List ℕ) (t s : ℕ) → length words ≡ t → feed M 0 0 words ≡ take t r ++ feed M t s (drop t words) → drop t r ≡ drop t before
+pub feed_all : (M : Machine) (words r before : List ℕ) (t s : ℕ) → length words ≡ t → feed M 0 0 words ≡ take t r ++ feed M t s (drop t words) → drop t r ≡ drop t before
     → r ≡ feed M 0 0 words ++ drop t before
 unfolding feed
-feed-all M words r before t s l e d =
+feed_all M words r before t s l e d =
     let z : drop t words ≡ [] = ap (λ n. drop n words) (sym l) ∙ drop-length words in
     let f : feed M 0 0 words ≡ take t r = e ∙ rw (z, append-nil) in
     sym (take-append-drop t r) ∙ ap₂ ◌++◌ (sym f) d
@@ -69,7 +69,7 @@ module _ (b words before : List ℕ) where
   unfolding run_result
   run_kept x r e q = kept _ r (feed (machine b) 0 0 words) before (sym (ap figures q) ∙ e)
 
-  pub run-left : Sound b → Fed (inputs b) (frames b) words → (after : List ℕ) → answer 0 (frames b) ≡ ran b words (length before)
+  pub run_left : Sound b → Fed (inputs b) (frames b) words → (after : List ℕ) → answer 0 (frames b) ≡ ran b words (length before)
       → after ≡ shown b 65535 words ++ drop (frames b) before → after ≡ run_result b words before
   unfolding run_result
-  run-left S f after e h = left _ (frames b) (feed (machine b) 0 0 words) before after e (h ∙ ap (λ o. o ++ drop (frames b) before) (shown-all b words S f))
+  run_left S f after e h = left _ (frames b) (feed (machine b) 0 0 words) before after e (h ∙ ap (λ o. o ++ drop (frames b) before) (shown_all b words S f))

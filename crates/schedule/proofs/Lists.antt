@@ -27,8 +27,8 @@ repeated_here list k i h e = go (every k (λ j. not (eqb (get_or list j 0) (get_
     go true q = absurd (subst T (sym (sym (ap not (eq-eqb _ _ e)) ∙ every_each _ k q i h)) tt)
 
 -- what is found is no item beyond the list
-pub found-to : (n r : ℕ) (p : ℕ → Bool) → r ≡ least n p → r ≤ n
-found-to n r p e = rw e (least_le n p)
+pub found_to : (n r : ℕ) (p : ℕ → Bool) → r ≡ least n p → r ≤ n
+found_to n r p e = rw e (least_le n p)
 
 -- an item more is stored
 pub held_more : (list v : List ℕ) (k : ℕ) → k < length v → ((i : ℕ) → i < k → get_or v i 0 ≡ get_or list i 0) → (i : ℕ) → i < k + 1 → get_or (set v k (get_or list k 0)) i 0 ≡ get_or list i 0
@@ -106,9 +106,9 @@ module _ (c : List ℕ) (n m T : ℕ) (ins outs : List ℕ) where
     outputs_wrong z = rw (eq-eqb a (all_inputs c) i, ne_eqb d (all_outputs c) z)
 
     module _ (o : d ≡ all_outputs c) where
-      pub outside-found : outside_at < a + d → answer 19 outside_at ≡ lists_checked c n m T ins outs
+      pub outside_found : outside_at < a + d → answer 19 outside_at ≡ lists_checked c n m T ins outs
       unfolding lists_checked
-      outside-found h = rw (eq-eqb a (all_inputs c) i, eq-eqb d (all_outputs c) o, outside_judged, lt-ltb outside_at (a + d) h)
+      outside_found h = rw (eq-eqb a (all_inputs c) i, eq-eqb d (all_outputs c) o, outside_judged, lt-ltb outside_at (a + d) h)
 
       pub taken_found : a + d ≤ outside_at → cond (ltb taken_at (a + d)) (answer 20 taken_at) (answer 0 0) ≡ lists_checked c n m T ins outs
       unfolding lists_checked

@@ -28,9 +28,9 @@ use Rattle.spreading.proofs.Schedule.{Scheduled}
 
 -- ---- only as many items of the lists are read as the network has inputs and outputs
 
-standing-same : (own all : ℕ) (ps qs : List ℕ) → ((i : ℕ) → i < own → get_or ps i 0 ≡ get_or qs i 0) → (s : ℕ) → standing own ps all s ≡ standing own qs all s
+standing_same : (own all : ℕ) (ps qs : List ℕ) → ((i : ℕ) → i < own → get_or ps i 0 ≡ get_or qs i 0) → (s : ℕ) → standing own ps all s ≡ standing own qs all s
 unfolding standing
-standing-same own all ps qs P s = go (ltb own s) refl (eqb s 0) refl
+standing_same own all ps qs P s = go (ltb own s) refl (eqb s 0) refl
   where
     go : (t : Bool) → ltb own s ≡ t → (z : Bool) → eqb s 0 ≡ z
         → cond t (all + (s - own)) (cond z 0 (1 + get_or ps (s - 1) 0)) ≡ cond t (all + (s - own)) (cond z 0 (1 + get_or qs (s - 1) 0))
@@ -43,20 +43,20 @@ module _ (c : List ℕ) (n m T : ℕ) (ps qs ins outs : List ℕ) (P : (i : ℕ)
   unfolding renamed_gate renamed
   gate_same g =
       let same : (l : ℕ) → 2 * standing (all_inputs c) ps (n * T) (l / 2) + l % 2 ≡ 2 * standing (all_inputs c) ins (n * T) (l / 2) + l % 2
-      = λ l. ap (λ s. 2 * s + l % 2) (standing-same (all_inputs c) (n * T) ps ins P (l / 2)) in
+      = λ l. ap (λ s. 2 * s + l % 2) (standing_same (all_inputs c) (n * T) ps ins P (l / 2)) in
       ap₂ (λ x y. (x, y)) (same (operand c (lefts_at c) g)) (same (operand c (rights_at c) g))
 
-  item-same : (q : ℕ) → item_at (all_outputs c) qs q ≡ item_at (all_outputs c) outs q
+  item_same : (q : ℕ) → item_at (all_outputs c) qs q ≡ item_at (all_outputs c) outs q
   unfolding item_at
-  item-same q = least_cong (all_outputs c) _ _ (λ k h. ap (λ p. eqb p q) (Q k h))
+  item_same q = least_cong (all_outputs c) _ _ (λ k h. ap (λ p. eqb p q) (Q k h))
 
   shown-same : (q : ℕ) → output_gate (connects_at c qs q) (shown_literal c qs (n * T) q) ≡ output_gate (connects_at c outs q) (shown_literal c outs (n * T) q)
   unfolding connects_at shown_literal
-  shown-same q = rw (item-same q)
+  shown-same q = rw (item_same q)
 
-  pub rearranged-same : rearranged c n m T ps qs ≡ rearranged c n m T ins outs
+  pub rearranged_same : rearranged c n m T ps qs ≡ rearranged c n m T ins outs
   unfolding rearranged rearranged_gates
-  rearranged-same =
+  rearranged_same =
       ap (λ gs. word_bytes (circuit_words n m T gs))
       (ap₂ ◌++◌ (listed_cong _ _ (gates c) (λ g _. gate_same g)) (listed_cong _ _ (m * T) (λ q _. shown-same q)))
 
@@ -83,7 +83,7 @@ module _ (c : List ℕ) (n m T : ℕ) (ins outs : List ℕ) (S : Scheduled c n m
       })
 
   pub made_is : sourced made c ≡ rearranged c n m T ins outs
-  made_is = sourced_spread c made refl ∙ rearranged-same c n m T ps qs ins outs (λ i h. P i (omega (arith, S.ins_many))) (λ k h. Q k (omega (arith, S.outs_many)))
+  made_is = sourced_spread c made refl ∙ rearranged_same c n m T ps qs ins outs (λ i h. P i (omega (arith, S.ins_many))) (λ k h. Q k (omega (arith, S.outs_many)))
 
 -- ---- what is judged
 
@@ -107,9 +107,9 @@ module _ (c : List ℕ) (n m T : ℕ) (ins outs s : List ℕ) where
       unfolding spread_lent
       lent_judged = rw (e, a) (K.answered ∙ ap (λ k. six_checked k (length s)) k)
 
-      pub lent-left : s' ≡ spread_scratch c n m T ins outs s
+      pub lent_left : s' ≡ spread_scratch c n m T ins outs s
       unfolding spread_scratch spread_lent cleared
-      lent-left = rw (e, a) (K.left ∙ ap (λ k. cond (ltb (length s) k) s (cleared_to k s)) k ∙ go (ltb (length s) (scratch_needed r)))
+      lent_left = rw (e, a) (K.left ∙ ap (λ k. cond (ltb (length s) k) s (cleared_to k s)) k ∙ go (ltb (length s) (scratch_needed r)))
         where
           go : (t : Bool) → cond t s (cleared_to (scratch_needed r) s) ≡ cond (eqb (cond t (answer 6 (scratch_needed r)) (answer 0 0)).number 0) (cleared_to (scratch_needed r) s) s
           go true = refl

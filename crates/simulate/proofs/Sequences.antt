@@ -17,15 +17,15 @@ use Rattle.layered.specs.Search.{join}
 use Rattle.layered.specs.States.{Words}
 use Rattle.layered.specs.Histories.{history_words, history_number}
 use Rattle.layered.proofs.Rows.{pow-mul}
-use Rattle.layered.proofs.Lists.{part_more, join-length, total_each}
+use Rattle.layered.proofs.Lists.{part_more, join_length, total_each}
 use Rattle.layered.proofs.Feeding.{sequence as words_are}
-use Rattle.layered.proofs.Histories.{numbered-append, history_below, words-number}
+use Rattle.layered.proofs.Histories.{numbered_append, history_below, words_number}
 use Rattle.circuit.specs.Limits.{most_signals}
 use Rattle.circuit.specs.Lists.{listed, packed}
 use Rattle.circuit.specs.Circuit.{gates, all_outputs, gate_signal, signal_values, output_word, output_words}
 use Rattle.circuit.specs.WellFormed.{CircuitHeaded, HeadOf}
 use Rattle.circuit.specs.declared.Head.{Head}
-use Rattle.circuit.proofs.Lists.{listed-length, listed_cong}
+use Rattle.circuit.proofs.Lists.{listed_length, listed_cong}
 use Rattle.circuit.proofs.Laws.{signals_fit, first_output, frame_word}
 use Rattle.lanes.specs.Limits.{lane_count}
 use Rattle.lanes.specs.Lanes.{lane, sequence, Lanes, SignalLanes}
@@ -85,7 +85,7 @@ module _ (n : ℕ) (words : List ℕ) (F : Fed n (length words) words) (fits : n
 -- one word more
 pub number_more : (K t : ℕ) (words : List ℕ) → t < length words → history_number K 0 (take (t + 1) words) ≡ history_number K 0 (take t words) * K + get_or words t 0
 unfolding history_number
-number_more K t words h = ap (λ k. history_number K 0 (take k words)) (add-one t) ∙ ap (history_number K 0) (take-suc words t 0 h) ∙ numbered-append K 0 (take t words) (get_or words t 0 ∷ [])
+number_more K t words h = ap (λ k. history_number K 0 (take k words)) (add-one t) ∙ ap (history_number K 0) (take-suc words t 0 h) ∙ numbered_append K 0 (take t words) (get_or words t 0 ∷ [])
 
 -- v has f 0, f 1, .. at its front
 pub front_more : (v : List ℕ) (k x : ℕ) (f : ℕ → ℕ) → k < length v → ((i : ℕ) → i < k → get_or v i 0 ≡ f i) → x ≡ f k → (i : ℕ) → i < k + 1 → get_or (set v k x) i 0 ≡ f i
@@ -99,16 +99,16 @@ front_more v k x f room F X i h = go (dec_lt i k)
 
 -- a sequence is that of its number
 sequence_is : (n T : ℕ) (words : List ℕ) (x : ℕ) → Fed n T words → x ≡ history_number (2 ^ n) 0 words → sequence (2 ^ n) T T x ≡ words
-sequence_is n T words x F e = whole (2 ^ n) T x ∙ ap (history_words (2 ^ n) T) e ∙ words-number (words_are (2 ^ n) T words F.as_many F.below)
+sequence_is n T words x F e = whole (2 ^ n) T x ∙ ap (history_words (2 ^ n) T) e ∙ words_number (words_are (2 ^ n) T words F.as_many F.below)
 
 -- ---- outputs
 
 module _ (b : List ℕ) (head : Head) (H : CircuitHeaded b) (O : HeadOf b head) where
   -- a lane that holds the values on a sequence holds its outputs
-  lane-outputs : (words : List ℕ) (v : List Bool) → take (gate_signal b (gates b)) v ≡ signal_values b words (gates b)
+  lane_outputs : (words : List ℕ) (v : List Bool) → take (gate_signal b (gates b)) v ≡ signal_values b words (gates b)
       → listed [] (λ t. packed (take head.outputs (drop (first_output head t) v))) (frames b) ≡ output_words b words
   unfolding output_words
-  lane-outputs words v L = listed_cong _ (output_word b words) (frames b) (λ t h. frame_word b head H O words v t h L)
+  lane_outputs words v L = listed_cong _ (output_word b words) (frames b) (λ t h. frame_word b head H O words v t h L)
 
   -- all words of the list, by the sizes in the code
   pub fed_by : (count : ℕ) (words : List ℕ) → Fed (inputs b) (count * frames b) words → Fed head.inputs (count * head.frames) words
@@ -119,7 +119,7 @@ module _ (b : List ℕ) (head : Head) (H : CircuitHeaded b) (O : HeadOf b head) 
   unfolding all_outputs gate_signal
   all_fit T e =
       let q : head.outputs * T ≡ all_outputs b = rw (O.outputs_is, e) in
-      omega (arith, O.base_is, O.gates_is, O.total_is, H.outputs-to, signals_fit b H)
+      omega (arith, O.base_is, O.gates_is, O.total_is, H.outputs_to, signals_fit b H)
 
   -- the outputs on sequence k, where lane k holds the values on the history of its number
   pub outputs-at : (count : ℕ) (words v r : List ℕ) (x : ℕ → ℕ) (k len : ℕ) → count ≤ lane_count → k < count → len ≡ head.frames → Fed (inputs b) (count * frames b) words
@@ -134,13 +134,13 @@ module _ (b : List ℕ) (head : Head) (H : CircuitHeaded b) (O : HeadOf b head) 
       ap (λ t. sequence (2 ^ inputs b) (frames b) t (x k)) O.frames_is ∙ sequence_is (inputs b) (frames b) own (x k) (fed_at (inputs b) (frames b) count words F k h) number in
       er
       ∙ ap (listed [] (λ t. packed (take head.outputs (drop (first_output head t) (lane k v))))) (el ∙ O.frames_is)
-      ∙ lane-outputs own (lane k v) (L k (omega arith) ∙ ap (λ c. signal_values b c (gates b)) played)
+      ∙ lane_outputs own (lane k v) (L k (omega arith) ∙ ap (λ c. signal_values b c (gates b)) played)
 
 -- ---- parts of equal length, one behind the other
 
 module _ (T : ℕ) (f : ℕ → List ℕ) (each : (k : ℕ) → length (f k) ≡ T) where
   parts_length : (k : ℕ) → length (join k f) ≡ k * T
-  parts_length k = join-length k f (λ _. T) (λ i h. each i) ∙ total_each k T
+  parts_length k = join_length k f (λ _. T) (λ i h. each i) ∙ total_each k T
 
   -- part k
   pub part_at : (count : ℕ) (rest : List ℕ) (k : ℕ) → k < count → sequence_at T (join count f ++ rest) k ≡ f k
@@ -154,9 +154,9 @@ module _ (T : ℕ) (f : ℕ → List ℕ) (each : (k : ℕ) → length (f k) ≡
           let e : k ≡ n = omega arith in
           rw e (ap (take T) (drop_at (join n f) (f n ++ rest) (n * T) (parts_length n)) ∙ take_at (f n) rest T (each n))
 
-pub output_words-length : (b words : List ℕ) → length (output_words b words) ≡ frames b
+pub output_words_length : (b words : List ℕ) → length (output_words b words) ≡ frames b
 unfolding output_words
-output_words-length b words = listed-length (output_word b words) (frames b)
+output_words_length b words = listed_length (output_word b words) (frames b)
 
 -- no outputs are written
 pub nothing_written : (b words l : List ℕ) → all_output_words b 0 words ++ drop (0 * frames b) l ≡ l
@@ -164,21 +164,21 @@ unfolding all_output_words join
 nothing_written b words l = ap (λ i. drop i l) (zero-mul (frames b))
 
 -- the outputs on the first k sequences, and the rest as it was
-pub outputs-length : (b words l : List ℕ) (k : ℕ) → k * frames b ≤ length l → length (all_output_words b k words ++ drop (k * frames b) l) ≡ length l
+pub outputs_length : (b words l : List ℕ) (k : ℕ) → k * frames b ≤ length l → length (all_output_words b k words ++ drop (k * frames b) l) ≡ length l
 unfolding all_output_words
-outputs-length b words l k h =
+outputs_length b words l k h =
     let f : ℕ → List ℕ = λ i. output_words b (sequence_at (frames b) words i) in
-    length-append (join k f) (drop (k * frames b) l) ∙ omega (arith, parts_length (frames b) f (λ i. output_words-length b _) k, length-drop (k * frames b) l)
+    length-append (join k f) (drop (k * frames b) l) ∙ omega (arith, parts_length (frames b) f (λ i. output_words_length b _) k, length-drop (k * frames b) l)
 
 -- the outputs on one sequence more are written
-pub outputs-more : (b words v l r : List ℕ) (k T at end : ℕ) → T ≡ frames b → at ≡ k * T → end ≡ at + T → v ≡ all_output_words b k words ++ drop (k * frames b) l
+pub outputs_more : (b words v l r : List ℕ) (k T at end : ℕ) → T ≡ frames b → at ≡ k * T → end ≡ at + T → v ≡ all_output_words b k words ++ drop (k * frames b) l
     → r ≡ output_words b (sequence_at (frames b) words k) → take at v ++ (r ++ drop (end - at) (drop at v)) ≡ all_output_words b (k + 1) words ++ drop ((k + 1) * frames b) l
 unfolding all_output_words join
-outputs-more b words v l r k T at end eT ea ee ev er =
+outputs_more b words v l r k T at end eT ea ee ev er =
     let f : ℕ → List ℕ = λ i. output_words b (sequence_at (frames b) words i) in
     let ea' : at ≡ k * frames b = rw eT at ea in
     let last : end ≡ (k + 1) * frames b = omega (arith, suc-mul k (frames b)) in
-    part_more v l r (join k f) at end (omega arith) (parts_length (frames b) f (λ i. output_words-length b _) k ∙ sym ea') (ev ∙ ap (λ i. join k f ++ drop i l) (sym ea'))
+    part_more v l r (join k f) at end (omega arith) (parts_length (frames b) f (λ i. output_words_length b _) k ∙ sym ea') (ev ∙ ap (λ i. join k f ++ drop i l) (sym ea'))
     ∙ ap (λ s. join k f ++ s ++ drop end l) er
     ∙ ap (λ i. join k f ++ f k ++ drop i l) last
     ∙ ap (λ i. join i f ++ drop ((k + 1) * frames b) l) (sym (add-one k))

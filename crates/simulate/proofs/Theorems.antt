@@ -14,7 +14,7 @@ use Rattle.sizes.proofs.Laws.{sequence_passes}
 use Rattle.circuit.specs.Circuit.{checked, output_words}
 use Rattle.simulate.specs.Simulate.{sequence_at, all_output_words, sequences_checked, simulated, simulation_result}
 use Rattle.simulate.specs.Theorems.{EachAlone}
-use Rattle.simulate.proofs.Sequences.{fed_at, part_at, output_words-length}
+use Rattle.simulate.proofs.Sequences.{fed_at, part_at, output_words_length}
 use Rattle.simulate.proofs.Judged.{SequencesFed, all_fed, few_enough}
 
 -- in the result of a call that accepts, part k has the outputs on sequence k
@@ -23,7 +23,7 @@ outputs_in : (b : List ℕ) (count : ℕ) (words before : List ℕ) (p : ℕ) �
 unfolding simulation_result all_output_words
 outputs_in b count words before p e k h =
     ap (λ l. sequence_at (frames b) l k) (sym (left (simulated b count words (length before)) p (all_output_words b count words) before _ (sym e) refl))
-    ∙ part_at (frames b) (λ i. output_words b (sequence_at (frames b) words i)) (λ i. output_words-length b _) count (drop p before) k h
+    ∙ part_at (frames b) (λ i. output_words b (sequence_at (frames b) words i)) (λ i. output_words_length b _) count (drop p before) k h
 
 -- the only sequence of a list
 only : (T : ℕ) (words : List ℕ) → length words ≡ T → sequence_at T words 0 ≡ words

@@ -48,12 +48,12 @@ sized most n m T p e =
     let i₃ = inside 1 most_frames T e₃.0 in
     record {
       inputs_from = i₁.0;
-      inputs-to = i₁.1;
+      inputs_to = i₁.1;
       outputs_from = i₂.0;
-      outputs-to = i₂.1;
+      outputs_to = i₂.1;
       frames_from = i₃.0;
-      frames-to = i₃.1;
-      bits-to = ltb-false most_bits (n * T) e₄.0;
+      frames_to = i₃.1;
+      bits_to = ltb-false most_bits (n * T) e₄.0;
     }
 
 -- the words are T, each below 2^n, there is room for T, and T is the place
@@ -79,7 +79,7 @@ not_outside low high x l h = rw (le-ltb x low l, le-ltb high x h)
 pub sizes_pass : (most n m T : ℕ) → Sized most n m T → sizes_checked most n m T ≡ answer 0 0
 unfolding sizes_checked
 sizes_pass most n m T Z =
-    rw (not_outside 1 most n Z.inputs_from Z.inputs-to, not_outside 1 most_outputs m Z.outputs_from Z.outputs-to, not_outside 1 most_frames T Z.frames_from Z.frames-to, le-ltb most_bits (n * T) Z.bits-to)
+    rw (not_outside 1 most n Z.inputs_from Z.inputs_to, not_outside 1 most_outputs m Z.outputs_from Z.outputs_to, not_outside 1 most_frames T Z.frames_from Z.frames_to, le-ltb most_bits (n * T) Z.bits_to)
 
 pub sequence_passes : (n T : ℕ) (words : List ℕ) (room : ℕ) → Fed n T words → T ≤ room → sequence_checked n T words room ≡ answer 0 T
 unfolding sequence_checked words_checked

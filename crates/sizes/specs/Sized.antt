@@ -7,12 +7,12 @@ use Rattle.sizes.specs.declared.Sizes.{Sizes}
 -- n, m and T are within the limits
 pub record Sized (most n m T : ℕ) : Type 0 where
   pub inputs_from : 1 ≤ n
-  pub inputs-to : n ≤ most
+  pub inputs_to : n ≤ most
   pub outputs_from : 1 ≤ m
-  pub outputs-to : m ≤ most_outputs
+  pub outputs_to : m ≤ most_outputs
   pub frames_from : 1 ≤ T
-  pub frames-to : T ≤ most_frames
-  pub bits-to : n * T ≤ most_bits
+  pub frames_to : T ≤ most_frames
+  pub bits_to : n * T ≤ most_bits
 
 -- T words, each below 2^n
 pub record Fed (n T : ℕ) (words : List ℕ) : Type 0 where

@@ -15,15 +15,15 @@ use Rattle.circuit.specs.Circuit.{gates, lefts_at, rights_at, all_inputs, all_ou
 use Rattle.circuit.specs.Limits.{most_gates, mark}
 use Rattle.circuit.specs.WellFormed.{WellFormed, Formed, HeadOf, GateOf}
 use Rattle.circuit.specs.declared.Gate.{Gate}
-use Rattle.circuit.proofs.Lists.{listed-length, listed_at}
-use Rattle.circuit.proofs.Literals.{operand-before}
-use Rattle.circuit.proofs.Gates.{closing, closed, closed-length, growing_admitted, closing-connected, closing_blank}
+use Rattle.circuit.proofs.Lists.{listed_length, listed_at}
+use Rattle.circuit.proofs.Literals.{operand_before}
+use Rattle.circuit.proofs.Gates.{closing, closed, closed_length, growing_admitted, closing_connected, closing_blank}
 use Rattle.circuit.proofs.Accepted.{well_formed}
 use Rattle.circuit.proofs.Written.{circuit_bytes, Drawable, fitting, inputs_back, outputs_back, frames_back, gates_back, all_inputs_back, all_outputs_back, inner_judged, output_judged, form_passes, is_formed, unconnected_is}
 use Rattle.source.specs.Rearranged.{renamed, renamed_gate, item_at, connects_at, shown_literal, rearranged_gates, rearranged}
 use Rattle.source.specs.Source.{head_of, Spreads}
 use Rattle.source.specs.declared.Source.{Source}
-use Rattle.source.proofs.Standing.{standing-before, renamed-signal}
+use Rattle.source.proofs.Standing.{standing_before, renamed_signal}
 
 module _ (c : List ℕ) (s : Source) (P : Spreads c s) where
   abbrev pub all : ℕ
@@ -44,24 +44,24 @@ module _ (c : List ℕ) (s : Source) (P : Spreads c s) where
   abbrev pub b : List ℕ
   b = rearranged c s.inputs s.outputs s.frames s.places s.shown
 
-  gs-length : length gs ≡ gates c
-  gs-length = listed-length (renamed_gate c s.places all) (gates c)
+  gs_length : length gs ≡ gates c
+  gs_length = listed_length (renamed_gate c s.places all) (gates c)
 
   -- a renamed operand is of a signal before its gate
-  left-before : (g : ℕ) → g < gates c → renamed (all_inputs c) s.places all (operand c (lefts_at c) g) / 2 < 1 + all + g
-  left-before g h = rw (renamed-signal (all_inputs c) s.places all (operand c (lefts_at c) g)) (standing-before (all_inputs c) s.places all g _ P.places_in (operand-before c (lefts_at c) g _ (P.network.legal.left g h) refl))
+  left_before : (g : ℕ) → g < gates c → renamed (all_inputs c) s.places all (operand c (lefts_at c) g) / 2 < 1 + all + g
+  left_before g h = rw (renamed_signal (all_inputs c) s.places all (operand c (lefts_at c) g)) (standing_before (all_inputs c) s.places all g _ P.places_in (operand_before c (lefts_at c) g _ (P.network.legal.left g h) refl))
 
   right_before : (g : ℕ) → g < gates c → renamed (all_inputs c) s.places all (operand c (rights_at c) g) / 2 < 1 + all + g
-  right_before g h = rw (renamed-signal (all_inputs c) s.places all (operand c (rights_at c) g)) (standing-before (all_inputs c) s.places all g _ P.places_in (operand-before c (rights_at c) g _ (P.network.legal.right g h) refl))
+  right_before g h = rw (renamed_signal (all_inputs c) s.places all (operand c (rights_at c) g)) (standing_before (all_inputs c) s.places all g _ P.places_in (operand_before c (rights_at c) g _ (P.network.legal.right g h) refl))
 
   pub item_most : (q : ℕ) → item_at (all_outputs c) s.shown q ≤ all_outputs c
   unfolding item_at
   item_most q = least_le (all_outputs c) _
 
   -- a connected place shows an output
-  connects-item : (q : ℕ) → conn q ≡ true → item_at (all_outputs c) s.shown q < all_outputs c
+  connects_item : (q : ℕ) → conn q ≡ true → item_at (all_outputs c) s.shown q < all_outputs c
   unfolding connects_at
-  connects-item q e = go (ltb (item_at (all_outputs c) s.shown q) (all_outputs c)) refl e
+  connects_item q e = go (ltb (item_at (all_outputs c) s.shown q) (all_outputs c)) refl e
     where
       go : (t : Bool) → ltb (item_at (all_outputs c) s.shown q) (all_outputs c) ≡ t → (t && not (unconnected c (gate_of_output c (item_at (all_outputs c) s.shown q)))) ≡ true → item_at (all_outputs c) s.shown q < all_outputs c
       go true f e = ltb-true _ _ f
@@ -71,9 +71,9 @@ module _ (c : List ℕ) (s : Source) (P : Spreads c s) where
   unfolding renamed_gate shown_literal
   drawable = record {
     sizes = P.sizes;
-    inner_admitted = growing_admitted (1 + all) (renamed_gate c s.places all) (gates c) (λ g h. (omega (arith, left-before g h), omega (arith, right_before g h)));
-    lefts_low = λ q h e. omega (arith, connects-item q e, gs-length, P.network.headed.outputs-to);
-    gates-to = omega (arith, gs-length, P.few, mul-le-mul P.sizes.outputs-to P.sizes.frames-to);
+    inner_admitted = growing_admitted (1 + all) (renamed_gate c s.places all) (gates c) (λ g h. (omega (arith, left_before g h), omega (arith, right_before g h)));
+    lefts_low = λ q h e. omega (arith, connects_item q e, gs_length, P.network.headed.outputs_to);
+    gates_to = omega (arith, gs_length, P.few, mul-le-mul P.sizes.outputs_to P.sizes.frames_to);
   }
 
   bytes_are : b ≡ circuit_bytes s.inputs s.outputs s.frames (closed gs conn left places mark)
@@ -87,7 +87,7 @@ module _ (c : List ℕ) (s : Source) (P : Spreads c s) where
 
   -- where its gates are few enough for a circuit that is given, it passes every check but 4
   pub rearranged_passes : gates c + places ≤ most_gates → form_checked b ≡ answer 0 0
-  rearranged_passes h = rw bytes_are (form_passes drawable (omega (arith, gs-length)))
+  rearranged_passes h = rw bytes_are (form_passes drawable (omega (arith, gs_length)))
 
   pub inputs_are : all_inputs b ≡ all
   inputs_are = rw bytes_are (all_inputs_back (fitting drawable))
@@ -96,7 +96,7 @@ module _ (c : List ℕ) (s : Source) (P : Spreads c s) where
   outputs_are = rw bytes_are (all_outputs_back (fitting drawable))
 
   pub gates_are : gates b ≡ gates c + places
-  gates_are = rw bytes_are (gates_back (fitting drawable)) ∙ closed-length gs conn left places mark ∙ ap (λ k. k + places) gs-length
+  gates_are = rw bytes_are (gates_back (fitting drawable)) ∙ closed_length gs conn left places mark ∙ ap (λ k. k + places) gs_length
 
   pub rearranged_head : HeadOf b (head_of s)
   rearranged_head = record {
@@ -116,18 +116,18 @@ module _ (c : List ℕ) (s : Source) (P : Spreads c s) where
   -- the network's, renamed
   pub inner_left : (g : ℕ) → g < gates c → operand b (lefts_at b) g ≡ renamed (all_inputs c) s.places all (operand c (lefts_at c) g)
   unfolding renamed_gate
-  inner_left g h = rw bytes_are ((inner_judged drawable g (omega (arith, gs-length))).left-operand ∙ ap (λ (x : ℕ × ℕ). x.0) (listed_at (renamed_gate c s.places all) (0, 0) (gates c) g h))
+  inner_left g h = rw bytes_are ((inner_judged drawable g (omega (arith, gs_length))).left_operand ∙ ap (λ (x : ℕ × ℕ). x.0) (listed_at (renamed_gate c s.places all) (0, 0) (gates c) g h))
 
   pub inner_right : (g : ℕ) → g < gates c → operand b (rights_at b) g ≡ renamed (all_inputs c) s.places all (operand c (rights_at c) g)
   unfolding renamed_gate
-  inner_right g h = rw bytes_are ((inner_judged drawable g (omega (arith, gs-length))).right_operand ∙ ap (λ (x : ℕ × ℕ). x.1) (listed_at (renamed_gate c s.places all) (0, 0) (gates c) g h))
+  inner_right g h = rw bytes_are ((inner_judged drawable g (omega (arith, gs_length))).right_operand ∙ ap (λ (x : ℕ × ℕ). x.1) (listed_at (renamed_gate c s.places all) (0, 0) (gates c) g h))
 
   pub inner_gate : (g : ℕ) → g < gates c → (r : Gate) → r.left ≡ renamed (all_inputs c) s.places all (operand c (lefts_at c) g)
       → r.right ≡ renamed (all_inputs c) s.places all (operand c (rights_at c) g) → GateOf b g r
   inner_gate g h r el er = record {
     left_is = el ∙ sym (inner_left g h);
     right_is = er ∙ sym (inner_right g h);
-    left-before = rw (el, inputs_are) (left-before g h);
+    left_before = rw (el, inputs_are) (left_before g h);
     right_before = rw (er, inputs_are) (right_before g h);
   }
 
@@ -135,18 +135,18 @@ module _ (c : List ℕ) (s : Source) (P : Spreads c s) where
   pub closing_operands : (q : ℕ) → q < places → (operand b (lefts_at b) (gates c + q) ≡ (closing conn left 0 q).0) × (operand b (rights_at b) (gates c + q) ≡ (closing conn left 0 q).1)
   closing_operands q h =
       let J = output_judged drawable q h in
-      let e : length gs + q ≡ gates c + q = ap (λ k. k + q) gs-length in
-      (rw (bytes_are, ← e) J.left-operand, rw (bytes_are, ← e) J.right_operand)
+      let e : length gs + q ≡ gates c + q = ap (λ k. k + q) gs_length in
+      (rw (bytes_are, ← e) J.left_operand, rw (bytes_are, ← e) J.right_operand)
 
   pub shown_gate : (q : ℕ) → q < places → conn q ≡ true → (r : Gate) → r.left ≡ left q → r.right ≡ 1 → GateOf b (gates c + q) r
   unfolding shown_literal
   shown_gate q h e r el er =
       let o = closing_operands q h in
-      let f : closing conn left 0 q ≡ (left q, 1) = closing-connected conn left 0 q e in
+      let f : closing conn left 0 q ≡ (left q, 1) = closing_connected conn left 0 q e in
       record {
         left_is = el ∙ sym (o.0 ∙ ap (λ (x : ℕ × ℕ). x.0) f);
         right_is = er ∙ sym (o.1 ∙ ap (λ (x : ℕ × ℕ). x.1) f);
-        left-before = omega (arith, el, inputs_are, connects-item q e, P.network.headed.outputs-to);
+        left_before = omega (arith, el, inputs_are, connects_item q e, P.network.headed.outputs_to);
         right_before = omega (arith, er);
       }
 
@@ -157,10 +157,10 @@ module _ (c : List ℕ) (s : Source) (P : Spreads c s) where
       record {
         left_is = el ∙ sym (o.0 ∙ ap (λ (x : ℕ × ℕ). x.0) f);
         right_is = er ∙ sym (o.1 ∙ ap (λ (x : ℕ × ℕ). x.1) f);
-        left-before = omega (arith, el);
+        left_before = omega (arith, el);
         right_before = omega (arith, er);
       }
 
   -- an output is unconnected where its place is
-  pub place-unconnected : (q : ℕ) → q < places → unconnected b (gate_of_output b q) ≡ not (conn q)
-  place-unconnected q h = rw bytes_are (unconnected_is drawable q h)
+  pub place_unconnected : (q : ℕ) → q < places → unconnected b (gate_of_output b q) ≡ not (conn q)
+  place_unconnected q h = rw bytes_are (unconnected_is drawable q h)

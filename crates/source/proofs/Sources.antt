@@ -18,7 +18,7 @@ use Rattle.circuit.proofs.Accepted.{well_formed}
 use Rattle.source.specs.Rearranged.{rearranged, renamed, item_at, connects_at, shown_literal}
 use Rattle.source.specs.Source.{head_of, sourced, item_in, Renames, Spreads, WholeOf, SourceOf, stands, spread}
 use Rattle.source.specs.declared.Source.{Source}
-use Rattle.source.proofs.Rearranged.{rearranged_well, gates_are, inner_gate, shown_gate, blank_gate, place-unconnected}
+use Rattle.source.proofs.Rearranged.{rearranged_well, gates_are, inner_gate, shown_gate, blank_gate, place_unconnected}
 
 module _ (c : List ℕ) (s : Source) where
   -- the circuit that a source is
@@ -63,10 +63,10 @@ module _ (c : List ℕ) (s : Source) where
       let O = P.network.head_is in
       record {
         first_from = omega (arith, O.base_is);
-        first_to = omega (arith, O.base_is, P.network.headed.inputs-to);
+        first_to = omega (arith, O.base_is, P.network.headed.inputs_to);
         base_from = omega (arith, P.base_is);
-        low = omega (arith, P.base_is, P.sizes.bits-to, P.network.headed.inputs-to, P.network.headed.gates-to);
-        places-to = λ i l. omega (arith, P.places_in i (omega (arith, O.base_is)), P.sizes.bits-to);
+        low = omega (arith, P.base_is, P.sizes.bits_to, P.network.headed.inputs_to, P.network.headed.gates_to);
+        places_to = λ i l. omega (arith, P.places_in i (omega (arith, O.base_is)), P.sizes.bits_to);
       }
 
   -- a gate of a circuit as it stands is itself
@@ -115,7 +115,7 @@ module _ (c : List ℕ) (s : Source) where
         let i = e ∙ spread_item w P q in
         let places : q < s.outputs * s.frames = omega (arith, P.total_is) in
         let off : connects_at c s.shown q ≡ false = rw (le-ltb (item_at (all_outputs c) s.shown q) (all_outputs c) (omega (arith, i, P.network.head_is.total_is))) in
-        rw (sourced_spread w, place-unconnected c s P q places, off)
+        rw (sourced_spread w, place_unconnected c s P q places, off)
 
     -- item k does
     pub some_there : SourceOf c s → k < s.own.total → (x : Bool) → x ≡ unconnected c (gate_of_output c k) → not x ≡ not (unconnected (sourced s c) (gate_of_output (sourced s c) q))
@@ -129,7 +129,7 @@ module _ (c : List ℕ) (s : Source) where
         let places : q < s.outputs * s.frames = omega (arith, P.total_is) in
         let in_list : ltb (item_at (all_outputs c) s.shown q) (all_outputs c) ≡ true = lt-ltb (item_at (all_outputs c) s.shown q) (all_outputs c) (omega (arith, i, P.network.head_is.total_is)) in
         let on : connects_at c s.shown q ≡ not x = rw (in_list, ← i) (ap not (sym ex)) in
-        rw (sourced_spread w, place-unconnected c s P q places, on) (twice x)
+        rw (sourced_spread w, place_unconnected c s P q places, on) (twice x)
       where
         twice : (x : Bool) → not x ≡ not (not (not x))
         twice true = refl
@@ -142,18 +142,18 @@ module _ (c : List ℕ) (s : Source) where
     places_in = omega (arith, S.total_is)
 
     connected_is : (x : Bool) → x ≡ not (unconnected (sourced s c) (gate_of_output (sourced s c) q)) → connects_at c s.shown q ≡ x
-    connected_is x ex = sym (ex ∙ ap not (ap (λ b. unconnected b (gate_of_output b q)) (sourced_spread w) ∙ place-unconnected c s S q places_in) ∙ twice (connects_at c s.shown q))
+    connected_is x ex = sym (ex ∙ ap not (ap (λ b. unconnected b (gate_of_output b q)) (sourced_spread w) ∙ place_unconnected c s S q places_in) ∙ twice (connects_at c s.shown q))
       where
         twice : (x : Bool) → not (not x) ≡ x
         twice true = refl
         twice false = refl
 
-    pub shows-none : false ≡ not (unconnected (sourced s c) (gate_of_output (sourced s c) q)) → (r : Gate) → r.left ≡ 0 → r.right ≡ 0 → GateOf (sourced s c) (gates c + q) r
-    shows-none f r el er = rw (sourced_spread w) (blank_gate c s S q places_in (connected_is false f) r el er)
+    pub shows_none : false ≡ not (unconnected (sourced s c) (gate_of_output (sourced s c) q)) → (r : Gate) → r.left ≡ 0 → r.right ≡ 0 → GateOf (sourced s c) (gates c + q) r
+    shows_none f r el er = rw (sourced_spread w) (blank_gate c s S q places_in (connected_is false f) r el er)
 
-    pub shows-item : true ≡ not (unconnected (sourced s c) (gate_of_output (sourced s c) q)) → (r : Gate) → r.left ≡ 2 * (s.base + (s.own.gates - s.own.total + k)) → r.right ≡ 1 → GateOf (sourced s c) (gates c + q) r
+    pub shows_item : true ≡ not (unconnected (sourced s c) (gate_of_output (sourced s c) q)) → (r : Gate) → r.left ≡ 2 * (s.base + (s.own.gates - s.own.total + k)) → r.right ≡ 1 → GateOf (sourced s c) (gates c + q) r
     unfolding shown_literal
-    shows-item f r el er =
+    shows_item f r el er =
         let O = S.network.head_is in
         let i = e ∙ spread_item w S q in
         let same : 2 * (s.base + (s.own.gates - s.own.total + k)) ≡ 2 * (1 + s.inputs * s.frames + gate_of_output c (item_at (all_outputs c) s.shown q)) = omega (arith, S.base_is, O.gates_is, O.total_is, i) in

@@ -28,9 +28,9 @@ unfolding standing
 standing_constant own places all = rw (le-ltb own 0 (omega arith))
 
 -- a signal before gate g stands before it
-pub standing-before : (own : ℕ) (places : List ℕ) (all g s : ℕ) → ((i : ℕ) → i < own → get_or places i 0 < all) → s < 1 + own + g → standing own places all s < 1 + all + g
+pub standing_before : (own : ℕ) (places : List ℕ) (all g s : ℕ) → ((i : ℕ) → i < own → get_or places i 0 < all) → s < 1 + own + g → standing own places all s < 1 + all + g
 unfolding standing
-standing-before own places all g s P h = go (ltb own s) refl (eqb s 0) refl
+standing_before own places all g s P h = go (ltb own s) refl (eqb s 0) refl
   where
     go : (t : Bool) → ltb own s ≡ t → (u : Bool) → eqb s 0 ≡ u → standing own places all s < 1 + all + g
     go true e u f = let l = ltb-true own s e in omega (arith, standing_gate own places all s l)
@@ -41,9 +41,9 @@ standing-before own places all g s P h = go (ltb own s) refl (eqb s 0) refl
         omega (arith, standing_input own places all s l n, P (s - 1) (omega arith))
 
 -- the signal and the sign of a renamed literal
-pub renamed-signal : (own : ℕ) (places : List ℕ) (all l : ℕ) → renamed own places all l / 2 ≡ standing own places all (l / 2)
+pub renamed_signal : (own : ℕ) (places : List ℕ) (all l : ℕ) → renamed own places all l / 2 ≡ standing own places all (l / 2)
 unfolding renamed
-renamed-signal own places all l = omega arith
+renamed_signal own places all l = omega arith
 
 pub renamed_sign : (own : ℕ) (places : List ℕ) (all l : ℕ) → renamed own places all l % 2 ≡ l % 2
 unfolding renamed
@@ -69,21 +69,21 @@ module _ (s : Source) (q : ℕ) where
   item_whole e = rw e
 
   module _ (e : s.whole ≡ false) where
-    pub item-found : (k : ℕ) → k < s.own.total → ((i : ℕ) → i < k → eqb (get_or s.shown i 0) q ≡ false) → eqb (get_or s.shown k 0) q ≡ true → k ≡ item_in s q
+    pub item_found : (k : ℕ) → k < s.own.total → ((i : ℕ) → i < k → eqb (get_or s.shown i 0) q ≡ false) → eqb (get_or s.shown k 0) q ≡ true → k ≡ item_in s q
     unfolding item_in item_at
-    item-found k h N f = rw e (sym (least_is s.own.total k (λ k. eqb (get_or s.shown k 0) q) (omega arith) N (λ _. f)))
+    item_found k h N f = rw e (sym (least_is s.own.total k (λ k. eqb (get_or s.shown k 0) q) (omega arith) N (λ _. f)))
 
-    pub item-none : ((i : ℕ) → i < s.own.total → eqb (get_or s.shown i 0) q ≡ false) → s.own.total ≡ item_in s q
+    pub item_none : ((i : ℕ) → i < s.own.total → eqb (get_or s.shown i 0) q ≡ false) → s.own.total ≡ item_in s q
     unfolding item_in item_at
-    item-none N = rw e (sym (least_is s.own.total s.own.total (λ k. eqb (get_or s.shown k 0) q) (omega arith) N (λ h. absurd (omega arith))))
+    item_none N = rw e (sym (least_is s.own.total s.own.total (λ k. eqb (get_or s.shown k 0) q) (omega arith) N (λ h. absurd (omega arith))))
 
 -- ---- the signal that is shown
 
 module _ (s : Source) (q k : ℕ) (e : k ≡ item_in s q) where
-  pub shown-none : s.own.total ≤ k → 0 ≡ shown_signal s q
+  pub shown_none : s.own.total ≤ k → 0 ≡ shown_signal s q
   unfolding shown_signal
-  shown-none h = rw (le-ltb (item_in s q) s.own.total (omega arith))
+  shown_none h = rw (le-ltb (item_in s q) s.own.total (omega arith))
 
-  pub shown-item : k < s.own.total → s.own.base + (s.own.gates - s.own.total) + k ≡ shown_signal s q
+  pub shown_item : k < s.own.total → s.own.base + (s.own.gates - s.own.total) + k ≡ shown_signal s q
   unfolding shown_signal
-  shown-item h = rw (lt-ltb (item_in s q) s.own.total (omega arith)) (omega arith)
+  shown_item h = rw (lt-ltb (item_in s q) s.own.total (omega arith)) (omega arith)

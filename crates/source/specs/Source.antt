@@ -32,7 +32,7 @@ pub record Renames (first base : ℕ) (places : List ℕ) (signal : ℕ) : Type 
   pub first_to : first ≤ 1 + length places
   pub base_from : 1 ≤ base
   pub low : base + signal < 65536
-  pub places-to : (i : ℕ) → i < first - 1 → get_or places i 0 < most_bits
+  pub places_to : (i : ℕ) → i < first - 1 → get_or places i 0 < most_bits
 
 -- c is a network that s spreads
 pub record Spreads (c : List ℕ) (s : Source) : Type 0 where

@@ -17,7 +17,7 @@ use Rattle.source.specs.Rearranged.{rearranged}
 use Rattle.source.specs.Source.{sourced, SourceOf}
 use Rattle.source.specs.declared.Source.{Source}
 use Rattle.folded.specs.Folded.{folded_bytes, scratch_needed, nodes_checked, room_checked, cleared}
-use Rattle.ask.proofs.Answered.{cleared-zero, cleared-beyond, cleared-same}
+use Rattle.ask.proofs.Answered.{cleared_zero, cleared_beyond, cleared_same}
 use Rattle.admit.specs.declared.wanted.Wanted.{Wanted}
 use Rattle.admit.specs.Admit.{agreed_on}
 use Rattle.fold.specs.Fold.{survey_checked, survey_result, Clean, Finishes}
@@ -81,7 +81,7 @@ module _ (c : List ℕ) (n m T' : ℕ) (ins outs s : List ℕ) (ys : List Node) 
       clean = record {
         accepted = (lent_tells c n m T' ins outs (length s) (figures v).place accepts_at).1;
         enough = omega (arith, enough);
-        zeros = λ j l. ap (λ (r : List ℕ). get_or r j 0) is_cleared ∙ cleared-zero b s j l;
+        zeros = λ j l. ap (λ (r : List ℕ). get_or r j 0) is_cleared ∙ cleared_zero b s j l;
       }
 
       -- the source of the lists
@@ -97,6 +97,6 @@ module _ (c : List ℕ) (n m T' : ℕ) (ins outs s : List ℕ) (ys : List Node) 
             record {
               answered = F.ends.answered ∙ e;
               written = F.ends.written ∙ ap (λ f. result_after f (folded_bytes b) r) e;
-              scratch_left = F.scratch_left ∙ cleared-same b s s₁ l₁ (λ i. ap (λ (r : List ℕ). get_or r (scratch_needed b + i) 0) is_cleared ∙ cleared-beyond b s i) ∙ rw accepts_at;
+              scratch_left = F.scratch_left ∙ cleared_same b s s₁ l₁ (λ i. ap (λ (r : List ℕ). get_or r (scratch_needed b + i) 0) is_cleared ∙ cleared_beyond b s i) ∙ rw accepts_at;
               nodes_left = F.nodes_left ∙ rw accepts_at;
             }

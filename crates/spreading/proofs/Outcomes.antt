@@ -47,10 +47,10 @@ module _ (c : List ℕ) (n m T : ℕ) (ins outs : List ℕ) where
       (S, A, sym (ap (λ (f : Figures). f.place) q.1))
 
   -- the bytes that were written
-  pub written-bytes : (before : List ℕ) (room nodes p : ℕ) → spread_checked c n m T ins outs room nodes (length before) ≡ answer 0 p
+  pub written_bytes : (before : List ℕ) (room nodes p : ℕ) → spread_checked c n m T ins outs room nodes (length before) ≡ answer 0 p
       → take p (spread_result c n m T ins outs room nodes before) ≡ folded_bytes r
   unfolding spread_result
-  written-bytes before room nodes p e =
+  written_bytes before room nodes p e =
       ap (λ f. take p (result_after f (folded_bytes r) before)) e ∙ take_at (folded_bytes r) (drop p before) p (sym (accepted room nodes (length before) p e).2)
 
 -- ---- as folding
@@ -62,9 +62,9 @@ module _ (c : List ℕ) (n m T : ℕ) (ins outs : List ℕ) (e : schedule_checke
   lent_same room = rw (e, rearranged_passes c (spread_source c n m T ins outs) (scheduled c n m T ins outs 0 e).spreads few)
 
   -- and then
-  checked-same : (room nodes x : ℕ) → spread_checked c n m T ins outs room nodes x ≡ fold_checked (r c n m T ins outs) room nodes x
+  checked_same : (room nodes x : ℕ) → spread_checked c n m T ins outs room nodes x ≡ fold_checked (r c n m T ins outs) room nodes x
   unfolding spread_checked fold_checked ask_checked
-  checked-same room nodes x =
+  checked_same room nodes x =
       let b : List ℕ = r c n m T ins outs in
       ap (λ f. and_then f (and_then (nodes_checked b nodes) (room_checked b x))) (lent_same room) ∙ sym (then_assoc (scratch_checked b room) (nodes_checked b nodes) (room_checked b x))
 
@@ -72,7 +72,7 @@ pub as_folding : AsFolding
 unfolding AsFolding spread_result fold_result spread_scratch scratch_after spread_nodes nodes_after
 as_folding c n m T ins outs scratch nodes result e few =
     let b : List ℕ = r c n m T ins outs in
-    let same = checked-same c n m T ins outs e few (length scratch) (length nodes) (length result) in
+    let same = checked_same c n m T ins outs e few (length scratch) (length nodes) (length result) in
     let lent = lent_same c n m T ins outs e few (length scratch) in (
       same,
       ap (λ f. result_after f (folded_bytes b) result) same,

@@ -113,7 +113,7 @@ scheduled c n m T ins outs p e =
         total_is = refl;
         gates_is = refl;
         places_in = λ i h. input_inside n m T ins outs i (omega arith) (inside i zero-le (omega arith));
-        few_outputs = rw (one, mul-one) W.1.outputs-to;
+        few_outputs = rw (one, mul-one) W.1.outputs_to;
       };
       ins_many = li;
       outs_many = lo;

@@ -37,27 +37,27 @@ unfoldable pub schedule_checked : (c : List ℕ) (n m T : ℕ) (ins outs : List 
 schedule_checked c n m T ins outs = and_then (network_checked c) (and_then (sizes_checked most_inputs n m T) (lists_checked c n m T ins outs))
 
 -- and before anything that is lent is used: 4 and 6, of the network rearranged
-unfoldable pub spread_lent : (c : List ℕ) (n m T : ℕ) (ins outs : List ℕ) (scratchRoom : ℕ) → Figures
-spread_lent c n m T ins outs scratchRoom =
+unfoldable pub spread_lent : (c : List ℕ) (n m T : ℕ) (ins outs : List ℕ) (scratch_room : ℕ) → Figures
+spread_lent c n m T ins outs scratch_room =
     let r = rearranged c n m T ins outs in
     and_then (schedule_checked c n m T ins outs)
     (and_then (look_ahead_checked r)
-    (refuse (ltb scratchRoom (scratch_needed r)) 6 (scratch_needed r)
+    (refuse (ltb scratch_room (scratch_needed r)) 6 (scratch_needed r)
     (answer 0 0)))
 
 -- what spreading answers: then 18 and 7, as for folding
-unfoldable pub spread_checked : (c : List ℕ) (n m T : ℕ) (ins outs : List ℕ) (scratchRoom nodeRoom resultRoom : ℕ) → Figures
-spread_checked c n m T ins outs scratchRoom nodeRoom resultRoom =
+unfoldable pub spread_checked : (c : List ℕ) (n m T : ℕ) (ins outs : List ℕ) (scratch_room node_room result_room : ℕ) → Figures
+spread_checked c n m T ins outs scratch_room node_room result_room =
     let r = rearranged c n m T ins outs in
-    and_then (spread_lent c n m T ins outs scratchRoom) (and_then (nodes_checked r nodeRoom) (room_checked r resultRoom))
+    and_then (spread_lent c n m T ins outs scratch_room) (and_then (nodes_checked r node_room) (room_checked r result_room))
 
 -- what the result holds after it: the table of the network rearranged
-unfoldable pub spread_result : (c : List ℕ) (n m T : ℕ) (ins outs : List ℕ) (scratchRoom nodeRoom : ℕ) (before : List ℕ) → List ℕ
-spread_result c n m T ins outs scratchRoom nodeRoom before = result_after (spread_checked c n m T ins outs scratchRoom nodeRoom (length before)) (folded_bytes (rearranged c n m T ins outs)) before
+unfoldable pub spread_result : (c : List ℕ) (n m T : ℕ) (ins outs : List ℕ) (scratch_room node_room : ℕ) (before : List ℕ) → List ℕ
+spread_result c n m T ins outs scratch_room node_room before = result_after (spread_checked c n m T ins outs scratch_room node_room (length before)) (folded_bytes (rearranged c n m T ins outs)) before
 
 -- what the scratch and the list of records hold: cleared where all before 18 passes, whatever is judged then; else as before
 unfoldable pub spread_scratch : (c : List ℕ) (n m T : ℕ) (ins outs before : List ℕ) → List ℕ
 spread_scratch c n m T ins outs before = cond (eqb (spread_lent c n m T ins outs (length before)).number 0) (cleared (rearranged c n m T ins outs) before) before
 
-unfoldable pub spread_nodes : (c : List ℕ) (n m T : ℕ) (ins outs : List ℕ) (scratchRoom : ℕ) (before : List Node) → List Node
-spread_nodes c n m T ins outs scratchRoom before = cond (eqb (spread_lent c n m T ins outs scratchRoom).number 0) (replicate (length before) none) before
+unfoldable pub spread_nodes : (c : List ℕ) (n m T : ℕ) (ins outs : List ℕ) (scratch_room : ℕ) (before : List Node) → List Node
+spread_nodes c n m T ins outs scratch_room before = cond (eqb (spread_lent c n m T ins outs scratch_room).number 0) (replicate (length before) none) before

@@ -24,7 +24,7 @@ use Rattle.steps.specs.declared.Stepped.TheVariants.{Moved, Refused as Stopped}
 use Rattle.steps.specs.declared.StepFigures.{StepFigures}
 use Rattle.layered.specs.Machines.{reached}
 use Rattle.steps.specs.Theorems.{steps_by, outputs_of, StepReaches, StepsFeed}
-use Rattle.layered.proofs.Feeding.{words-length, reached-append, reached_below}
+use Rattle.layered.proofs.Feeding.{words_length, reached_append, reached_below}
 use Rattle.table.proofs.Accepted.{head_accepts, sound}
 
 -- ---- steps
@@ -42,7 +42,7 @@ module _ (b : List ℕ) (p : ℕ) (e : checked b ≡ answer 0 p) where
     unfolding entry_checked bad_next
     entry_passes =
         rw (
-          (sound b p e).outputs-connected t s w ht hs hw,
+          (sound b p e).outputs_connected t s w ht hs hw,
           lt-leb (states b (suc t)) ((machine b).next t s w) ((sound b p e).legal.next_is t s w ht hs hw),
         )
 
@@ -71,7 +71,7 @@ step_reaches b p e t w c ht r hw =
     let S = sound b p e in
     let i : reached (machine b) 0 0 c < states b t = rw zero-add at (reached_below (machine b) S.legal 0 0 (omega arith) S.legal.start_is r) in
     let m : reached (machine b) 0 0 (c ++ (w ∷ [])) ≡ (machine b).next t (reached (machine b) 0 0 c) w =
-    reached-append (machine b) 0 0 c (w ∷ []) ∙ (let q : 0 + length c ≡ t = omega (arith, words-length r) in ap (λ k. (machine b).next k (reached (machine b) 0 0 c) w) q) in
+    reached_append (machine b) 0 0 c (w ∷ []) ∙ (let q : 0 + length c ≡ t = omega (arith, words_length r) in ap (λ k. (machine b).next k (reached (machine b) 0 0 c) w) q) in
     rw m (moves b p e t (reached (machine b) 0 0 c) w ht i hw)
 
 pub steps_feed : (b : List ℕ) → StepsFeed b

@@ -46,13 +46,13 @@ module _ (b s ws : List ℕ) (P : Surveyable b s ws) where
     well = well_formed formed O
 
     pub shapeable : (1 ≤ h.base) × (h.base ≤ 17)
-    shapeable = (omega (arith, O.base_is), omega (arith, O.base_is, headed.inputs-to))
+    shapeable = (omega (arith, O.base_is), omega (arith, O.base_is, headed.inputs_to))
 
     pub layable : (h.inputs ≤ 16) × (h.inputs * h.frames ≤ 16) × (h.total ≤ h.gates) × (h.gates ≤ 4352) × (h.base ≤ 17)
     unfolding all_inputs
     layable =
         let all : h.inputs * h.frames ≡ all_inputs b = ap₂ ◌*◌ O.inputs_is O.frames_is in
-        (omega (arith, O.inputs_is, headed.sizes.inputs-to), omega (arith, all, headed.inputs-to), omega (arith, O.total_is, O.gates_is, headed.outputs-to), omega (arith, O.gates_is, headed.gates-to), shapeable.1)
+        (omega (arith, O.inputs_is, headed.sizes.inputs_to), omega (arith, all, headed.inputs_to), omega (arith, O.total_is, O.gates_is, headed.outputs_to), omega (arith, O.gates_is, headed.gates_to), shapeable.1)
 
     module _ (k : ℕ) (m : Shape) (S : ShapeOf h k m) where
       pub buildable : (ns : List Node) → length ns ≡ k → ns ≡ replicate k none → Buildable b h ns ws m
@@ -105,7 +105,7 @@ module _ (b s ws : List ℕ) (P : Surveyable b s ws) where
 
               known : (counts : List ℕ) → counts ≡ c.counts → Known b m.room zs t vs counts
               known counts e = record {
-                built = same_built (all_inputs b) (all_inputs b + gates b) m.room (signal_on b) (nodes_in zs) us vs (λ i l. ended.before i (omega (arith, l, L.columns_is, headed.inputs-to, headed.gates-to))) signals.built;
+                built = same_built (all_inputs b) (all_inputs b + gates b) m.room (signal_on b) (nodes_in zs) us vs (λ i l. ended.before i (omega (arith, l, L.columns_is, headed.inputs_to, headed.gates_to))) signals.built;
                 within = signals.within;
                 room = signals.room;
                 explored = in_b (λ n o T k. Explored n o T (response b) k t (T - 1)) ended.explored;

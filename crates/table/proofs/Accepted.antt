@@ -64,8 +64,8 @@ headed b p e =
       one_first = omega (arith, count 0 zero-le);
       one_last = omega (arith, count (frames b) (omega arith), most);
       states_from = λ t h. (count t h).0;
-      states-to = λ t h. omega (arith, (count t h).1, either_most (eqb t 0 || eqb t (frames b)));
-      connected-to = connected_below b e₅.0 e₅.1;
+      states_to = λ t h. omega (arith, (count t h).1, either_most (eqb t 0 || eqb t (frames b)));
+      connected_to = connected_below b e₅.0 e₅.1;
       whole = eqb-true (length b) (table_length b) (not-false _ e₆.0);
     }
 
@@ -109,7 +109,7 @@ module _ (b : List ℕ) (p : ℕ) (h : TableHeaded b) where
 
   outputs_below : array_checked b (outputs_at b) (bad_output b) ≡ answer 0 p → (t s w : ℕ) → t < frames b → s < states b t → w < 2 ^ inputs b → (machine b).out t s w < 2 ^ outputs b
   unfolding bad_output
-  outputs_below e t s w ht hs hw = omega (arith, stray_free (connected b t) ((machine b).out t s w) (outputs_good e t s w ht hs hw), h.connected-to t ht)
+  outputs_below e t s w ht hs hw = omega (arith, stray_free (connected b t) ((machine b).out t s w) (outputs_good e t s w ht hs hw), h.connected_to t ht)
 
   nexts_below : array_checked b (nexts_at b) (bad_next b) ≡ answer 0 p → (t s w : ℕ) → t < frames b → s < states b t → w < 2 ^ inputs b → (machine b).next t s w < states b (suc t)
   unfolding bad_next
@@ -123,10 +123,10 @@ unfolding checked
 head_accepts b p e = let s = both_accept (head_checked b) _ p e in (s.0, s.1)
 
 -- a row of judgements that accepts has place 0
-row-place : (f : ℕ → Figures) (p k c : ℕ) → first_refusal f k c ≡ answer 0 p → p ≡ 0
+row_place : (f : ℕ → Figures) (p k c : ℕ) → first_refusal f k c ≡ answer 0 p → p ≡ 0
 unfolding first_refusal
-row-place f p k zero e = sym (ap (λ (f : Figures). f.place) e)
-row-place f p k (suc c) e = row-place f p (suc k) c (both_accept (f k) (first_refusal f (suc k) c) p e).2
+row_place f p k zero e = sym (ap (λ (f : Figures). f.place) e)
+row_place f p k (suc c) e = row_place f p (suc k) c (both_accept (f k) (first_refusal f (suc k) c) p e).2
 
 -- the theorem
 pub legal_table : (b : List ℕ) → LegalTable b
@@ -142,9 +142,9 @@ legal_table b p e =
           out_is = outputs_below b e₂.0 h e₂.1;
           next_is = nexts_below b p h e₂.2;
         };
-        outputs-connected = outputs_good b e₂.0 h e₂.1;
+        outputs_connected = outputs_good b e₂.0 h e₂.1;
       },
-      row-place _ p 0 (frames b) e₂.2,
+      row_place _ p 0 (frames b) e₂.2,
     )
 
 -- sizes, counts, length and machine of an accepted table

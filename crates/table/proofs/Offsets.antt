@@ -9,7 +9,7 @@ use lib.Dec.{lit≤}
 use lib.Pow.{pow_mono}
 use lib.ListN.{length, take, drop}
 use Rattle.words.specs.Words.{word_at}
-use Rattle.words.proofs.Laws.{number-take, number-drop}
+use Rattle.words.proofs.Laws.{number_take, number_drop}
 use Rattle.sizes.specs.Sizes.{inputs, frames}
 use Rattle.layered.specs.Search.{total}
 use Rattle.table.specs.Table.{count_at, states, connected_at, head_length, states_below, entries_below, entry_count, outputs_at, nexts_at, table_length}
@@ -29,7 +29,7 @@ head_length_lem T = omega (arith, connected-at T T)
 -- a word of a part of b that has k bytes
 pub part_word : (b : List ℕ) (start k i : ℕ) → i + 2 ≤ k → word_at (take k (drop start b)) i ≡ word_at b (start + i)
 unfolding word_at
-part_word b start k i h = number-take 2 k (drop start b) i h ∙ number-drop 2 start b i
+part_word b start k i h = number_take 2 k (drop start b) i h ∙ number_drop 2 start b i
 
 -- the entries of a layer are few, whatever its count is
 pub row_small : (S K : ℕ) → S < 65536 → K ≤ 256 → S * K ≤ 16777216
@@ -71,8 +71,8 @@ pub record Laid (b : List ℕ) (l : Layout) : Type 0 where
   pub frames_is : l.frames ≡ frames b
   pub outputs_is : l.outputs ≡ outputs_at b
   pub nexts_is : l.nexts ≡ nexts_at b
-  pub words-to : l.words ≤ 256
-  pub frames-to : l.frames ≤ 16
+  pub words_to : l.words ≤ 256
+  pub frames_to : l.frames ≤ 16
   pub outputs-at : l.outputs ≡ 8 + 4 * l.frames
   pub nexts-at : l.nexts ≡ l.outputs + 2 * entry_count b
   pub end_at : length b ≡ l.nexts + 2 * entry_count b
@@ -90,8 +90,8 @@ laid b l h e =
       frames_is = f;
       outputs_is = o;
       nexts_is = n;
-      words-to = omega (arith, words_most (inputs b) h.sized.inputs-to);
-      frames-to = omega (arith, h.sized);
+      words_to = omega (arith, words_most (inputs b) h.sized.inputs_to);
+      frames_to = omega (arith, h.sized);
       outputs-at = omega arith;
       nexts-at = omega arith;
       end_at = omega (arith, h.whole);

@@ -15,15 +15,15 @@ pub record TableHeaded (b : List ℕ) : Type 0 where
   pub one_first : states b 0 ≡ end_states
   pub one_last : states b (frames b) ≡ end_states
   pub states_from : (t : ℕ) → t ≤ frames b → 1 ≤ states b t
-  pub states-to : (t : ℕ) → t ≤ frames b → states b t ≤ most_states
-  pub connected-to : (t : ℕ) → t < frames b → connected b t < 2 ^ outputs b
+  pub states_to : (t : ℕ) → t ≤ frames b → states b t ≤ most_states
+  pub connected_to : (t : ℕ) → t < frames b → connected b t < 2 ^ outputs b
   pub whole : length b ≡ table_length b
 
 -- all is accepted: the head is, each entry is an output and a next state of a layered machine, and no output has a bit that is not connected
 pub record Sound (b : List ℕ) : Type 0 where
   pub headed : TableHeaded b
   pub legal : Legal (2 ^ inputs b) (outputs b) (frames b) (machine b)
-  pub outputs-connected : (t s w : ℕ) → t < frames b → s < states b t → w < 2 ^ inputs b → bad_output b t ((machine b).out t s w) ≡ false
+  pub outputs_connected : (t s w : ℕ) → t < frames b → s < states b t → w < 2 ^ inputs b → bad_output b t ((machine b).out t s w) ≡ false
 
 -- a word is bad by a bound, as the code holds it: a next state not below it, an output with a bit outside it
 abbrev pub bad_by : Bound → (x : ℕ) → Bool

@@ -8,7 +8,7 @@ use native.Mathlib.Omega.{arith}
 use lib.Dec.{eqb, lit<}
 use lib.Bits.{bit_and, bit_or, or_shr, or_mod}
 use Rattle.circuit.specs.Lists.{bit}
-use Rattle.circuit.proofs.Bits.{bit-zero, bit-suc, bit_and_lem, bit_not}
+use Rattle.circuit.proofs.Bits.{bit_zero, bit_suc, bit_and_lem, bit_not}
 
 digit_or : (p q : ℕ) → p < 2 → q < 2 → eqb (bit_or p q) 1 ≡ (eqb p 1 || eqb q 1)
 digit_or zero zero hp hq = refl
@@ -67,6 +67,6 @@ some_bit zero x l p = absurd (let z : x < 1 = rw pow-zero at l in omega arith)
 some_bit (suc m) x l p = go (λ k. some_bit m (x / 2) (omega (arith, pow-suc 2 m)) k) (x % 2) refl
   where
     go : (0 < x / 2 → (i : ℕ) × (i < m) × (bit (x / 2) i ≡ true)) → (d : ℕ) → x % 2 ≡ d → (i : ℕ) × (i < suc m) × (bit x i ≡ true)
-    go ih zero e = let I = ih (omega arith) in (suc I.0, omega (arith, I.1), bit-suc x I.0 ∙ I.2)
-    go ih (suc zero) e = (0, omega arith, bit-zero x ∙ ap (λ d. eqb d 1) e)
+    go ih zero e = let I = ih (omega arith) in (suc I.0, omega (arith, I.1), bit_suc x I.0 ∙ I.2)
+    go ih (suc zero) e = (0, omega arith, bit_zero x ∙ ap (λ d. eqb d 1) e)
     go ih (suc (suc d)) e = absurd (omega arith)

@@ -15,7 +15,7 @@ use Rattle.layered.proofs.States.{digit_below}
 use Rattle.layered.proofs.Rows.{pow-mul}
 use Rattle.sizes.specs.Sizes.{outputs}
 use Rattle.circuit.specs.Lists.{bit}
-use Rattle.circuit.proofs.Bits.{bit-none, bit_and_lem}
+use Rattle.circuit.proofs.Bits.{bit_none, bit_and_lem}
 use Rattle.table.specs.Table.{connected}
 use Rattle.merged.specs.Merged.{Target}
 use Rattle.merged.specs.Demands.{target_after, state_after, Within, Demand, Contradicted, Ones}
@@ -107,7 +107,7 @@ module _ (B : Target) (next : ℕ → ℕ) (L : ℕ) where
   half_none v list l z p = record {
     long = l;
     small = λ e b. rw (z e b) p;
-    sound = λ e i b li q. absurd (false≢true (sym (bit-none i) ∙ ap (λ y. bit y i) (sym (z e b)) ∙ q));
+    sound = λ e i b li q. absurd (false≢true (sym (bit_none i) ∙ ap (λ y. bit y i) (sym (z e b)) ∙ q));
     whole = λ s g w i lg lw q li c b. absurd (⊎_elim (λ l. omega arith) (λ p. omega (arith, p.1)) q);
   }
 
@@ -130,7 +130,7 @@ module _ (B : Target) (next : ℕ → ℕ) (L : ℕ) where
     small = F.small;
     sound = F.sound;
     whole = λ s g w i lg lw q li c b. ⊎_elim
-        (λ k. ⊎_elim (λ e. absurd (false≢true (sym (bit-none i) ∙ ap (λ m. bit m i) (sym (ap B.connected e ∙ z)) ∙ c))) (λ l. F.whole s g w i lg lw (inl l) li c b) (eq-or-lt_of_le {n = s} {m = t} (omega arith)))
+        (λ k. ⊎_elim (λ e. absurd (false≢true (sym (bit_none i) ∙ ap (λ m. bit m i) (sym (ap B.connected e ∙ z)) ∙ c))) (λ l. F.whole s g w i lg lw (inl l) li c b) (eq-or-lt_of_le {n = s} {m = t} (omega arith)))
         (λ p. absurd (omega (arith, p.1))) q;
   }
 
@@ -148,7 +148,7 @@ module _ (B : Target) (next : ℕ → ℕ) (L : ℕ) where
         let l = inside C.e C.i true C.one in
         let a = met true ones H.one C.e C.i C.bit_in C.one in
         let b = met false zeros H.zero C.e C.i C.bit_in C.zero in
-        false≢true (sym (bit-none C.i) ∙ ap (λ y. bit y C.i) (sym (H.apart C.e l)) ∙ bit_and_lem (get_or ones C.e 0) (get_or zeros C.e 0) C.i ∙ ap₂ ◌&&◌ a b)),
+        false≢true (sym (bit_none C.i) ∙ ap (λ y. bit y C.i) (sym (H.apart C.e l)) ∙ bit_and_lem (get_or ones C.e 0) (get_or zeros C.e 0) C.i ∙ ap₂ ◌&&◌ a b)),
     record { small = H.one.small; are = λ e i l li. (H.one.sound e i l li, λ D. met true ones H.one e i li D) },
   )
     where
@@ -187,8 +187,8 @@ module _ (a : Sought) (bytes starts chosen : List ℕ) (H : Held bytes starts a)
   one_at : get_or (set ones v.entry one_now) v.entry 0 ≡ one_now
   one_at = get_or-set_same ones v.entry one_now 0 (omega (arith, S.one.long, b.0))
 
-  zero-at : get_or (set zeros v.entry zero_now) v.entry 0 ≡ zero_now
-  zero-at = get_or-set_same zeros v.entry zero_now 0 (omega (arith, S.zero.long, b.0))
+  zero_at : get_or (set zeros v.entry zero_now) v.entry 0 ≡ zero_now
+  zero_at = get_or-set_same zeros v.entry zero_now 0 (omega (arith, S.zero.long, b.0))
 
   pub turn_on : bit_and one_now zero_now ≡ 0
       → Halves (target_of a.words a.frames bytes) (λ e. get_or chosen e 0) a.entries (set ones v.entry one_now) (set zeros v.entry zero_now) t (suc h)
@@ -196,13 +196,13 @@ module _ (a : Sought) (bytes starts chosen : List ℕ) (H : Held bytes starts a)
     one = one_half;
     zero = zero_half;
     apart = λ e l. ⊎_elim
-        (λ q. ap (λ e. bit_and (get_or (set ones v.entry one_now) e 0) (get_or (set zeros v.entry zero_now) e 0)) q ∙ ap₂ bit_and one_at zero-at ∙ z)
+        (λ q. ap (λ e. bit_and (get_or (set ones v.entry one_now) e 0) (get_or (set zeros v.entry zero_now) e 0)) q ∙ ap₂ bit_and one_at zero_at ∙ z)
         (λ n. ap₂ bit_and (get_or-set_other ones v.entry e one_now 0 n) (get_or-set_other zeros v.entry e zero_now 0 n) ∙ S.apart e l)
         (decide e v.entry);
   }
 
   pub turn_ends : 0 < bit_and one_now zero_now → Contradicted (target_of a.words a.frames bytes) (λ e. get_or chosen e 0) a.entries
-  turn_ends p = clashes (target_of a.words a.frames bytes) (λ e. get_or chosen e 0) a.entries _ _ t (suc h) t (suc h) v.entry one_half zero_half b.0 (subst (λ x. 0 < x) (sym (ap₂ bit_and one_at zero-at)) p)
+  turn_ends p = clashes (target_of a.words a.frames bytes) (λ e. get_or chosen e 0) a.entries _ _ t (suc h) t (suc h) v.entry one_half zero_half b.0 (subst (λ x. 0 < x) (sym (ap₂ bit_and one_at zero_at)) p)
 
 -- ---- answers
 

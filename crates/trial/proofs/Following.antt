@@ -15,7 +15,7 @@ use Rattle.trial.specs.Tried.{target_of, Held, Candidate, Leads, Comes}
 use Rattle.trial.specs.declared.Sought.{Sought}
 use Rattle.trial.specs.declared.Place.{Place}
 use Rattle.trial.specs.declared.Visit.{Visit}
-use Rattle.trial.proofs.Places.{words_some, few_bits, few_entries, entry_in, start_in, next_below, next_inside, out_at, next-at}
+use Rattle.trial.proofs.Places.{words_some, few_bits, few_entries, entry_in, start_in, next_below, next_inside, out_at, next_at}
 
 -- ---- where histories lead
 
@@ -144,7 +144,7 @@ module _ (a : Sought) (bytes starts chosen : List ℕ) (H : Held bytes starts a)
               turns = l;
               shift_is = omega (arith, shift_on);
               before_is = prefix_is;
-              target_is = et ∙ next-at a bytes starts H i target word (omega arith) target_in word_in ∙ ap (λ q. Bt.machine.next i q word) A.target_is ∙ sym (target_more Bt i before word word_in) ∙ ap (target_after Bt (suc i)) word_is;
+              target_is = et ∙ next_at a bytes starts H i target word (omega arith) target_in word_in ∙ ap (λ q. Bt.machine.next i q word) A.target_is ∙ sym (target_more Bt i before word word_in) ∙ ap (target_after Bt (suc i)) word_is;
               state_is = est ∙ ap (λ s. nx (s * a.words + word)) A.state_is ∙ sym (state_more Bt nx i before word word_in) ∙ ap (state_after Bt nx (suc i)) word_is;
               within = subst (Within Bt nx used' (suc i)) word_is
                   (within_more Bt nx used' i before word word_in (within_longer Bt nx used used' i before (λ e b. omega arith) A.within) (subst (λ s. s * a.words + word < used') A.state_is v));

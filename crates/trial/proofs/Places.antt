@@ -25,19 +25,19 @@ module _ (a : Sought) (bytes starts : List ℕ) (H : Held bytes starts a) where
   words_few = rw H.words_are (pow_mono H.few_inputs)
 
   pub few_bits : a.inputs * a.frames ≤ 16
-  few_bits = rw (H.inputs_are, H.frames_are) H.sound.headed.sized.bits-to
+  few_bits = rw (H.inputs_are, H.frames_are) H.sound.headed.sized.bits_to
 
   pub few_frames : a.frames ≤ 16
-  few_frames = rw H.frames_are H.sound.headed.sized.frames-to
+  few_frames = rw H.frames_are H.sound.headed.sized.frames_to
 
   pub few_outputs : outputs bytes ≤ 16
-  few_outputs = H.sound.headed.sized.outputs-to
+  few_outputs = H.sound.headed.sized.outputs_to
 
   pub few_entries : a.entries ≤ 12
   few_entries = let l = mul-le-mul_right a.words H.few_states in let m = words_few in omega (arith, H.entries_are)
 
   pub masks : (t : ℕ) → t < a.frames → connected bytes t < 2 ^ outputs bytes
-  masks t l = H.sound.headed.connected-to t (omega (arith, H.frames_are))
+  masks t l = H.sound.headed.connected_to t (omega (arith, H.frames_are))
 
   pub head_in : head_length a.frames ≤ length bytes
   head_in = omega (arith, head_length_lem a.frames, (arrays_stand bytes).0, (arrays_stand bytes).1, (arrays_stand bytes).2, H.sound.headed.whole, H.frames_are)
@@ -72,6 +72,6 @@ module _ (a : Sought) (bytes starts : List ℕ) (H : Held bytes starts a) where
     unfolding entry_at
     out_at = ap (word_at bytes) (omega (arith, H.starts_are t lt, ap (λ n. s * n) words_is))
 
-    pub next-at : word_at bytes (a.gap + (get_or starts t 0 + 2 * (s * a.words + w))) ≡ (machine bytes).next t s w
+    pub next_at : word_at bytes (a.gap + (get_or starts t 0 + 2 * (s * a.words + w))) ≡ (machine bytes).next t s w
     unfolding entry_at
-    next-at = ap (word_at bytes) (omega (arith, H.starts_are t lt, H.gap_is, (arrays_stand bytes).1, ap (λ n. s * n) words_is))
+    next_at = ap (word_at bytes) (omega (arith, H.starts_are t lt, H.gap_is, (arrays_stand bytes).1, ap (λ n. s * n) words_is))

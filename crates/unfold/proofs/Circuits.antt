@@ -5,7 +5,7 @@ use Prim.Native.Nat.{ℕ, ◌+◌, ◌*◌, ◌≤◌}
 use native.Mathlib.Omega.{arith}
 use lib.ListN.{length, drop, length-append, length-map}
 use Rattle.words.specs.Words.{all_bytes, stored, word_bytes}
-use Rattle.words.proofs.Laws.{all_bytes-length, stored_front, stored-behind}
+use Rattle.words.proofs.Laws.{all_bytes_length, stored_front, stored_behind}
 use Rattle.verdict.specs.declared.Figures.{Figures}
 use Rattle.sizes.specs.Sizes.{inputs, outputs, frames}
 use Rattle.circuit.specs.Circuit.{circuit_words}
@@ -16,36 +16,36 @@ use Rattle.unfolded.proofs.Theorems.{unfoldings}
 use Rattle.chains.specs.Chains.{gates_stored}
 use Rattle.unfold.specs.Unfold.{Promised}
 
-pub circuit-stored : (n m T G : ℕ) (gs : List (ℕ × ℕ)) (v r w : List ℕ) → r ≡ stored 2 v 0 (n ∷ m ∷ T ∷ G ∷ []) → G ≡ length gs → w ≡ gates_stored G 0 r gs
+pub circuit_stored : (n m T G : ℕ) (gs : List (ℕ × ℕ)) (v r w : List ℕ) → r ≡ stored 2 v 0 (n ∷ m ∷ T ∷ G ∷ []) → G ≡ length gs → w ≡ gates_stored G 0 r gs
     → 8 + 4 * G ≤ length v → w ≡ stored 2 v 0 (circuit_words n m T gs)
 unfolding gates_stored circuit_words
-circuit-stored n m T G gs v r w er eg ew room =
+circuit_stored n m T G gs v r w er eg ew room =
     let head : List ℕ = n ∷ m ∷ T ∷ G ∷ [] in
     let ls : List ℕ = map (λ g. g.0) gs in
     let rs : List ℕ = map (λ g. g.1) gs in
     let l : length ls ≡ length gs = length-map gs (λ g. g.0) in
     let a : length (head ++ ls) ≡ 4 + length ls = length-append head ls in
     ew
-    ∙ stored-behind 2 v (stored 2 r (8 + 2 * 0) ls) 0 (head ++ ls) rs (8 + 2 * (G + 0)) (stored-behind 2 v r 0 head ls (8 + 2 * 0) er (omega arith) (omega arith)) (omega arith) (omega arith)
+    ∙ stored_behind 2 v (stored 2 r (8 + 2 * 0) ls) 0 (head ++ ls) rs (8 + 2 * (G + 0)) (stored_behind 2 v r 0 head ls (8 + 2 * 0) er (omega arith) (omega arith)) (omega arith) (omega arith)
     ∙ ap (λ (g : ℕ). stored 2 v 0 (n ∷ m ∷ T ∷ g ∷ (ls ++ rs))) eg
 
 -- ---- the bytes
 
 -- how many they are
-pub bytes-needed : (b : List ℕ) → length (unfolded_bytes b) ≡ 8 + 4 * gates_needed b
+pub bytes_needed : (b : List ℕ) → length (unfolded_bytes b) ≡ 8 + 4 * gates_needed b
 unfolding unfolded_bytes word_bytes circuit_words gates_needed
-bytes-needed b =
+bytes_needed b =
     let ls : List ℕ = map (λ g. g.0) (drawn b) in
     let rs : List ℕ = map (λ g. g.1) (drawn b) in
     let ws : List ℕ = circuit_words (inputs b) (outputs b) (frames b) (drawn b) in
-    all_bytes-length 2 ws ∙ omega (arith, length-append ls rs, length-map (drawn b) (λ g. g.0), length-map (drawn b) (λ g. g.1))
+    all_bytes_length 2 ws ∙ omega (arith, length-append ls rs, length-map (drawn b) (λ g. g.0), length-map (drawn b) (λ g. g.1))
 
 -- they are what is stored at the front
-pub bytes-stored : (b v : List ℕ) → stored 2 v 0 (circuit_words (inputs b) (outputs b) (frames b) (drawn b)) ≡ unfolded_bytes b ++ drop (length (unfolded_bytes b)) v
+pub bytes_stored : (b v : List ℕ) → stored 2 v 0 (circuit_words (inputs b) (outputs b) (frames b) (drawn b)) ≡ unfolded_bytes b ++ drop (length (unfolded_bytes b)) v
 unfolding unfolded_bytes word_bytes
-bytes-stored b v =
+bytes_stored b v =
     let ws : List ℕ = circuit_words (inputs b) (outputs b) (frames b) (drawn b) in
-    stored_front 2 v ws ∙ ap (λ (k : ℕ). all_bytes 2 ws ++ drop k v) (sym (all_bytes-length 2 ws))
+    stored_front 2 v ws ∙ ap (λ (k : ℕ). all_bytes 2 ws ++ drop k v) (sym (all_bytes_length 2 ws))
 
 -- ---- outcomes
 

@@ -9,7 +9,7 @@ use lib.Bits.{bit_and}
 use lib.Dec.{eqb}
 use borrow.Author.Tests.{eqb-true, eqb-false, not-false}
 use Rattle.circuit.specs.Lists.{bit}
-use Rattle.circuit.proofs.Bits.{equal-bits, bit_and_lem}
+use Rattle.circuit.proofs.Bits.{equal_bits, bit_and_lem}
 use Rattle.circuit.proofs.Ahead.{beq_same, same_beq}
 use Rattle.layered.specs.Search.{every}
 use Rattle.layered.proofs.Search.{every_true, every_each}
@@ -51,4 +51,4 @@ same_bits n w x h k = go (eqb x w) refl
       where
         no_way : (t : Bool) → every n (λ i. beq (bit w i) (bit x i)) ≡ t → t ≡ false
         no_way false q = refl
-        no_way true q = absurd (eqb-false x w e (sym (equal-bits n w x h k (λ j l. beq_same _ _ (every_each _ n q j l)))))
+        no_way true q = absurd (eqb-false x w e (sym (equal_bits n w x h k (λ j l. beq_same _ _ (every_each _ n q j l)))))

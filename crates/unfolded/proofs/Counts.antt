@@ -16,9 +16,9 @@ use Rattle.layered.proofs.Lists.{total_cong, total_each, total_swap, tally_absen
 use Rattle.table.specs.Table.{states, machine}
 use Rattle.unfolded.specs.Unfolded.{chains_from, Frame, input_literal, matching, match_gates, edges_at, edge_gate, edge_gates, inverted_edges, entering, next_gates, next_gates_at, with_bit, out_gates, out_gates_at, frame_gates, Drawing, table_frame, with_frame, drawing, gates_needed}
 use Rattle.unfolded.specs.Counted.{ones, frame_needs}
-use Rattle.circuit.proofs.Lists.{listed-length}
+use Rattle.circuit.proofs.Lists.{listed_length}
 use Rattle.unfolded.proofs.Gates.{chains_more}
-use Rattle.unfolded.proofs.Drawings.{drawn-length}
+use Rattle.unfolded.proofs.Drawings.{drawn_length}
 
 -- ---- chains
 
@@ -27,10 +27,10 @@ unfolding chains_from total
 chains_length at f zero = refl
 chains_length at f (suc k) = chains_more at f k ∙ ap (λ n. n + length (f k)) (chains_length at f k)
 
-pub matches-length : (at n t k : ℕ) → length (chains_from at (matching n t) k) ≡ k * n
+pub matches_length : (at n t k : ℕ) → length (chains_from at (matching n t) k) ≡ k * n
 unfolding matching
-matches-length at n t k =
-    chains_length at (matching n t) k ∙ total_cong k _ _ (λ w h. listed-length (input_literal n t w) n) ∙ total_each k n
+matches_length at n t k =
+    chains_length at (matching n t) k ∙ total_cong k _ _ (λ w h. listed_length (input_literal n t w) n) ∙ total_each k n
 
 pub edges_length : (at : ℕ) (test : ℕ → Bool) (k : ℕ) → length (inverted_edges at test k) ≡ tally k test
 unfolding inverted_edges tally
@@ -44,11 +44,11 @@ edges_length at test (suc k) = length-append (inverted_edges at test k) _ ∙ om
 module _ (F : Frame) where
   pub match_count : length (match_gates F) ≡ 2 ^ F.inputs * F.inputs
   unfolding match_gates
-  match_count = matches-length F.at F.inputs F.frame (2 ^ F.inputs)
+  match_count = matches_length F.at F.inputs F.frame (2 ^ F.inputs)
 
   pub edge_count : length (edge_gates F) ≡ F.edges
   unfolding edge_gates
-  edge_count = listed-length (edge_gate F) F.edges
+  edge_count = listed_length (edge_gate F) F.edges
 
   gather_count : length (next_gates F) ≡ total F.edges (λ e. tally F.nexts (eqb (F.next e)))
   unfolding next_gates entering
@@ -100,12 +100,12 @@ module _ (b : List ℕ) where
         let F : Frame = table_frame b t d in
         frame_count F ∙ ap₂ ◌+◌ (match_count F) (ap₂ ◌+◌ (edge_count F) (ap₂ ◌+◌ (nexts_count t d h) (out_count F)))
 
-    drawing-length : (t : ℕ) → t ≤ frames b → length (drawing b t).gates ≡ total t (frame_needs b)
+    drawing_length : (t : ℕ) → t ≤ frames b → length (drawing b t).gates ≡ total t (frame_needs b)
     unfolding drawing with_frame total
-    drawing-length zero h = refl
-    drawing-length (suc t) h =
-        length-append (drawing b t).gates _ ∙ ap₂ ◌+◌ (drawing-length t (omega arith)) (frame_needs_lem t (drawing b t) h)
+    drawing_length zero h = refl
+    drawing_length (suc t) h =
+        length-append (drawing b t).gates _ ∙ ap₂ ◌+◌ (drawing_length t (omega arith)) (frame_needs_lem t (drawing b t) h)
 
     pub gates-needed : gates_needed b ≡ total (frames b) (frame_needs b) + outputs b * frames b
     unfolding gates_needed
-    gates-needed = drawn-length b ∙ ap (λ k. k + outputs b * frames b) (drawing-length (frames b) (le_refl (frames b)))
+    gates-needed = drawn_length b ∙ ap (λ k. k + outputs b * frames b) (drawing_length (frames b) (le_refl (frames b)))

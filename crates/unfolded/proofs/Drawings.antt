@@ -16,9 +16,9 @@ use Rattle.circuit.specs.Limits.{mark}
 use Rattle.circuit.specs.Lists.{listed, bit}
 use Rattle.table.specs.Table.{states, connected}
 use Rattle.unfolded.specs.Unfolded.{Frame, input_literal, frame_gates, next_literal, out_literal, Drawing, table_frame, with_frame, drawing, is_connected, drawn}
-use Rattle.circuit.proofs.Lists.{listed-length, listed_at}
+use Rattle.circuit.proofs.Lists.{listed_length, listed_at}
 use Rattle.unfolded.proofs.Lists.{Under, none, under_more, under_widen, under_listed, under_at}
-use Rattle.circuit.proofs.Gates.{Admitted, no_gate, admitted_append, Reads, run, run-append, run_length, run_read, each_reads, closing, closed, closed-length, closing_either}
+use Rattle.circuit.proofs.Gates.{Admitted, no_gate, admitted_append, Reads, run, run-append, run_length, run_read, each_reads, closing, closed, closed_length, closing_either}
 use Rattle.unfolded.proofs.Frames.{input_half, Placed, frame_admitted, next_below, out_below}
 
 -- ---- the output gates
@@ -38,12 +38,12 @@ connected-at b t j h =
 abbrev pub all_gates : List ℕ → (blank : ℕ) → List (ℕ × ℕ)
 all_gates b blank = closed (drawing b (frames b)).gates (is_connected b) (output_literal b) (outputs b * frames b) blank
 
-pub drawn-marked : (b : List ℕ) → drawn b ≡ all_gates b mark
+pub drawn_marked : (b : List ℕ) → drawn b ≡ all_gates b mark
 unfolding drawn closed closing
-drawn-marked b = refl
+drawn_marked b = refl
 
-pub drawn-length : (b : List ℕ) → length (drawn b) ≡ length (drawing b (frames b)).gates + outputs b * frames b
-drawn-length b = ap length (drawn-marked b) ∙ closed-length (drawing b (frames b)).gates (is_connected b) (output_literal b) (outputs b * frames b) mark
+pub drawn_length : (b : List ℕ) → length (drawn b) ≡ length (drawing b (frames b)).gates + outputs b * frames b
+drawn_length b = ap length (drawn_marked b) ∙ closed_length (drawing b (frames b)).gates (is_connected b) (output_literal b) (outputs b * frames b) mark
 
 -- ---- literals are of earlier signals
 
@@ -72,9 +72,9 @@ input_low b t w i h l = omega (arith, input_half (inputs b) t w i, mul_comm t (i
 -- what holds of the drawing of t frames
 record Drawn (b : List ℕ) (t : ℕ) (d : Drawing) : Type 0 where
   admitted : Admitted (base b) d.gates
-  states-before : t < frames b → (s : ℕ) → s < states b t → get_or d.states s 0 < 2 * behind b d
-  outputs-count : length d.outputs ≡ outputs b * t
-  outputs-before : Under (2 * behind b d) d.outputs
+  states_before : t < frames b → (s : ℕ) → s < states b t → get_or d.states s 0 < 2 * behind b d
+  outputs_count : length d.outputs ≡ outputs b * t
+  outputs_before : Under (2 * behind b d) d.outputs
 
 module _ (b : List ℕ) (t : ℕ) (d : Drawing) where
   frame_at : (table_frame b t d).at ≡ behind b d
@@ -88,8 +88,8 @@ module _ (b : List ℕ) (t : ℕ) (d : Drawing) where
   frame_placed : t < frames b → Drawn b t d → Placed (table_frame b t d)
   unfolding table_frame behind base
   frame_placed h D = record {
-    inputs-before = omega (arith, mul-suc (inputs b) t, mul_comm t (inputs b), mul-le-mul_left (inputs b) h);
-    states-before = λ e l. D.states-before h (e / 2 ^ inputs b) ((div-lt_iff_lt-mul (pow_pos (inputs b))).1 l);
+    inputs_before = omega (arith, mul-suc (inputs b) t, mul_comm t (inputs b), mul-le-mul_left (inputs b) h);
+    states_before = λ e l. D.states_before h (e / 2 ^ inputs b) ((div-lt_iff_lt-mul (pow_pos (inputs b))).1 l);
   }
 
   behind_more : behind b (with_frame d (table_frame b t d)) ≡ (table_frame b t d).at + length (frame_gates (table_frame b t d))
@@ -97,42 +97,42 @@ module _ (b : List ℕ) (t : ℕ) (d : Drawing) where
   behind_more = omega (arith, length-append d.gates (frame_gates (table_frame b t d)))
 
   -- one frame more
-  drawn-more : t < frames b → Drawn b t d → Drawn b (suc t) (with_frame d (table_frame b t d))
+  drawn_more : t < frames b → Drawn b t d → Drawn b (suc t) (with_frame d (table_frame b t d))
   unfolding with_frame base table_frame
-  drawn-more h D =
+  drawn_more h D =
       let F : Frame = table_frame b t d in
       let P = frame_placed h D in
       let m = behind_more in
       let a = frame_at in
       record {
         admitted = admitted_append D.admitted (frame_admitted F P);
-        states-before = λ l s k.
+        states_before = λ l s k.
             let k' : s < F.nexts = omega (arith, frame_nexts l) in
             rw (listed_at (next_literal F) 0 F.nexts s k', m) (next_below F P s k');
-        outputs-count = length-append d.outputs _ ∙ omega (arith, D.outputs-count, listed-length (out_literal F) F.outputs, mul-suc (outputs b) t);
-        outputs-before = under_more (under_widen (omega (arith, m)) D.outputs-before) (under_listed _ (out_literal F) F.outputs (λ j l. rw m (out_below F P j l)));
+        outputs_count = length-append d.outputs _ ∙ omega (arith, D.outputs_count, listed_length (out_literal F) F.outputs, mul-suc (outputs b) t);
+        outputs_before = under_more (under_widen (omega (arith, m)) D.outputs_before) (under_listed _ (out_literal F) F.outputs (λ j l. rw m (out_below F P j l)));
       }
 
 module _ (b : List ℕ) (one : states b 0 ≡ 1) where
-  drawing-drawn : (t : ℕ) → t ≤ frames b → Drawn b t (drawing b t)
+  drawing_drawn : (t : ℕ) → t ≤ frames b → Drawn b t (drawing b t)
   unfolding drawing behind base
-  drawing-drawn zero h = record {
+  drawing_drawn zero h = record {
     admitted = no_gate;
-    states-before = λ l s k. let z : s ≡ 0 = omega arith in rw z (omega arith);
-    outputs-count = sym (mul-zero (outputs b));
-    outputs-before = none;
+    states_before = λ l s k. let z : s ≡ 0 = omega arith in rw z (omega arith);
+    outputs_count = sym (mul-zero (outputs b));
+    outputs_before = none;
   }
-  drawing-drawn (suc t) h = drawn-more b t (drawing b t) h (drawing-drawn t (omega arith))
+  drawing_drawn (suc t) h = drawn_more b t (drawing b t) h (drawing_drawn t (omega arith))
 
-  all-drawn : Drawn b (frames b) (drawing b (frames b))
-  all-drawn = drawing-drawn (frames b) (le_refl (frames b))
+  all_drawn : Drawn b (frames b) (drawing b (frames b))
+  all_drawn = drawing_drawn (frames b) (le_refl (frames b))
 
   -- the gates of all frames, and the literals of all outputs
   pub gates_admitted : Admitted (base b) (drawing b (frames b)).gates
-  gates_admitted = all-drawn.admitted
+  gates_admitted = all_drawn.admitted
 
   pub outputs_low : (q : ℕ) → q < outputs b * frames b → output_literal b q < 2 * behind b (drawing b (frames b))
-  outputs_low q h = under_at _ all-drawn.outputs-before q (omega (arith, all-drawn.outputs-count))
+  outputs_low q h = under_at _ all_drawn.outputs_before q (omega (arith, all_drawn.outputs_count))
 
 -- ---- what is read, frame by frame
 
@@ -160,16 +160,16 @@ module _
       of_outputs : (u j : ℕ) → u < t → j < outputs b → OfOutput u j (read (run meet read start d.gates) (get_or d.outputs (outputs b * u + j) 0))
 
     module _ (one : states b 0 ≡ 1) (S : Step) where
-      run-behind : (d : Drawing) → length (run meet read start d.gates) ≡ behind b d
+      run_behind : (d : Drawing) → length (run meet read start d.gates) ≡ behind b d
       unfolding behind
-      run-behind d = run_length meet read start d.gates ∙ ap (λ k. k + length d.gates) S.from
+      run_behind d = run_length meet read start d.gates ∙ ap (λ k. k + length d.gates) S.from
 
       known_more : (t : ℕ) (d : Drawing) → t < frames b → Drawn b t d → Known t d → Known (suc t) (with_frame d (table_frame b t d))
       unfolding with_frame run table_frame
       known_more t d h D k =
           let F : Frame = table_frame b t d in
           let vs : List A = run meet read start d.gates in
-          let a : length vs ≡ F.at = run-behind d ∙ sym (frame_at b t d) in
+          let a : length vs ≡ F.at = run_behind d ∙ sym (frame_at b t d) in
           let H = S.on t d vs h (frame_placed b t d h D) a (λ l q. run_read meet read R start d.gates l (omega (arith, S.from))) (k.of_states_lem h) in
           let e : run meet read start (d.gates ++ frame_gates F) ≡ run meet read vs (frame_gates F) = run-append meet read start d.gates (frame_gates F) in
           let old : List ℕ = d.outputs in
@@ -182,11 +182,11 @@ module _
                 rw e
                 (⊎_elim
                 (λ (i : u ≡ t).
-                let w : outputs b * u + j ≡ length old + j = rw i (omega (arith, D.outputs-count)) in
+                let w : outputs b * u + j ≡ length old + j = rw i (omega (arith, D.outputs_count)) in
                 rw (w, get_or-append-add old new j 0, listed_at (out_literal F) 0 (outputs b) j q, i) (H.outs j q))
                 (λ (i : u < t).
-                let w : outputs b * u + j < length old = omega (arith, D.outputs-count, mul-suc (outputs b) u, mul-le-mul_left (outputs b) i) in
-                rw (get_or-append old new 0 (outputs b * u + j) w, run_read meet read R vs (frame_gates F) (get_or old (outputs b * u + j) 0) (omega (arith, run-behind d, under_at old D.outputs-before (outputs b * u + j) w)))
+                let w : outputs b * u + j < length old = omega (arith, D.outputs_count, mul-suc (outputs b) u, mul-le-mul_left (outputs b) i) in
+                rw (get_or-append old new 0 (outputs b * u + j) w, run_read meet read R vs (frame_gates F) (get_or old (outputs b * u + j) 0) (omega (arith, run_behind d, under_at old D.outputs_before (outputs b * u + j) w)))
                 (k.of_outputs u j i q))
                 (eq-or-lt_of_le (le_of_suc-le-suc l)));
           }
@@ -197,7 +197,7 @@ module _
         of_states_lem = λ l s k. let z : s ≡ 0 = omega arith in rw z S.first;
         of_outputs = λ u j l q. absurd (omega arith);
       }
-      known (suc t) h = known_more t (drawing b t) h (drawing-drawn b one t (omega arith)) (known t (omega arith))
+      known (suc t) h = known_more t (drawing b t) h (drawing_drawn b one t (omega arith)) (known t (omega arith))
 
       -- the output gates: together with literal 1 where they are connected, else literal 0 twice
       pub outputs_read : (meets : (t j : ℕ) (a : A) → OfOutput t j a → OfOutput t j (meet a (read start 1)))
@@ -211,7 +211,7 @@ module _
           let last : ℕ → ℕ × ℕ = closing (is_connected b) (output_literal b) 0 in
           let q : ℕ = outputs b * t + j in
           let w : q < outputs b * frames b = omega (arith, mul-suc (outputs b) t, mul-le-mul_left (outputs b) h) in
-          let n : length vs ≡ behind b d = run-behind d in
+          let n : length vs ≡ behind b d = run_behind d in
           let o : 1 < 2 * length vs = one_before b d _ n in
           let e : read (run meet read start (all_gates b 0)) (2 * (behind b d + q)) ≡ meet (read vs (last q).0) (read vs (last q).1) =
           ap₂ (λ v k. read v (2 * (k + q))) (run-append meet read start d.gates (listed [] last (outputs b * frames b))) (sym n)

@@ -55,10 +55,10 @@ unfoldable pub together : {A : Type 0} → (A → A → A) → (ℕ → A) → A
 together meet f a [] = a
 together meet f a (r ∷ rs) = together meet f (meet a (f r)) rs
 
-pub together-append : {A : Type 0} (meet : A → A → A) (f : ℕ → A) (a : A) (rs ss : List ℕ) → together meet f a (rs ++ ss) ≡ together meet f (together meet f a rs) ss
+pub together_append : {A : Type 0} (meet : A → A → A) (f : ℕ → A) (a : A) (rs ss : List ℕ) → together meet f a (rs ++ ss) ≡ together meet f (together meet f a rs) ss
 unfolding together
-together-append meet f a [] ss = refl
-together-append meet f a (r ∷ rs) ss = together-append meet f (meet a (f r)) rs ss
+together_append meet f a [] ss = refl
+together_append meet f a (r ∷ rs) ss = together_append meet f (meet a (f r)) rs ss
 
 pub together_cong : {A : Type 0} (meet : A → A → A) (f g : ℕ → A) {x : ℕ} (a : A) {rs : List ℕ} → ((l : ℕ) → l < x → f l ≡ g l) → Under x rs
     → together meet f a rs ≡ together meet g a rs

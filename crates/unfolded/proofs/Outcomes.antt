@@ -22,7 +22,7 @@ use Rattle.unfolded.specs.Unfolded.{gates_needed, unfolded_bytes, drawn_checked,
 
 pub record Accepted (b : List ℕ) (room p : ℕ) : Type 0 where
   pub table_sound : Sound b
-  pub gates-to : gates_needed b ≤ most_gates
+  pub gates_to : gates_needed b ≤ most_gates
   pub room_enough : length (unfolded_bytes b) ≤ room
   pub place_is : p ≡ length (unfolded_bytes b)
 
@@ -34,15 +34,15 @@ accepted b room p e =
     let e₃ = passed (ltb room (length (unfolded_bytes b))) 7 _ _ p refl e₂.1 in
     record {
       table_sound = sound b e₁.0 e₁.1;
-      gates-to = ltb-false most_gates _ e₂.0;
+      gates_to = ltb-false most_gates _ e₂.0;
       room_enough = ltb-false room _ e₃.0;
       place_is = sym (ap (λ (f : Figures). f.place) e₃.1);
     }
 
 -- the bytes that were written
-pub written-bytes : (b before : List ℕ) (p : ℕ) → unfold_checked b (length before) ≡ answer 0 p → take p (unfold_result b before) ≡ unfolded_bytes b
+pub written_bytes : (b before : List ℕ) (p : ℕ) → unfold_checked b (length before) ≡ answer 0 p → take p (unfold_result b before) ≡ unfolded_bytes b
 unfolding unfold_result
-written-bytes b before p e =
+written_bytes b before p e =
     ap (λ f. take p (result_after f (unfolded_bytes b) before)) e ∙ take_at (unfolded_bytes b) (drop p before) p (sym (accepted b (length before) p e).place_is)
 
 -- ---- what is answered and left in each case
@@ -58,10 +58,10 @@ unfolding unfold_checked
 table_answer b room x r e q = stop x (checked b) _ r e q
 
 -- it is accepted, and then 8 and 7 are judged
-pub drawn-answer : (b : List ℕ) (room p : ℕ) (x y : Verdict) → figures x ≡ checked b → x ≡ Passed p
+pub drawn_answer : (b : List ℕ) (room p : ℕ) (x y : Verdict) → figures x ≡ checked b → x ≡ Passed p
     → figures y ≡ drawn_checked (gates_needed b) (length (unfolded_bytes b)) room → figures y ≡ unfold_checked b room
 unfolding unfold_checked
-drawn-answer b room p x y e q h = go_on x (checked b) _ _ p e q h
+drawn_answer b room p x y e q h = go_on x (checked b) _ _ p e q h
 
 module _ (b result : List ℕ) (x : Verdict) (e : figures x ≡ unfold_checked b (length result)) where
   -- a refusal leaves the result as it was

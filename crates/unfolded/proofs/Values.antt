@@ -22,11 +22,11 @@ use Rattle.layered.specs.Machines.{Machine, feed}
 use Rattle.table.specs.Table.{states, connected, machine, bad_output}
 use Rattle.table.specs.Sound.{Sound}
 use Rattle.layered.specs.Machines.{reached}
-use Rattle.layered.proofs.Feeding.{words-length, words-at}
+use Rattle.layered.proofs.Feeding.{words_length, words_at}
 use Rattle.unfolded.specs.Unfolded.{ending, inverted, Frame, input_literal, matching, edges_at, inverted_edges, entering, next_literal, with_bit, out_literal, frame_gates, next_gates_at, out_gates_at, Drawing, table_frame, drawing, is_connected}
 use Rattle.circuit.proofs.Lists.{listed_at, listed_cons}
 use Rattle.circuit.proofs.Gates.{Reads, run}
-use Rattle.unfolded.proofs.Gates.{together, together-append}
+use Rattle.unfolded.proofs.Gates.{together, together_append}
 use Rattle.unfolded.proofs.Frames.{Placed, crossed, edge_reads, next_reads, out_reads}
 use Rattle.unfolded.proofs.Drawings.{base, behind, all_gates, connected-at, input_low, HandsOn, Step, outputs_read}
 use Rattle.unfolded.proofs.Bits.{not-not, every_one, no_stray, same_bits}
@@ -54,9 +54,9 @@ value_reads = record {
   new = λ vs x. literal_even (vs ++ (x ∷ [])) (2 * length vs) (length vs) refl ∙ get_or_at vs x [] false (length vs) refl;
 }
 
-inverted-value : (vs : List Bool) (l : ℕ) → literal_value vs (inverted l) ≡ not (literal_value vs l)
+inverted_value : (vs : List Bool) (l : ℕ) → literal_value vs (inverted l) ≡ not (literal_value vs l)
 unfolding inverted
-inverted-value vs l = go (eqb (l % 2) 1) refl
+inverted_value vs l = go (eqb (l % 2) 1) refl
   where
     go : (t : Bool) → eqb (l % 2) 1 ≡ t → literal_value vs (cond t (l - 1) (l + 1)) ≡ not (literal_value vs l)
     go true e =
@@ -71,7 +71,7 @@ all_listed : (f : ℕ → Bool) (g : ℕ → ℕ) (p : ℕ → Bool) (c : ℕ) �
 unfolding grown together every
 all_listed f g p zero h = refl
 all_listed f g p (suc c) h =
-    together-append ◌&&◌ f true (listed [] g c) (g c ∷ []) ∙ ap₂ ◌&&◌ (all_listed f g p c (λ i q. h i (omega arith))) (h c (omega arith))
+    together_append ◌&&◌ f true (listed [] g c) (g c ∷ []) ∙ ap₂ ◌&&◌ (all_listed f g p c (λ i q. h i (omega arith))) (h c (omega arith))
 
 -- a gather chain: none of its edges
 none_of : (at : ℕ) (f : ℕ → Bool) (test v : ℕ → Bool) (c : ℕ) → ((e : ℕ) → e < c → f (2 * (at + e) + 1) ≡ not (v e))
@@ -79,7 +79,7 @@ none_of : (at : ℕ) (f : ℕ → Bool) (test v : ℕ → Bool) (c : ℕ) → ((
 unfolding inverted_edges together every
 none_of at f test v zero h = refl
 none_of at f test v (suc c) h =
-    together-append ◌&&◌ f true (inverted_edges at test c) (cond (test c) ((2 * (at + c) + 1) ∷ []) [])
+    together_append ◌&&◌ f true (inverted_edges at test c) (cond (test c) ((2 * (at + c) + 1) ∷ []) [])
     ∙ ap (λ a. together ◌&&◌ f a (cond (test c) ((2 * (at + c) + 1) ∷ []) [])) (none_of at f test v c (λ e q. h e (omega arith)))
     ∙ go (test c)
   where
@@ -117,13 +117,13 @@ module _ (M : Machine) where
       let e : suc k + t ≡ k + suc t = omega arith in
       reached-more (suc k) (M.next k s w) c t (omega arith) ∙ ap (λ i. M.next i (reached M (suc k) (M.next k s w) (take t c)) (get_or c t 0)) e
 
-  pub feed-at : (k s : ℕ) (c : List ℕ) (t : ℕ) → t < length c → get_or (feed M k s c) t 0 ≡ M.out (k + t) (reached M k s (take t c)) (get_or c t 0)
+  pub feed_at : (k s : ℕ) (c : List ℕ) (t : ℕ) → t < length c → get_or (feed M k s c) t 0 ≡ M.out (k + t) (reached M k s (take t c)) (get_or c t 0)
   unfolding feed reached
-  feed-at k s [] t h = absurd (omega arith)
-  feed-at k s (w ∷ c) zero h = let e : k ≡ k + 0 = omega arith in ap (λ k. M.out k s w) e
-  feed-at k s (w ∷ c) (suc t) h =
+  feed_at k s [] t h = absurd (omega arith)
+  feed_at k s (w ∷ c) zero h = let e : k ≡ k + 0 = omega arith in ap (λ k. M.out k s w) e
+  feed_at k s (w ∷ c) (suc t) h =
       let e : suc k + t ≡ k + suc t = omega arith in
-      feed-at (suc k) (M.next k s w) c t (omega arith) ∙ ap (λ i. M.out i (reached M (suc k) (M.next k s w) (take t c)) (get_or c t 0)) e
+      feed_at (suc k) (M.next k s w) c t (omega arith) ∙ ap (λ i. M.out i (reached M (suc k) (M.next k s w) (take t c)) (get_or c t 0)) e
 
 -- ---- frame by frame
 
@@ -180,13 +180,13 @@ module _ (b c : List ℕ) where
     state_more : (t : ℕ) → t < frames b → state_after (suc t) ≡ (machine b).next t (state_after t) (get_or c t 0)
     unfolding state_after
     state_more t h =
-        reached-more (machine b) 0 0 c t (omega (arith, words-length W))
+        reached-more (machine b) 0 0 c t (omega (arith, words_length W))
         ∙ (let e : 0 + t ≡ t = omega arith in ap (λ k. (machine b).next k (reached (machine b) 0 0 (take t c)) (get_or c t 0)) e)
 
     pub state_below : (t : ℕ) → t ≤ frames b → state_after t < states b t
     unfolding state_after reached
     state_below zero h = Z.legal.start_is
-    state_below (suc t) h = rw (state_more t h) (Z.legal.next_is t (state_after t) (get_or c t 0) h (state_below t (omega arith)) (words-at W t h))
+    state_below (suc t) h = rw (state_more t h) (Z.legal.next_is t (state_after t) (get_or c t 0) h (state_below t (omega arith)) (words_at W t h))
 
     module _
         (t : ℕ) (d : Drawing) (vs : List Bool) (h : t < frames b) (P : Placed (table_frame b t d)) (at : length vs ≡ (table_frame b t d).at)
@@ -203,7 +203,7 @@ module _ (b c : List ℕ) where
             ap (λ a. together ◌&&◌ (literal_value vs) a (matching (inputs b) t w)) true_now
             ∙ all_listed (literal_value vs) (input_literal (inputs b) t w) (λ i. beq (bit w i) (bit (get_or c t 0) i)) (inputs b)
             (λ i l. old (input_literal (inputs b) t w i) (input_low b t w i h l) ∙ input_value t w i h l)
-            ∙ same_bits (inputs b) w (get_or c t 0) k (words-at W t h)
+            ∙ same_bits (inputs b) w (get_or c t 0) k (words_at W t h)
 
         -- the edge that the machine takes is true, and no other
         edge_now : (e : ℕ) → e < (table_frame b t d).edges
@@ -231,7 +231,7 @@ module _ (b c : List ℕ) where
             (e
             ∙ ap (λ a. together ◌&&◌ f a (inverted_edges (edges_at F) test F.edges)) true_now
             ∙ none_of (edges_at F) f test (λ e. eqb (state_after t) (e / 2 ^ inputs b) && eqb (get_or c t 0) (e % 2 ^ inputs b)) F.edges edge_now
-            ∙ only_edge (states b t) (2 ^ inputs b) (state_after t) (get_or c t 0) test (state_below t (omega arith)) (words-at W t h))
+            ∙ only_edge (states b t) (2 ^ inputs b) (state_after t) (get_or c t 0) test (state_below t (omega arith)) (words_at W t h))
             ∙ not-not (test (state_after t * 2 ^ inputs b + get_or c t 0))
 
         hands_on : HandsOn ◌&&◌ literal_value value_reads b start OfState OfOutput t d vs
@@ -242,15 +242,15 @@ module _ (b c : List ℕ) where
             let K : ℕ = 2 ^ inputs b in
             let s₀ : ℕ = state_after t in
             let w₀ : ℕ = get_or c t 0 in
-            let w< : w₀ < K = words-at W t h in
+            let w< : w₀ < K = words_at W t h in
             let entry : (e : ℕ → ℕ → ℕ) → e ((s₀ * K + w₀) / K) ((s₀ * K + w₀) % K) ≡ e s₀ w₀ = λ e. ap₂ e (digits_div s₀ w<) (digits_mod s₀ w<) in
             record {
               nexts = λ s l.
-                  inverted-value X (ending (next_gates_at F) (entering F) s)
+                  inverted_value X (ending (next_gates_at F) (entering F) s)
                   ∙ gather_now (λ e. eqb (F.next e) s) _ (next_reads F P ◌&&◌ literal_value value_reads vs at s l)
                   ∙ ap (λ r. eqb r s) (entry ((machine b).next t) ∙ sym (state_more t h));
               outs = λ j l.
-                  inverted-value X (ending (out_gates_at F) (with_bit F) j)
+                  inverted_value X (ending (out_gates_at F) (with_bit F) j)
                   ∙ gather_now (λ e. bit (F.out e) j) _ (out_reads F P ◌&&◌ literal_value value_reads vs at j l)
                   ∙ ap (λ o. bit o j) (entry ((machine b).out t));
             }
@@ -264,13 +264,13 @@ module _ (b c : List ℕ) where
     }
 
     -- an output that is not connected is false
-    none-connected : (t j : ℕ) → t < frames b → j < outputs b → is_connected b (outputs b * t + j) ≡ false → OfOutput t j (literal_value start 0 && literal_value start 0)
+    none_connected : (t j : ℕ) → t < frames b → j < outputs b → is_connected b (outputs b * t + j) ≡ false → OfOutput t j (literal_value start 0 && literal_value start 0)
     unfolding bad_output
-    none-connected t j h l e =
+    none_connected t j h l e =
         let s : ℕ = state_after t in
         let w : ℕ = get_or c t 0 in
         ap (λ v. v && v) false_value
-        ∙ sym (no_stray (connected b t) ((machine b).out t s w) j (Z.outputs-connected t s w h (state_below t (omega arith)) (words-at W t h)) (sym (connected-at b t j l) ∙ e))
+        ∙ sym (no_stray (connected b t) ((machine b).out t s w) j (Z.outputs_connected t s w h (state_below t (omega arith)) (words_at W t h)) (sym (connected-at b t j l) ∙ e))
 
     -- the output gates
     pub output_value : (t j : ℕ) → t < frames b → j < outputs b
@@ -280,4 +280,4 @@ module _ (b c : List ℕ) where
     output_value t j h l =
         let at : ℕ = behind b (drawing b (frames b)) + (outputs b * t + j) in
         sym (literal_even (run ◌&&◌ literal_value start (all_gates b 0)) (2 * at) at refl)
-        ∙ outputs_read ◌&&◌ literal_value value_reads b start OfState OfOutput Z.headed.one_first step (λ t j a e. ap (λ v. a && v) true_value ∙ and-true a ∙ e) none-connected t j h l
+        ∙ outputs_read ◌&&◌ literal_value value_reads b start OfState OfOutput Z.headed.one_first step (λ t j a e. ap (λ v. a && v) true_value ∙ and-true a ∙ e) none_connected t j h l

@@ -13,10 +13,10 @@ use Rattle.unfolded.specs.Unfolded.{unfold_checked, unfold_result}
 pub record Unfolding (b t : List ℕ) : Type 0 where
   -- the sizes are the table's
   pub same_inputs : inputs t ≡ inputs b
-  pub same-outputs : outputs t ≡ outputs b
-  pub same-frames : frames t ≡ frames b
+  pub same_outputs : outputs t ≡ outputs b
+  pub same_frames : frames t ≡ frames b
   -- the same outputs are connected
-  pub same-connected : (k : ℕ) → k < frames b → connected_outputs t k ≡ connected b k
+  pub same_connected : (k : ℕ) → k < frames b → connected_outputs t k ≡ connected b k
   -- the bytes pass every check of a circuit
   pub legal : checked t ≡ answer 0 0
   -- on every sequence the circuit's outputs are what the table gives

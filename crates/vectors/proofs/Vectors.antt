@@ -29,24 +29,24 @@ use Rattle.vectors.proofs.Quick.{quick_ahead, quick_checked, quick_checked_lem}
 
 -- ---- all that is unfolded to compute a circuit's outputs, its check, the same quickly, a folded table's bytes, and a table's check
 
-abbrev circuit-outputs : List ℕ → List ℕ → List ℕ
+abbrev circuit_outputs : List ℕ → List ℕ → List ℕ
 unfolding circuit.output_word circuit.signal_values circuit.gate_value circuit.operand circuit.unconnected circuit.literal_value circuit.input_values circuit.output_signal circuit.gate_signal circuit.gates circuit.lefts_at circuit.rights_at circuit.literal_at circuit.all_inputs circuit.all_outputs grown bit packed word_at inputs outputs frames
-circuit-outputs b words = circuit.output_words b words
+circuit_outputs b words = circuit.output_words b words
 
-abbrev circuit-checked : List ℕ → Figures
-unfolding circuit-outputs circuit.checked circuit.form_checked circuit.form_within circuit.head_checked circuit.literals_checked circuit.circuit_length circuit.admissible circuit.of_unconnected circuit.look_ahead_checked circuit.looks_ahead circuit.as_first circuit.output_on circuit.output_bit circuit.later_inputs circuit.frame_of history_words every block_start sizes_checked refuse_first
-circuit-checked b = circuit.checked b
+abbrev circuit_checked : List ℕ → Figures
+unfolding circuit_outputs circuit.checked circuit.form_checked circuit.form_within circuit.head_checked circuit.literals_checked circuit.circuit_length circuit.admissible circuit.of_unconnected circuit.look_ahead_checked circuit.looks_ahead circuit.as_first circuit.output_on_lem circuit.output_bit circuit.later_inputs circuit.frame_of history_words every block_start sizes_checked refuse_first
+circuit_checked b = circuit.checked b
 
 abbrev circuit_quick : List ℕ → Figures
-unfolding circuit-checked quick_checked quick_ahead reaches_later latest_frames later_frame input_frames
+unfolding circuit_checked quick_checked quick_ahead reaches_later latest_frames later_frame input_frames
 circuit_quick b = quick_checked b
 
 abbrev folded-bytes : List ℕ → List ℕ
-unfolding circuit-outputs circuit.connected_outputs folded.folded_bytes table_words count number history response history_words
+unfolding circuit_outputs circuit.connected_outputs folded.folded_bytes table_words count number history response history_words
 folded-bytes b = folded.folded_bytes b
 
 abbrev nodes_to_lem : List ℕ → ℕ → ℕ
-unfolding circuit-outputs functions.nodes_to functions.signal_on counts.nodes_of counts.nodes_at counts.is_node counts.same_block counts.block counts.bits total tally least every
+unfolding circuit_outputs functions.nodes_to functions.signal_on counts.nodes_of counts.nodes_at counts.is_node counts.same_block counts.block counts.bits total tally least every
 nodes_to_lem b k = functions.nodes_to b k
 
 abbrev table_checked_lem : List ℕ → Figures

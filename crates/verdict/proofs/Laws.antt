@@ -107,9 +107,9 @@ passed true k p f q z e = absurd (eqb-false k 0 z (ap (λ (f : Figures). f.numbe
 passed false k p f q z e = (refl, e)
 
 -- one judgement and then others
-pub refuse-then : (t : Bool) (k p : ℕ) (f : Figures) → eqb k 0 ≡ false → and_then (refuse t k p (answer 0 0)) f ≡ refuse t k p f
-refuse-then true k p f z = rw z
-refuse-then false k p f z = refl
+pub refuse_then : (t : Bool) (k p : ℕ) (f : Figures) → eqb k 0 ≡ false → and_then (refuse t k p (answer 0 0)) f ≡ refuse t k p f
+refuse_then true k p f z = rw z
+refuse_then false k p f z = refl
 
 -- ---- the first index at which a test holds: a loop that looks from k on, of n in all
 

@@ -21,9 +21,9 @@ use Rattle.sizes.specs.Sized.{Fed}
 use Rattle.sizes.proofs.Laws.{fed, sequence_passes}
 use Rattle.layered.specs.States.{Words}
 use Rattle.layered.specs.Machines.{masked}
-use Rattle.layered.proofs.Feeding.{sequence, words-length, words-at, feed-length, masked_word}
+use Rattle.layered.proofs.Feeding.{sequence, words_length, words_at, feed_length, masked_word}
 use Rattle.circuit.specs.Lists.{bit}
-use Rattle.circuit.proofs.Bits.{bit_and_lem, masked-equal}
+use Rattle.circuit.proofs.Bits.{bit_and_lem, masked_equal}
 use Rattle.table.specs.Table.{machine, checked}
 use Rattle.run.specs.Run.{shown}
 use Rattle.view.specs.View.{mask_checked, viewed, view_result}
@@ -32,8 +32,8 @@ use Rattle.view.specs.Theorems.{output_at, Comparable, AgreeOn, LookAlike, ViewS
 -- ---- what is shown, word by word
 
 module _ (b : List ℕ) (mask : ℕ) (c : List ℕ) where
-  shown-length : length (shown b mask c) ≡ length c
-  shown-length = feed-length (masked (λ _. mask) (machine b)) 0 0 c
+  shown_length : length (shown b mask c) ≡ length c
+  shown_length = feed_length (masked (λ _. mask) (machine b)) 0 0 c
 
   shown_word : (k : ℕ) → k < length c → get_or (shown b mask c) k 0 ≡ bit_and (output_at b c k) mask
   shown_word k h = masked_word (λ _. mask) (machine b) 0 0 c k h
@@ -67,21 +67,21 @@ module _ (b : List ℕ) (mask : ℕ) (words : List ℕ) (room p : ℕ) (e : view
       let f = fed (inputs b) (frames b) words room p s.2 in
       (f.0, f.2)
 
-  a-sequence : Words (2 ^ inputs b) (frames b) words
-  a-sequence = sequence (2 ^ inputs b) (frames b) words fed_by.0.as_many fed_by.0.below
+  a_sequence : Words (2 ^ inputs b) (frames b) words
+  a_sequence = sequence (2 ^ inputs b) (frames b) words fed_by.0.as_many fed_by.0.below
 
 pub view_shows : (b : List ℕ) (mask : ℕ) (words before : List ℕ) → ViewShows b mask words before
 unfolding ViewShows
 view_shows b mask words before p e =
     let f = fed_by b mask words (length before) p e in (
       narrow b mask words (length before) p e,
-      a-sequence b mask words (length before) p e,
+      a_sequence b mask words (length before) p e,
       f.1,
       (λ k j h.
           let l : k < length words = omega (arith, f.0.as_many, f.1) in
           let r = sym (view_left b mask words before p _ (sym e) refl) in
           ap (λ (ws : List ℕ). bit (get_or ws k 0) j) r
-          ∙ ap (λ x. bit x j) (get_or-append (shown b mask words) (drop p before) 0 k (omega (arith, shown-length b mask words)) ∙ shown_word b mask words k l)
+          ∙ ap (λ x. bit x j) (get_or-append (shown b mask words) (drop p before) 0 k (omega (arith, shown_length b mask words)) ∙ shown_word b mask words k l)
           ∙ bit_and_lem (output_at b words k) mask j),
     )
 
@@ -91,7 +91,7 @@ module _ (b d : List ℕ) (mask : ℕ) (C : Comparable b d) where
   -- they are judged alike
   judged_alike : (words : List ℕ) (room : ℕ) → viewed b mask words room ≡ viewed d mask words room
   unfolding viewed
-  judged_alike words room = rw (C.first_passes, C.second_passes, C.same_inputs, C.same-outputs, C.same-frames)
+  judged_alike words room = rw (C.first_passes, C.second_passes, C.same_inputs, C.same_outputs, C.same_frames)
 
   -- and where they agree in masked bits on the words of an accepted view, it shows the same
   pub look_alike : (words before : List ℕ) → (Words (2 ^ inputs b) (frames b) words → AgreeOn b d mask words) → LookAlike b d mask words before
@@ -103,11 +103,11 @@ module _ (b d : List ℕ) (mask : ℕ) (C : Comparable b d) where
 
       same : (p : ℕ) → viewed b mask words (length before) ≡ answer 0 p → shown b mask words ≡ shown d mask words
       same p e =
-          let W = a-sequence b mask words (length before) p e in
-          ext_get_or 0 _ _ (shown-length b mask words ∙ sym (shown-length d mask words)) (λ k h.
-          let l : k < length words = omega (arith, shown-length b mask words) in
+          let W = a_sequence b mask words (length before) p e in
+          ext_get_or 0 _ _ (shown_length b mask words ∙ sym (shown_length d mask words)) (λ k h.
+          let l : k < length words = omega (arith, shown_length b mask words) in
           shown_word b mask words k l
-          ∙ masked-equal (outputs b) mask (output_at b words k) (output_at d words k) (narrow b mask words (length before) p e) (λ i m q. agree W k i (omega (arith, words-length W)) m q)
+          ∙ masked_equal (outputs b) mask (output_at b words k) (output_at d words k) (narrow b mask words (length before) p e) (λ i m q. agree W k i (omega (arith, words_length W)) m q)
           ∙ sym (shown_word d mask words k l))
 
       go : (t : Bool) → eqb (viewed d mask words (length before)).number 0 ≡ t
@@ -121,7 +121,7 @@ module _ (b d : List ℕ) (mask : ℕ) (C : Comparable b d) where
   unfolding viewed mask_checked
   accepts h c before W l =
       rw (C.first_passes, lt-leb (2 ^ outputs b) mask h, l)
-      (sequence_passes (inputs b) (frames b) c (frames b) (record { as_many = words-length W; below = words-at W }) (le_refl (frames b)))
+      (sequence_passes (inputs b) (frames b) c (frames b) (record { as_many = words_length W; below = words_at W }) (le_refl (frames b)))
 
   -- where they look alike, they agree in masked bits
   agree : mask < 2 ^ outputs b → ((words before : List ℕ) → LookAlike b d mask words before) → (c : List ℕ) → Words (2 ^ inputs b) (frames b) c → AgreeOn b d mask c

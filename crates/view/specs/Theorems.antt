@@ -22,8 +22,8 @@ pub record Comparable (b d : List ℕ) : Type 0 where
   pub first_passes : checked b ≡ answer 0 0
   pub second_passes : checked d ≡ answer 0 0
   pub same_inputs : inputs d ≡ inputs b
-  pub same-outputs : outputs d ≡ outputs b
-  pub same-frames : frames d ≡ frames b
+  pub same_outputs : outputs d ≡ outputs b
+  pub same_frames : frames d ≡ frames b
 
 -- on the words c they agree in masked bits: wherever the mask has bit j, both outputs of a frame have it or neither
 unfoldable pub AgreeOn : (b d : List ℕ) (mask : ℕ) (c : List ℕ) → Type 0

@@ -9,13 +9,13 @@ use lib.Pow.{pow_pos}
 use lib.ListN.{length, take, get_or, length-append, length-take}
 use lib.Seq.{get_or-take}
 use Rattle.words.specs.Words.{stored}
-use Rattle.words.proofs.Laws.{stored-behind}
+use Rattle.words.proofs.Laws.{stored_behind}
 use Rattle.sizes.specs.Sizes.{inputs, outputs, frames}
 use Rattle.layered.specs.Search.{tabulate}
 use Rattle.layered.specs.States.{count}
 use Rattle.layered.specs.Machines.{table_words, folded}
-use Rattle.layered.proofs.Lists.{tabulate-length, tabulated}
-use Rattle.layered.proofs.States.{count-last}
+use Rattle.layered.proofs.Lists.{tabulate_length, tabulated}
+use Rattle.layered.proofs.States.{count_last}
 use Rattle.circuit.specs.Circuit.{connected_outputs}
 use Rattle.circuit.specs.Theorems.{response}
 use Rattle.explore.specs.Explore.{CountsTo}
@@ -25,7 +25,7 @@ use Rattle.write.specs.Write.{head_words, output_words, next_words}
 pub counts_all : (n m T : ℕ) (y : ℕ → ℕ → ℕ) (counts : List ℕ) → CountsTo n m T y counts (T - 1) → (u : ℕ) → u ≤ T → get_or counts u 0 ≡ count (2 ^ n) T y u
 counts_all n m T y counts C u h =
     ⊎_elim
-    (λ (e : u ≡ T). ap (λ u. get_or counts u 0) e ∙ C.last ∙ sym (count-last (2 ^ n) T y (pow_pos n)) ∙ ap (count (2 ^ n) T y) (sym e))
+    (λ (e : u ≡ T). ap (λ u. get_or counts u 0) e ∙ C.last ∙ sym (count_last (2 ^ n) T y (pow_pos n)) ∙ ap (count (2 ^ n) T y) (sym e))
     (λ (l : u < T). C.known u (omega arith))
     (eq-or-lt_of_le h)
 
@@ -38,7 +38,7 @@ module _ (b : List ℕ) where
   behind_sizes : length (tabulate (suc (frames b)) counted ++ tabulate (frames b) (connected_outputs b)) ≡ 1 + 2 * frames b
   behind_sizes =
       length-append (tabulate (suc (frames b)) counted) _
-      ∙ omega (arith, tabulate-length (suc (frames b)) counted, tabulate-length (frames b) (connected_outputs b))
+      ∙ omega (arith, tabulate_length (suc (frames b)) counted, tabulate_length (frames b) (connected_outputs b))
 
   pub head_words_lem : length (head_words b) ≡ 4 + 2 * frames b
   unfolding head_words
@@ -59,9 +59,9 @@ module _ (b : List ℕ) where
       let two : r₂ ≡ stored 2 r 0 (sizes ++ tabulate (suc (frames b)) counted) =
       e₂
       ∙ ap (λ (k : ℕ). stored 2 r₁ 6 (take k counts)) el
-      ∙ stored-behind 2 r r₁ 0 sizes _ 6 e₁ refl (omega arith)
+      ∙ stored_behind 2 r r₁ 0 sizes _ 6 e₁ refl (omega arith)
       ∙ ap (λ (c : List ℕ). stored 2 r 0 (sizes ++ c)) (counts_taken counts C h) in
-      e₃ ∙ stored-behind 2 r r₂ 0 (sizes ++ tabulate (suc (frames b)) counted) _ at two (omega (arith, tabulate-length (suc (frames b)) counted)) (omega (arith, tabulate-length (suc (frames b)) counted))
+      e₃ ∙ stored_behind 2 r r₂ 0 (sizes ++ tabulate (suc (frames b)) counted) _ at two (omega (arith, tabulate_length (suc (frames b)) counted)) (omega (arith, tabulate_length (suc (frames b)) counted))
 
   -- ---- the whole table
 
@@ -93,6 +93,6 @@ module _ (b : List ℕ) where
       → r₁ ≡ stored 2 r 0 (head_words b) → r₂ ≡ stored 2 r₁ at outputs_of → r₃ ≡ stored 2 r₂ end nexts_of → r₃ ≡ stored 2 r 0 whole_table
   table_stored r r₁ r₂ r₃ at end room ea ee e₁ e₂ e₃ =
       let l : length (head_words b ++ outputs_of) ≡ 4 + 2 * frames b + length outputs_of = length-append (head_words b) _ ∙ omega (arith, head_words_lem) in
-      let two : r₂ ≡ stored 2 r 0 (head_words b ++ outputs_of) = e₂ ∙ stored-behind 2 r r₁ 0 (head_words b) _ at e₁ (omega (arith, head_words_lem)) (omega (arith, head_words_lem, table_length_lem)) in
-      e₃ ∙ stored-behind 2 r r₂ 0 (head_words b ++ outputs_of) _ end two (omega arith) (omega (arith, table_length_lem))
+      let two : r₂ ≡ stored 2 r 0 (head_words b ++ outputs_of) = e₂ ∙ stored_behind 2 r r₁ 0 (head_words b) _ at e₁ (omega (arith, head_words_lem)) (omega (arith, head_words_lem, table_length_lem)) in
+      e₃ ∙ stored_behind 2 r r₂ 0 (head_words b ++ outputs_of) _ end two (omega arith) (omega (arith, table_length_lem))
       ∙ ap (stored 2 r 0) (append_assoc (head_words b) outputs_of nexts_of ∙ words_are)

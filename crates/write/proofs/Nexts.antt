@@ -10,13 +10,13 @@ use lib.Pow.{pow_pos}
 use lib.ListN.{length, get_or, take, drop, replicate, length-take, length-drop, length-replicate, get_or-replicate}
 use lib.Seq.{get_or-take, get_or-drop, take-take}
 use Rattle.words.specs.Words.{stored}
-use Rattle.words.proofs.Laws.{stored-behind}
+use Rattle.words.proofs.Laws.{stored_behind}
 use Rattle.layered.specs.Search.{join, tabulate, total}
 use Rattle.layered.specs.States.{count, number, history}
 use Rattle.layered.specs.Machines.{entries, folded}
-use Rattle.layered.proofs.Lists.{join_cong, join-tabulate, tabulate_cong, tabulated, total_each, total_le, total-next}
-use Rattle.layered.proofs.Entries.{entries-length}
-use Rattle.layered.proofs.States.{count_at_most, count-last, number_decides, number_below, equivalent_last}
+use Rattle.layered.proofs.Lists.{join_cong, join_tabulate, tabulate_cong, tabulated, total_each, total_le, total_next}
+use Rattle.layered.proofs.Entries.{entries_length}
+use Rattle.layered.proofs.States.{count_at_most, count_last, number_decides, number_below, equivalent_last}
 use Rattle.diagrams.specs.Forward.{candidate}
 use Rattle.explore.specs.declared.Layout.{Layout}
 use Rattle.explore.specs.Explore.{layer_at, Laid}
@@ -35,7 +35,7 @@ one_more x i = more_same x i ∙ ap (λ n. replicate n x) (sym (add-one i))
 rows_flat : (n K : ℕ) (f : ℕ → ℕ) → join n (λ i. tabulate K (λ j. f (i * K + j))) ≡ tabulate (n * K) f
 rows_flat n K f =
     join_cong n _ _ (λ i _. tabulate_cong K _ _ (λ j _. ap (λ k. f (k + j)) (sym (total_each i K))))
-    ∙ join-tabulate n (λ _. K) f ∙ ap (λ n. tabulate n f) (total_each n K)
+    ∙ join_tabulate n (λ _. K) f ∙ ap (λ n. tabulate n f) (total_each n K)
 
 -- layer 1 begins at 1
 pub layer_one : (K : ℕ) → layer_at K 1 ≡ 1
@@ -47,9 +47,9 @@ unfoldable pub nexts_in : Layout → (s counts : List ℕ) (t : ℕ) → List �
 unfolding join
 nexts_in layout s counts t = join t (λ u. take (get_or counts u 0 * layout.fan) (drop (layout.half + layer_at layout.fan (suc u)) s))
 
-pub nexts-none : (layout : Layout) (s counts : List ℕ) → nexts_in layout s counts 0 ≡ []
+pub nexts_none : (layout : Layout) (s counts : List ℕ) → nexts_in layout s counts 0 ≡ []
 unfolding nexts_in
-nexts-none layout s counts = refl
+nexts_none layout s counts = refl
 
 pub nexts_layer : (layout : Layout) (s counts : List ℕ) (t : ℕ)
     → nexts_in layout s counts (t + 1) ≡ nexts_in layout s counts t ++ take (get_or counts t 0 * layout.fan) (drop (layout.half + layer_at layout.fan (suc t)) s)
@@ -83,8 +83,8 @@ module _ (layout : Layout) (s counts r : List ℕ) (at : ℕ) (N : NextsFit layo
       let p : get_or counts t 0 ≤ layout.fan ^ t = omega (arith, N.counted.known t (omega arith), count_at_most K T y t, ap (λ (K : ℕ). K ^ t) L.fan_is) in
       omega (arith, pow-suc layout.fan t, mul-le-mul_right layout.fan p)
 
-  pub entries-to : (t : ℕ) → t < T → get_or counts t 0 * layout.fan ≤ 2147483648
-  entries-to t h =
+  pub entries_to : (t : ℕ) → t < T → get_or counts t 0 * layout.fan ≤ 2147483648
+  entries_to t h =
       let p : get_or counts t 0 ≤ 32768 = omega (arith, N.counted.known t (omega arith), count_at_most K T y t, ap (λ (K : ℕ). K ^ t) L.fan_is, few_histories layout L t h) in
       mul-le-mul p (words_few layout L)
 
@@ -123,25 +123,25 @@ module _ (layout : Layout) (s counts r : List ℕ) (at : ℕ) (N : NextsFit layo
   nexts_are t h = join_cong t _ _ (λ u l. part_is u (omega arith))
 
   -- the last layer has one state
-  zero-last : (h : ℕ) → number K T y T h ≡ 0
-  zero-last h =
+  zero_last : (h : ℕ) → number K T y T h ≡ 0
+  zero_last h =
       (number_decides K T y T h 0).1 (equivalent_last K T y h 0)
-      ∙ omega (arith, number_below K T y T 0 (one-le-pow T K (pow_pos layout.bits)), count-last K T y (pow_pos layout.bits))
+      ∙ omega (arith, number_below K T y T 0 (one-le-pow T K (pow_pos layout.bits)), count_last K T y (pow_pos layout.bits))
 
   zeros_are : (t : ℕ) → suc t ≡ T → replicate (get_or counts t 0 * layout.fan) 0 ≡ join (count K T y t) (λ k. tabulate K ((folded K T y).next t k))
   zeros_are t e =
       let n : ℕ = get_or counts t 0 * layout.fan in
       tabulated (count K T y t * K) (λ c. number K T y (suc t) (candidate K T y t c)) (replicate n 0) (length-replicate n 0 ∙ entries_are t (omega arith))
-      (λ c k. get_or-replicate n c 0 0 (omega (arith, entries_are t (omega arith))) ∙ sym (ap (λ u. number K T y u (candidate K T y t c)) e ∙ zero-last (candidate K T y t c)))
+      (λ c k. get_or-replicate n c 0 0 (omega (arith, entries_are t (omega arith))) ∙ sym (ap (λ u. number K T y u (candidate K T y t c)) e ∙ zero_last (candidate K T y t c)))
       ∙ sym (layer_flat t)
 
   next_more : (t : ℕ) → length (next_words K T y (suc t)) ≡ length (next_words K T y t) + count K T y t * K
   next_more t =
-      entries-length K (suc t) (count K T y) (folded K T y).next ∙ ap (λ n. total n (λ u. count K T y u * K)) (sym (add-one t)) ∙ total-next (λ u. count K T y u * K) t
-      ∙ ap (λ n. n + count K T y t * K) (sym (entries-length K t (count K T y) (folded K T y).next))
+      entries_length K (suc t) (count K T y) (folded K T y).next ∙ ap (λ n. total n (λ u. count K T y u * K)) (sym (add-one t)) ∙ total_next (λ u. count K T y u * K) t
+      ∙ ap (λ n. n + count K T y t * K) (sym (entries_length K t (count K T y) (folded K T y).next))
 
   next_most : (t : ℕ) → t ≤ T → length (next_words K T y t) ≤ length (next_words K T y T)
-  next_most t h = omega (arith, entries-length K t (count K T y) (folded K T y).next, entries-length K T (count K T y) (folded K T y).next, total_le t T (λ u. count K T y u * K) h)
+  next_most t h = omega (arith, entries_length K t (count K T y) (folded K T y).next, entries_length K T (count K T y) (folded K T y).next, total_le t T (λ u. count K T y u * K) h)
 
   -- there is room for the entries of layer t behind those before
   pub next_room : (t : ℕ) → t < T → at + 2 * length (nexts_in layout s counts t) + 2 * (get_or counts t 0 * layout.fan) ≤ length r
@@ -153,6 +153,6 @@ module _ (layout : Layout) (s counts r : List ℕ) (at : ℕ) (N : NextsFit layo
   unfolding entries join
   nexts_whole t end r₁ r₂ e ee e₁ e₂ =
       let h : t < T = omega arith in
-      e₂ ∙ stored-behind 2 r r₁ at (nexts_in layout s counts t) _ end e₁ ee (omega (arith, next_room t h))
+      e₂ ∙ stored_behind 2 r r₁ at (nexts_in layout s counts t) _ end e₁ ee (omega (arith, next_room t h))
       ∙ ap₂ (λ (a b : List ℕ). stored 2 r at (a ++ b)) (nexts_are t h) (zeros_are t e)
       ∙ ap (λ (n : ℕ). stored 2 r at (entries K n (count K T y) (folded K T y).next)) e

@@ -11,27 +11,27 @@ use lib.Pow.{pow_pos}
 use lib.Dec.{eqb, ltb}
 use lib.ListN.{length, get_or, length-append}
 use Rattle.words.specs.Words.{stored}
-use Rattle.words.proofs.Laws.{stored-none, stored-behind}
+use Rattle.words.proofs.Laws.{stored_none, stored_behind}
 use Rattle.layered.specs.Search.{join, tabulate, total}
 use Rattle.layered.specs.States.{count, history}
 use Rattle.layered.specs.Machines.{entries, folded}
-use Rattle.layered.proofs.Lists.{tabulate_cong, tabulate-length, join-length, total_each, total_le, total-next}
-use Rattle.layered.proofs.Entries.{entries-length}
-use Rattle.layered.proofs.States.{count_at_most, count-first, count-last, number_below}
+use Rattle.layered.proofs.Lists.{tabulate_cong, tabulate_length, join_length, total_each, total_le, total_next}
+use Rattle.layered.proofs.Entries.{entries_length}
+use Rattle.layered.proofs.States.{count_at_most, count_first, count_last, number_below}
 use Rattle.circuit.specs.Lists.{packed}
 use Rattle.circuit.proofs.Lists.{listed_cong}
 use Rattle.diagrams.specs.Diagrams.{Nodes, follow, Reduced}
 use Rattle.diagrams.specs.Theorems.{Holds}
 use Rattle.diagrams.specs.Frames.{word_bits, history_bits}
 use Rattle.diagrams.specs.Paths.{path_of}
-use Rattle.diagrams.proofs.Paths.{path_bits, follow-next}
+use Rattle.diagrams.proofs.Paths.{path_bits, follow_next}
 use Rattle.diagrams.proofs.Reading.{read_output}
 use Rattle.nodes.specs.declared.Node.{Node}
 use Rattle.records.specs.Records.{nodes_in}
 use Rattle.descend.specs.Descend.{Traceable, Traced}
 use Rattle.explore.specs.declared.Layout.{Layout}
 use Rattle.explore.specs.Explore.{layer_at, Laid}
-use Rattle.explore.proofs.Layers.{layer_next, layer_in, two_words, half_to, frames-to, outputs_le}
+use Rattle.explore.proofs.Layers.{layer_next, layer_in, two_words, half_to, frames_to, outputs_le}
 use Rattle.write.specs.declared.Writing.{Writing}
 use Rattle.write.specs.Write.{output_words, word_in, row_in, first_row, next_row, row_job, AtRow, Reads, Writable}
 use Rattle.write.proofs.Heads.{counts_all}
@@ -44,7 +44,7 @@ pub record RowSafe (layout : Layout) (w : Writing) : Type 0 where
   pub half_small : layout.half ≤ 65536
   pub from_to : layout.roots + layout.outputs * w.layer ≤ 65536
   pub top_to : layout.bits * w.layer ≤ 16
-  pub next-to : w.at * layout.fan + 1 ≤ 131072
+  pub next_to : w.at * layout.fan + 1 ≤ 131072
   pub layer_to : w.layer < 16
 
 pub row_safe : (layout : Layout) (w : Writing) → AtRow layout w → RowSafe layout w
@@ -58,9 +58,9 @@ row_safe layout w A =
       place_in = omega (arith, A.at_is, A.state_in, p, L.half_is);
       half_small = half_to layout L;
       from_to = omega (arith, outputs_le layout L w.layer layout.frames l, L.apart, L.near);
-      top_to = omega (arith, mul-le-mul_left layout.bits l, L.bits-to);
-      next-to = omega (arith, ap (λ (a : ℕ). a * layout.fan) A.at_is, layer_next layout.fan w.layer, p, L.half_is, half_to layout L);
-      layer_to = omega (arith, A.inside, frames-to layout L);
+      top_to = omega (arith, mul-le-mul_left layout.bits l, L.bits_to);
+      next_to = omega (arith, ap (λ (a : ℕ). a * layout.fan) A.at_is, layer_next layout.fan w.layer, p, L.half_is, half_to layout L);
+      layer_to = omega (arith, A.inside, frames_to layout L);
     }
 
 -- word w's ids end in the columns
@@ -84,9 +84,9 @@ module _ (layout : Layout) (counts : List ℕ) (w : Writing) where
   unfolding next_row
   row_more h = ap (λ (t : Bool). cond t same more) (sym (le-ltb (w.state + 1) w.states h))
 
-  pub row-to : (next_row layout counts w).to ≡ w.to + 2 * layout.fan
+  pub row_to : (next_row layout counts w).to ≡ w.to + 2 * layout.fan
   unfolding next_row
-  row-to = go (ltb (w.state + 1) w.states)
+  row_to = go (ltb (w.state + 1) w.states)
     where
       go : (t : Bool) → (cond t same more).to ≡ w.to + 2 * layout.fan
       go true = refl
@@ -117,11 +117,11 @@ module _ (layout : Layout) (ns : List Node) (s ws counts r : List ℕ) (to : ℕ
   unfoldable pub rows_to : (t k : ℕ) → List ℕ
   rows_to t k = output_words K T y t ++ join k (row_of t)
 
-  rows-length : (t k : ℕ) → length (rows_to t k) ≡ total t (λ u. S u * K) + k * K
+  rows_length : (t k : ℕ) → length (rows_to t k) ≡ total t (λ u. S u * K) + k * K
   unfolding rows_to
-  rows-length t k =
+  rows_length t k =
       length-append (output_words K T y t) _
-      ∙ ap₂ ◌+◌ (entries-length K t S (folded K T y).out) (join-length k (row_of t) (λ _. K) (λ i _. tabulate-length K ((folded K T y).out t i)) ∙ total_each k K)
+      ∙ ap₂ ◌+◌ (entries_length K t S (folded K T y).out) (join_length k (row_of t) (λ _. K) (λ i _. tabulate_length K ((folded K T y).out t i)) ∙ total_each k K)
 
   -- one row more, and the end of a layer
   rows_state : (t k : ℕ) → rows_to t k ++ row_of t k ≡ rows_to t (k + 1)
@@ -138,7 +138,7 @@ module _ (layout : Layout) (ns : List Node) (s ws counts r : List ℕ) (to : ℕ
   -- there is room for a row
   rows_room : (t k : ℕ) → t < T → k < S t → to + 2 * length (rows_to t k) + 2 * layout.fan ≤ length r
   rows_room t k l h =
-      omega (arith, W.room, rows-length t k, suc-mul k K, mul-le-mul_right K h, total-next (λ u. S u * K) t, total_le (t + 1) T (λ u. S u * K) (omega arith), entries-length K T S (folded K T y).out, L.fan_is)
+      omega (arith, W.room, rows_length t k, suc-mul k K, mul-le-mul_right K h, total_next (λ u. S u * K) t, total_le (t + 1) T (λ u. S u * K) (omega arith), entries_length K T S (folded K T y).out, L.fan_is)
 
   -- all rows before w's are stored
   pub record Doing (w : Writing) (ms r' : List ℕ) : Type 0 where
@@ -154,11 +154,11 @@ module _ (layout : Layout) (ns : List Node) (s ws counts r : List ℕ) (to : ℕ
   unfolding rows_to entries join layer_at
   doing_first = record {
     layer_to = omega arith;
-    states_is = sym (count-first K T y);
+    states_is = sym (count_first K T y);
     at_is = refl;
     state_in = le_refl 1;
     to_is = omega arith;
-    stored_is = sym (stored-none 2 r to);
+    stored_is = sym (stored_none 2 r to);
     kept = λ j _. refl;
   }
 
@@ -167,7 +167,7 @@ module _ (layout : Layout) (ns : List Node) (s ws counts r : List ℕ) (to : ℕ
     unfolding rows_to join
     doing_ends h =
         let e : w.layer ≡ T = omega (arith, D.layer_to) in
-        let z : w.state ≡ 0 = omega (arith, D.state_in, D.states_is, ap S e, count-last K T y (pow_pos layout.bits)) in
+        let z : w.state ≡ 0 = omega (arith, D.state_in, D.states_is, ap S e, count_last K T y (pow_pos layout.bits)) in
         D.stored_is ∙ ap₂ (λ (t k : ℕ). stored 2 r to (rows_to t k)) e z ∙ ap (stored 2 r to) (append-nil (output_words K T y T))
 
     module _ (inside : w.layer < T) where
@@ -202,7 +202,7 @@ module _ (layout : Layout) (ns : List Node) (s ws counts r : List ℕ) (to : ℕ
           reduced = subst (Reduced (layout.bits * T)) W.diagrams W.given.reduced;
           inside = W.inside;
           most = frame_bits;
-          few = L.bits-to;
+          few = L.bits_to;
         };
         apart = omega (arith, frame_outputs, L.apart);
         within = omega (arith, W.work_room, long);
@@ -223,22 +223,22 @@ module _ (layout : Layout) (ns : List Node) (s ws counts r : List ℕ) (to : ℕ
             let e : w.at + w.state ≡ layer_at K t + w.state = omega (arith, D.at_is, ap (λ (K : ℕ). layer_at K t) L.fan_is) in
             ap (λ j. get_or s j 0) e ∙ W.explored.paths t w.state (omega arith) state_below
 
-        id-at : (v j : ℕ) → v < layout.fan → j < layout.outputs
+        id_at : (v j : ℕ) → v < layout.fan → j < layout.outputs
             → get_or zs (layout.columns + v * layout.outputs + j) 0 ≡ follow W.subject.D 1 (history_bits layout.bits (suc t) (h * K + v)) (W.subject.root (layout.outputs * t + j))
-        id-at v j a b =
+        id_at v j a b =
             let n = layout.bits in
             let E = W.subject.D in
             X.leads n v j L.fan_is a b
             ∙ ap (λ (E : Nodes). follow E (suc (n * t)) (word_bits n v) (follow E 1 (word_bits (n * t) (get_or s (w.at + w.state) 0)) (get_or ms (layout.roots + layout.outputs * t + j) 0))) (sym W.diagrams)
             ∙ ap₂ (λ (p f : ℕ). follow E (suc (n * t)) (word_bits n v) (follow E 1 (word_bits (n * t) p) f)) path_at (root_at j b)
-            ∙ sym (follow-next E n t h v (W.subject.root (layout.outputs * t + j)) (omega (arith, L.fan_is)))
+            ∙ sym (follow_next E n t h v (W.subject.root (layout.outputs * t + j)) (omega (arith, L.fan_is)))
             ∙ ap (λ (vs : List Bool). follow E 1 vs (W.subject.root (layout.outputs * t + j))) (path_bits n (suc t) (h * K + v))
 
         word_is : (v : ℕ) → v < layout.fan → word_in zs (layout.columns + v * layout.outputs) layout.outputs ≡ y (suc t) (h * K + v)
         unfolding word_in Reads
         word_is v a =
             ap packed (listed_cong _ _ layout.outputs (λ j b.
-            ap (λ f. eqb f 1) (id-at v j a b)
+            ap (λ f. eqb f 1) (id_at v j a b)
             ∙ read_output layout.bits layout.outputs T y W.subject.F W.subject.D W.subject.root W.given.reduced W.given.holds W.given.responds t j (h * K + v) inside b))
             ∙ sym (W.reads t (h * K + v) inside)
 
@@ -251,11 +251,11 @@ module _ (layout : Layout) (ns : List Node) (s ws counts r : List ℕ) (to : ℕ
           put_is : r'' ≡ stored 2 r to (rows_to t (w.state + 1))
           put_is =
               put ∙ ap (stored 2 r' w.to) row_is
-              ∙ stored-behind 2 r r' to (rows_to t w.state) (row_of t w.state) w.to D.stored_is D.to_is (omega (arith, rows_room t w.state inside state_below))
+              ∙ stored_behind 2 r r' to (rows_to t w.state) (row_of t w.state) w.to D.stored_is D.to_is (omega (arith, rows_room t w.state inside state_below))
               ∙ ap (stored 2 r to) (rows_state t w.state)
 
-          to-next : w.to + 2 * layout.fan ≡ to + 2 * length (rows_to t (w.state + 1))
-          to-next = omega (arith, D.to_is, rows-length t w.state, rows-length t (w.state + 1), ap (λ (n : ℕ). n * K) (add-one w.state), suc-mul w.state K, L.fan_is)
+          to_next : w.to + 2 * layout.fan ≡ to + 2 * length (rows_to t (w.state + 1))
+          to_next = omega (arith, D.to_is, rows_length t w.state, rows_length t (w.state + 1), ap (λ (n : ℕ). n * K) (add-one w.state), suc-mul w.state K, L.fan_is)
 
           still : (j : ℕ) → j < layout.columns → get_or zs j 0 ≡ get_or ws j 0
           still j l = X.before j l ∙ D.kept j l
@@ -266,7 +266,7 @@ module _ (layout : Layout) (ns : List Node) (s ws counts r : List ℕ) (to : ℕ
             states_is = D.states_is;
             at_is = D.at_is;
             state_in = l;
-            to_is = to-next;
+            to_is = to_next;
             stored_is = put_is;
             kept = still;
           }
@@ -281,7 +281,7 @@ module _ (layout : Layout) (ns : List Node) (s ws counts r : List ℕ) (to : ℕ
                 states_is = k;
                 at_is = ap (λ (a : ℕ). a * layout.fan + 1) D.at_is ∙ sym (layer_next layout.fan t) ∙ ap (layer_at layout.fan) (sym (add-one t));
                 state_in = omega (arith, k, some_state (t + 1));
-                to_is = to-next ∙ ap (λ (l : List ℕ). to + 2 * length l) q;
+                to_is = to_next ∙ ap (λ (l : List ℕ). to + 2 * length l) q;
                 stored_is = put_is ∙ ap (stored 2 r to) q;
                 kept = still;
               }

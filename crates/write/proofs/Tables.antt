@@ -8,12 +8,12 @@ use native.Mathlib.Omega.{arith}
 use lib.Pow.{pow_mono}
 use lib.ListN.{length, get_or, drop, replicate}
 use Rattle.words.specs.Words.{stored, word_bytes}
-use Rattle.words.proofs.Laws.{all_bytes-length}
+use Rattle.words.proofs.Laws.{all_bytes_length}
 use Rattle.sizes.specs.Sizes.{inputs, outputs, frames}
 use Rattle.layered.specs.Search.{total}
 use Rattle.layered.specs.States.{count}
-use Rattle.layered.proofs.Lists.{total_cong, total-mul}
-use Rattle.layered.proofs.Entries.{entries-length}
+use Rattle.layered.proofs.Lists.{total_cong, total_mul}
+use Rattle.layered.proofs.Entries.{entries_length}
 use Rattle.circuit.specs.Lists.{listed, packed}
 use Rattle.circuit.specs.Circuit.{gates, all_inputs, all_outputs, gate_signal, output_signal}
 use Rattle.circuit.specs.WellFormed.{CircuitHeaded, HeadOf, WellFormed, Accepted}
@@ -23,9 +23,9 @@ use Rattle.circuit.proofs.Accepted.{well_formed}
 use Rattle.table.specs.Table.{head_length}
 use Rattle.table.proofs.Offsets.{head_length_lem}
 use Rattle.folded.specs.Folded.{folded_bytes, scratch_needed}
-use Rattle.folded.proofs.Tables.{folded_machine, folded-written}
+use Rattle.folded.proofs.Tables.{folded_machine, folded_written}
 use Rattle.diagrams.specs.Frames.{history_bits}
-use Rattle.functions.specs.Functions.{output_on}
+use Rattle.functions.specs.Functions.{output_on_lem}
 use Rattle.functions.specs.Theorems.{ResponsesRead}
 use Rattle.functions.proofs.Outputs.{responses_read}
 use Rattle.nodes.specs.declared.Node.{Node}
@@ -48,7 +48,7 @@ module _ (b : List ℕ) (A : Accepted b) where
     unfolding all_inputs
     layable =
         let all : h.inputs * h.frames ≡ all_inputs b = ap₂ ◌*◌ O.inputs_is O.frames_is in
-        (omega (arith, O.inputs_is, headed.sizes.inputs-to), omega (arith, all, headed.inputs-to), omega (arith, O.total_is, O.gates_is, headed.outputs-to), omega (arith, O.gates_is, headed.gates-to), omega (arith, O.base_is, headed.inputs-to))
+        (omega (arith, O.inputs_is, headed.sizes.inputs_to), omega (arith, all, headed.inputs_to), omega (arith, O.total_is, O.gates_is, headed.outputs_to), omega (arith, O.gates_is, headed.gates_to), omega (arith, O.base_is, headed.inputs_to))
 
     pub layout_is : (layout : Layout) → LayoutOf h layout → LayoutFor b layout
     layout_is layout L = record { head = h; formed = well_formed A.form O; sizes = L }
@@ -58,7 +58,7 @@ module _ (b : List ℕ) (A : Accepted b) where
 module _ (b : List ℕ) (survey : Survey) (ns : List Node) (s ws r : List ℕ) (P : Tabled b survey ns s ws r) where
   table_room : 2 * length (whole_table b) ≤ length r
   unfolding folded_bytes word_bytes
-  table_room = omega (arith, all_bytes-length 2 (whole_table b), P.room)
+  table_room = omega (arith, all_bytes_length 2 (whole_table b), P.room)
 
   pub head_room : head_length (frames b) ≤ length r
   head_room = omega (arith, head_length_lem (frames b), table_length_lem b, table_room)
@@ -103,7 +103,7 @@ module _ (b : List ℕ) (survey : Survey) (ns : List Node) (s ws r : List ℕ) (
     reads : Reads layout (subject_of b ns ws)
     unfolding Reads ResponsesRead
     reads = laid_out
-        (λ n m T _. (t h : ℕ) → t < T → response b (suc t) h ≡ packed (listed [] (λ j. output_on b (m * t + j) (history_bits n (suc t) h ++ replicate (n * T - n * suc t) false)) m))
+        (λ n m T _. (t h : ℕ) → t < T → response b (suc t) h ≡ packed (listed [] (λ j. output_on_lem b (m * t + j) (history_bits n (suc t) h ++ replicate (n * T - n * suc t) false)) m))
         (responses_read b W.headed)
 
     explored : Explored layout.bits layout.outputs layout.frames (response b) layout.half s (layout.frames - 1)
@@ -120,9 +120,9 @@ module _ (b : List ℕ) (survey : Survey) (ns : List Node) (s ws r : List ℕ) (
 
     work_room : layout.columns + layout.fan * layout.outputs ≤ length ws
     work_room =
-        let few : 2 ^ inputs b ≤ 256 = pow_mono {j = 8} P.accepted.form.sizes.inputs-to in
+        let few : 2 ^ inputs b ≤ 256 = pow_mono {j = 8} P.accepted.form.sizes.inputs_to in
         let fan : layout.fan ≤ 256 = omega (arith, few, is_laid.fan_is, ap (λ (n : ℕ). 2 ^ n) bits_are) in
-        let all : layout.fan * layout.outputs ≤ 256 * 16 = mul-le-mul fan is_laid.outputs-to in
+        let all : layout.fan * layout.outputs ≤ 256 * 16 = mul-le-mul fan is_laid.outputs_to in
         omega (arith, all, L.columns_is, P.space)
 
     -- the outputs, behind the head
@@ -155,7 +155,7 @@ module _ (b : List ℕ) (survey : Survey) (ns : List Node) (s ws r : List ℕ) (
         let K : ℕ = 2 ^ inputs b in
         let S : ℕ → ℕ = count K (frames b) (response b) in
         let all : total layout.frames (λ t. get_or survey.counts t 0) * layout.fan ≡ length (output_words K (frames b) (response b) (frames b)) =
-        ap₂ ◌*◌ states_are (is_laid.fan_is ∙ ap (λ (n : ℕ). 2 ^ n) bits_are) ∙ sym (total-mul (frames b) K S) ∙ sym (entries-length K (frames b) S (folded_machine b).out) in
+        ap₂ ◌*◌ states_are (is_laid.fan_is ∙ ap (λ (n : ℕ). 2 ^ n) bits_are) ∙ sym (total_mul (frames b) K S) ∙ sym (entries_length K (frames b) S (folded_machine b).out) in
         ap₂ (λ (T n : ℕ). head_length T + 2 * n) frames_is all
 
     pub nexts_fit : (r₂ : List ℕ) → length r₂ ≡ length r → NextsFit layout s survey.counts r₂ (nexts_from layout survey.counts)
@@ -180,4 +180,4 @@ module _ (b : List ℕ) (survey : Survey) (ns : List Node) (s ws r : List ℕ) (
         table_stored b r r₁ r₂ r₃ at (nexts_from layout survey.counts) table_room (e ∙ head_length_lem (frames b)) (nexts_are ∙ ap (λ (a : ℕ). a + 2 * length (output_words K (frames b) (response b) (frames b))) (sym e)) e₁
         ((o (writable r₁ at long e)).0 ∙ ap₂ (λ (K T : ℕ). stored 2 r₁ at (output_words K T (response b) T)) f frames_is)
         (n (nexts_fit r₂ longer) ∙ ap₂ (λ (K T : ℕ). stored 2 r₂ (nexts_from layout survey.counts) (next_words K T (response b) T)) f frames_is)
-        ∙ folded-written b r
+        ∙ folded_written b r

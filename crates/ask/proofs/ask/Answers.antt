@@ -38,13 +38,13 @@ module _ (b s : List ℕ) (ys : List Node) (v : Verdict) (V : figures v ≡ scra
     its = subst (λ b. Surveyed b (length ys) ns s₁ s₂ ws found) (sourced_whole b h O.whole_is) S
 
     found_is : SourceOf b h × Found (sourced h b) found
-    found_is = law.sourced-found b h found (law.headed_all b s ys v V yes) O (law.found_is b s ys v V yes s₁ l₁ left ns s₂ ws found l its)
+    found_is = law.sourced_found b h found (law.headed_all b s ys v V yes) O (law.found_is b s ys v V yes s₁ l₁ left ns s₂ ws found l its)
 
     answered : (a : Asked) → Answers (sourced h b) found a → ask_numbers a ≡ asked b (length s) (length ys)
     answered a A = law.answered b s ys v V yes s₁ l₁ left ns s₂ ws found l its a (law.sourced_answers b h O found a A)
 
     scratch_left : (s₃ : List ℕ) → s₃ ≡ cleared_to (2 * 2 ^ (h.inputs * h.frames)) s₂ → s₃ ≡ scratch_after b s
-    scratch_left s₃ e = law.left-cleared b s ys v V yes s₁ l₁ left ns s₂ ws found l its s₃ (law.cleared_is b h O s₂ s₃ e)
+    scratch_left s₃ e = law.left_cleared b s ys v V yes s₁ l₁ left ns s₂ ws found l its s₃ (law.cleared_is b h O s₂ s₃ e)
 
     nodes_left : (zs : List Node) → length ns ≡ length ys → zs ≡ replicate (length ns) none → zs ≡ nodes_after b (length s) ys
     nodes_left zs n e = law.left_empty b s ys v V yes s₁ l₁ left ns s₂ ws found l its zs n e

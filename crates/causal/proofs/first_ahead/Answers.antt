@@ -48,7 +48,7 @@ loop-at-init c =
     let all : c.args.source.base - 1 ≡ all_inputs b = omega (arith, p) in
     let count : c.power-count.result ≡ 2 ^ all_inputs b = c.power-count.ensures ∙ ap (λ k. 2 ^ k) all in (
       refl,
-      rw count (pow_mono {j = 16} p.headed.inputs-to),
+      rw count (pow_mono {j = 16} p.headed.inputs_to),
       count,
       search rules,
       search rules,

@@ -46,7 +46,7 @@ output_frame-frame-requires c =
     let k = c.requires.1 c.if-source.false in
     let p = inside c.args.source c.args.i k (omega (arith, c.if-source-i.false)) in
     record {
-      le_outputs = (k.inputs_from, omega (arith, k.inputs-to), omega (arith, p, k.bits-to));
+      le_outputs = (k.inputs_from, omega (arith, k.inputs_to), omega (arith, p, k.bits_to));
       not_after = not_after_first _ _;
     }
 
@@ -55,4 +55,4 @@ returns c =
     let k = c.requires.1 c.if-source.false in
     let h : c.args.i + 1 < c.args.source.own.base = omega (arith, c.if-source-i.false) in
     let e = c.output_frame-frame.ensures.frame in
-    (is c.args.source c.args.i k h _ e c.if-source.false, omega (arith, most c.args.source c.args.i k h _ e, rest c.args.source c.args.i k h _ e, k.bits-to))
+    (is c.args.source c.args.i k h _ e c.if-source.false, omega (arith, most c.args.source c.args.i k h _ e, rest c.args.source c.args.i k h _ e, k.bits_to))

@@ -7,16 +7,16 @@ use native.Mathlib.Nat.{mod-lt, div-le_self, div-lt_iff_lt-mul}
 use native.Mathlib.Omega.{arith}
 use lib.ListN.{length}
 use Rattle.circuit.specs.Lists.{grown, listed}
-use Rattle.circuit.proofs.Lists.{listed-length}
+use Rattle.circuit.proofs.Lists.{listed_length}
 use Rattle.chains.specs.Chains.{gates_stored, edge_of}
-use Rattle.chains.proofs.Laws.{words_from, words-to, edge_is}
-use Rattle.chains.proofs.Stored.{gates-none, fits_still, each_more}
+use Rattle.chains.proofs.Laws.{words_from, words_to, edge_is}
+use Rattle.chains.proofs.Stored.{gates_none, fits_still, each_more}
 use Rattle.chains.proofs.put_edges.Goals as goal
 
 pub loop-e-init : goal.loop-e-init
 unfolding grown
 loop-e-init c =
-    (omega arith, sym (gates-none _ _ _))
+    (omega arith, sym (gates_none _ _ _))
 
 pub nonzero_div-state : goal.nonzero_div-state
 nonzero_div-state c =
@@ -52,11 +52,11 @@ match_literal-matched-requires c =
     let some : 1 ≤ c.args.target.words =
     words_from _ _ c.requires.fits.words_are
     in (
-      c.requires.fits.base-to,
+      c.requires.fits.base_to,
       c.requires.fits.inputs_from,
-      c.requires.fits.inputs-to,
+      c.requires.fits.inputs_to,
       omega (arith, c.requires.fits, c.requires.matches_le_k),
-      omega (arith, mod-lt c.loop-e.e {m = c.args.target.words} (some), words-to _ _ c.requires.fits.words_are c.requires.fits.inputs-to),
+      omega (arith, mod-lt c.loop-e.e {m = c.args.target.words} (some), words_to _ _ c.requires.fits.words_are c.requires.fits.inputs_to),
     )
 
 pub overflow_add-k : goal.overflow_add-k
@@ -66,7 +66,7 @@ overflow_add-k c =
 pub put_gate-requires : goal.put_gate-requires
 put_gate-requires c =
     let within : c.args.k + length (listed [] ((edge_of c.args.target.inputs (c.args.target.base + c.args.matches) c.args.states.now)) c.loop-e.e) ≤ c.args.target.gates =
-    omega (arith, listed-length ((edge_of c.args.target.inputs (c.args.target.base + c.args.matches) c.args.states.now)) c.loop-e.e, c.loop-e.invariant.0, c.requires.matches_le_k)
+    omega (arith, listed_length ((edge_of c.args.target.inputs (c.args.target.base + c.args.matches) c.args.states.now)) c.loop-e.e, c.loop-e.invariant.0, c.requires.matches_le_k)
     in
     record {
       fits = fits_still _ c.args.res.now _ _ _ c.requires.fits c.loop-e.invariant.1 (within);

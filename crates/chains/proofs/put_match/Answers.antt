@@ -7,16 +7,16 @@ use native.Mathlib.Omega.{arith}
 use lib.ListN.{length}
 use Rattle.circuit.specs.Lists.{grown, listed}
 use Rattle.unfolded.specs.Unfolded.{chain, input_literal, matching}
-use Rattle.circuit.proofs.Lists.{listed-length, listed_more}
+use Rattle.circuit.proofs.Lists.{listed_length, listed_more}
 use Rattle.unfolded.proofs.Gates.{chain_length}
 use Rattle.chains.specs.Chains.{gates_stored}
-use Rattle.chains.proofs.Stored.{gates-none, fits_still, chain_more}
+use Rattle.chains.proofs.Stored.{gates_none, fits_still, chain_more}
 use Rattle.chains.proofs.put_match.Goals as goal
 
 pub loop-i-init : goal.loop-i-init
 unfolding chain grown
 loop-i-init c =
-    (omega arith, sym (gates-none _ _ _))
+    (omega arith, sym (gates_none _ _ _))
 
 pub overflow_add-k : goal.overflow_add-k
 overflow_add-k c =
@@ -24,11 +24,11 @@ overflow_add-k c =
 
 pub chain_end-left-requires : goal.chain_end-left-requires
 chain_end-left-requires c =
-    (c.requires.fits.base-to, omega arith, omega (arith, c.requires.fits, c.requires.t_lt_most_frames))
+    (c.requires.fits.base_to, omega arith, omega (arith, c.requires.fits, c.requires.t_lt_most_frames))
 
 pub input_literal-right-requires : goal.input_literal-right-requires
 input_literal-right-requires c =
-    (c.requires.fits.inputs-to, c.requires.t_lt_most_frames.0, c.loop-i-test.true)
+    (c.requires.fits.inputs_to, c.requires.t_lt_most_frames.0, c.loop-i-test.true)
 
 pub overflow_add-k-in-loop-i : goal.overflow_add-k-in-loop-i
 overflow_add-k-in-loop-i c =
@@ -37,7 +37,7 @@ overflow_add-k-in-loop-i c =
 pub put_gate-requires : goal.put_gate-requires
 put_gate-requires c =
     let many : length (chain (c.args.target.base + c.args.k) 1 (listed [] (input_literal c.args.target.inputs c.args.t c.args.w) c.loop-i.i)) ≡ c.loop-i.i =
-    chain_length _ 1 _ ∙ listed-length _ c.loop-i.i
+    chain_length _ 1 _ ∙ listed_length _ c.loop-i.i
     in
     let within : c.args.k + length (chain (c.args.target.base + c.args.k) 1 (listed [] (input_literal c.args.target.inputs c.args.t c.args.w) c.loop-i.i))
     ≤ c.args.target.gates =
@@ -58,7 +58,7 @@ loop-i-preserved c =
       omega arith,
       c.put_gate.ensures
           ∙ chain_more c.args.target.gates c.args.target.base c.args.k c.args.res.now c.loop-i.res (listed [] f c.loop-i.i) (listed [] f (c.loop-i.i + 1))
-          _ _ _ c.loop-i.invariant.1 (ap (λ (i : ℕ). c.args.k + i) (sym (listed-length f c.loop-i.i))) c.chain_end-left.ensures.0
+          _ _ _ c.loop-i.invariant.1 (ap (λ (i : ℕ). c.args.k + i) (sym (listed_length f c.loop-i.i))) c.chain_end-left.ensures.0
           (listed_more f c.loop-i.i _ c.input_literal-right.ensures.0) (omega (arith, c.requires.t_lt_most_frames)) c.requires.fits.room,
     )
 

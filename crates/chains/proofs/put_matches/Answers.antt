@@ -7,16 +7,16 @@ use native.Mathlib.Nat.{mul-le-mul_right}
 use native.Mathlib.Omega.{arith}
 use lib.ListN.{length}
 use Rattle.unfolded.specs.Unfolded.{chains_from, matching}
-use Rattle.unfolded.proofs.Counts.{matches-length}
+use Rattle.unfolded.proofs.Counts.{matches_length}
 use Rattle.chains.specs.Chains.{gates_stored}
-use Rattle.chains.proofs.Laws.{words-to, match_room, match_length}
-use Rattle.chains.proofs.Stored.{gates-none, fits_still, chains_next}
+use Rattle.chains.proofs.Laws.{words_to, match_room, match_length}
+use Rattle.chains.proofs.Stored.{gates_none, fits_still, chains_next}
 use Rattle.chains.proofs.put_matches.Goals as goal
 
 pub loop-w-init : goal.loop-w-init
 unfolding chains_from
 loop-w-init c =
-    (omega arith, sym (gates-none _ _ _))
+    (omega arith, sym (gates_none _ _ _))
 
 pub overflow_mul-w : goal.overflow_mul-w
 overflow_mul-w c =
@@ -35,7 +35,7 @@ overflow_add-k c =
 pub put_match-requires : goal.put_match-requires
 put_match-requires c =
     let many : length (chains_from (c.args.target.base + c.args.k) (matching c.args.target.inputs c.args.t) c.loop-w.w) ≡ c.loop-w.w * c.args.target.inputs =
-    matches-length _ _ _ c.loop-w.w
+    matches_length _ _ _ c.loop-w.w
     in
     let within : c.args.k + length (chains_from (c.args.target.base + c.args.k) (matching c.args.target.inputs c.args.t) c.loop-w.w) ≤ c.args.target.gates =
     omega (arith, many, mul-le-mul_right c.args.target.inputs c.loop-w.invariant.0, c.requires.t_lt_most_frames)
@@ -50,12 +50,12 @@ put_match-requires c =
 
 pub overflow_step-w : goal.overflow_step-w
 overflow_step-w c =
-    omega (arith, c.loop-w-test.true, words-to _ _ c.requires.fits.words_are c.requires.fits.inputs-to)
+    omega (arith, c.loop-w-test.true, words_to _ _ c.requires.fits.words_are c.requires.fits.inputs_to)
 
 pub loop-w-preserved : goal.loop-w-preserved
 loop-w-preserved c =
     let many : length (chains_from (c.args.target.base + c.args.k) (matching c.args.target.inputs c.args.t) c.loop-w.w) ≡ c.loop-w.w * c.args.target.inputs =
-    matches-length _ _ _ c.loop-w.w
+    matches_length _ _ _ c.loop-w.w
     in
     let next : c.args.k + c.loop-w.w * c.args.target.inputs + c.args.target.inputs ≤ c.args.target.gates =
     omega (arith, match_room _ _ c.args.target.inputs c.loop-w-test.true, c.requires.t_lt_most_frames)

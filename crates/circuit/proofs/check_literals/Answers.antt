@@ -14,17 +14,17 @@ check_first-before-requires c =
       circuit_headed = c.requires.circuit_headed;
       head_of = c.requires.head_of;
       circuit_in_bounds = c.requires.circuit_in_bounds;
-      count_bound = (omega (arith, first_inside c.args.circuit.now c.requires.circuit_headed.outputs-to, c.requires.first_value), λ g h. (least_tells (gates c.args.circuit.now) (unconnected c.args.circuit.now)).0 g (omega (arith, c.requires.first_value)));
+      count_bound = (omega (arith, first_inside c.args.circuit.now c.requires.circuit_headed.outputs_to, c.requires.first_value), λ g h. (least_tells (gates c.args.circuit.now) (unconnected c.args.circuit.now)).0 g (omega (arith, c.requires.first_value)));
     }
 
 pub returns-in_default : goal.returns-in_default
 returns-in_default c =
     stop c.check_first-before.result _ _ c.in_default.field-0 c.check_first-before.ensures c.in_default.is
-    ∙ sym (literals_parts c.args.circuit.now c.requires.circuit_headed.outputs-to c.args.start c.args.first c.requires.first_value)
+    ∙ sym (literals_parts c.args.circuit.now c.requires.circuit_headed.outputs_to c.args.start c.args.first c.requires.first_value)
 
 pub check_rest-requires : goal.check_rest-requires
 check_rest-requires c =
-    let i = first_inside c.args.circuit.now c.requires.circuit_headed.outputs-to in
+    let i = first_inside c.args.circuit.now c.requires.circuit_headed.outputs_to in
     record {
       circuit_headed = c.requires.circuit_headed;
       head_of = c.requires.head_of;
@@ -35,4 +35,4 @@ check_rest-requires c =
 pub returns : goal.returns
 returns c =
     go_on c.check_first-before.result _ _ _ c.in-Accepted.field-0 c.check_first-before.ensures c.in-Accepted.is c.check_rest.ensures
-    ∙ sym (literals_parts c.args.circuit.now c.requires.circuit_headed.outputs-to c.args.start c.args.first c.requires.first_value)
+    ∙ sym (literals_parts c.args.circuit.now c.requires.circuit_headed.outputs_to c.args.start c.args.first c.requires.first_value)

@@ -35,7 +35,7 @@ inputs_are : (s : Start) → s.args.sizes.inputs ≡ inputs (b₀ s)
 inputs_are s = ap (λ (z : Sizes). z.inputs) s.requires.layout_value.1
 
 matches-few : (s : Start) → s.args.layout.words * s.args.sizes.inputs ≤ 2048
-matches-few s = let h : s.args.sizes.inputs ≤ 8 = omega (arith, inputs_are s, s.requires.table_headed.sized) in mul-le-mul (lay s).words-to h
+matches-few s = let h : s.args.sizes.inputs ≤ 8 = omega (arith, inputs_are s, s.requires.table_headed.sized) in mul-le-mul (lay s).words_to h
 
 -- how many edges there are, where the layer has n states
 module _ (s : Start) (n : ℕ) (en : (n ≡ states (b₀ s) s.args.t) × (n < 65536)) where
@@ -43,7 +43,7 @@ module _ (s : Start) (n : ℕ) (en : (n ≡ states (b₀ s) s.args.t) × (n < 65
   edges_are = ap₂ ◌*◌ en.0 (lay s).words_is
 
   edges_few : n * s.args.layout.words ≤ 16777216
-  edges_few = row_small _ _ en.1 (lay s).words-to
+  edges_few = row_small _ _ en.1 (lay s).words_to
 
   -- the layer's part, with m entries below it
   module _ (m : ℕ) (em : (m ≡ entries_below (b₀ s) s.args.t) × (m ≤ 268435456)) where
@@ -91,8 +91,8 @@ overflow_mul-edges c = omega (arith, edges_few (goal.at.overflow_mul-edges c).St
 pub entries_below-requires : goal.entries_below-requires
 entries_below-requires c =
     let l = lay (goal.at.entries_below-requires c).Start in record {
-      words_value = (l.words_is, l.words-to);
-      layer_le_most_frames = (omega (arith, l.frames_is, c.requires.layout_value.2, l.frames-to), omega (arith, count_in c.args.table.now c.requires.table_headed c.args.t (omega (arith, c.requires.layout_value.2))));
+      words_value = (l.words_is, l.words_to);
+      layer_le_most_frames = (omega (arith, l.frames_is, c.requires.layout_value.2, l.frames_to), omega (arith, count_in c.args.table.now c.requires.table_headed c.args.t (omega (arith, c.requires.layout_value.2))));
     }
 
 pub overflow_add-from : goal.overflow_add-from

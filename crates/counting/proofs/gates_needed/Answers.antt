@@ -4,18 +4,18 @@ use mathlib.Core.Path.{◌≡◌, sym, ap, ◌∙◌}
 use Prim.Native.Nat.{◌+◌, ◌*◌, ◌≤◌, ◌<◌}
 use native.Mathlib.Nat.{mul-le-mul}
 use native.Mathlib.Omega.{arith}
-use Rattle.sizes.specs.Sizes.{outputs as outputs_of, frames as framesOf}
+use Rattle.sizes.specs.Sizes.{outputs as outputs_of, frames as frames_of}
 use Rattle.sizes.specs.declared.Sizes.{Sizes}
 use Rattle.layered.specs.Search.{total}
 use Rattle.table.proofs.Offsets.{laid}
 use Rattle.unfolded.specs.Counted.{frame_needs}
 use Rattle.unfolded.proofs.Counts.{gates-needed}
-use Rattle.layered.proofs.Lists.{total-next}
+use Rattle.layered.proofs.Lists.{total_next}
 use Rattle.counting.proofs.gates_needed.Goals as goal
 
 pub overflow_mul-gates : goal.overflow_mul-gates
 overflow_mul-gates c =
-    let frames_are : c.args.layout.frames ≡ framesOf ((c.args.table.now)) =
+    let frames_are : c.args.layout.frames ≡ frames_of ((c.args.table.now)) =
     (laid ((c.args.table.now)) c.args.layout c.requires.sound.headed c.requires.layout_value.0).frames_is
     in
     let outputs_are : c.args.sizes.outputs ≡ outputs_of ((c.args.table.now)) =
@@ -31,7 +31,7 @@ overflow_mul-gates c =
 pub loop-t-init : goal.loop-t-init
 unfolding total
 loop-t-init c =
-    let frames_are : c.args.layout.frames ≡ framesOf ((c.args.table.now)) =
+    let frames_are : c.args.layout.frames ≡ frames_of ((c.args.table.now)) =
     (laid ((c.args.table.now)) c.args.layout c.requires.sound.headed c.requires.layout_value.0).frames_is
     in
     let outputs_are : c.args.sizes.outputs ≡ outputs_of ((c.args.table.now)) =
@@ -46,7 +46,7 @@ loop-t-init c =
 
 pub frame_needs-gates-requires : goal.frame_needs-gates-requires
 frame_needs-gates-requires c =
-    let frames_are : c.args.layout.frames ≡ framesOf ((c.args.table.now)) =
+    let frames_are : c.args.layout.frames ≡ frames_of ((c.args.table.now)) =
     (laid ((c.args.table.now)) c.args.layout c.requires.sound.headed c.requires.layout_value.0).frames_is
     in
     record {
@@ -56,7 +56,7 @@ frame_needs-gates-requires c =
 
 pub overflow_add-gates : goal.overflow_add-gates
 overflow_add-gates c =
-    let frames_are : c.args.layout.frames ≡ framesOf ((c.args.table.now)) =
+    let frames_are : c.args.layout.frames ≡ frames_of ((c.args.table.now)) =
     (laid ((c.args.table.now)) c.args.layout c.requires.sound.headed c.requires.layout_value.0).frames_is
     in
     let few : c.loop-t.t < 16 =
@@ -66,7 +66,7 @@ overflow_add-gates c =
 
 pub overflow_step-t : goal.overflow_step-t
 overflow_step-t c =
-    let frames_are : c.args.layout.frames ≡ framesOf ((c.args.table.now)) =
+    let frames_are : c.args.layout.frames ≡ frames_of ((c.args.table.now)) =
     (laid ((c.args.table.now)) c.args.layout c.requires.sound.headed c.requires.layout_value.0).frames_is
     in
     let few : c.loop-t.t < 16 =
@@ -77,20 +77,20 @@ overflow_step-t c =
 pub loop-t-preserved : goal.loop-t-preserved
 loop-t-preserved c = (
   omega (arith, c.loop-t-test.true),
-  omega (arith, c.loop-t.invariant.1, c.frame_needs-gates.ensures.0, total-next (frame_needs (c.args.table.now)) c.loop-t.t),
+  omega (arith, c.loop-t.invariant.1, c.frame_needs-gates.ensures.0, total_next (frame_needs (c.args.table.now)) c.loop-t.t),
   omega (arith, c.loop-t.invariant.2, c.frame_needs-gates.ensures.1),
 )
 
 pub returns : goal.returns
 returns c =
-    let frames_are : c.args.layout.frames ≡ framesOf ((c.args.table.now)) =
+    let frames_are : c.args.layout.frames ≡ frames_of ((c.args.table.now)) =
     (laid ((c.args.table.now)) c.args.layout c.requires.sound.headed c.requires.layout_value.0).frames_is
     in
     let outputs_are : c.args.sizes.outputs ≡ outputs_of ((c.args.table.now)) =
     ap (λ (z : Sizes). z.outputs) c.requires.layout_value.1
     in
     let b = (c.args.table.now) in
-    let e : c.loop-t.t ≡ framesOf b = omega (arith, c.loop-t-test.false, c.loop-t.invariant.0, frames_are) in (
+    let e : c.loop-t.t ≡ frames_of b = omega (arith, c.loop-t-test.false, c.loop-t.invariant.0, frames_are) in (
       c.loop-t.invariant.1 ∙ (λ i. total (e i) (frame_needs b) + outputs_are i * frames_are i) ∙ sym (gates-needed b c.requires.sound.legal),
       omega (arith, c.loop-t.invariant.2, e, c.requires.sound.headed.sized),
     )

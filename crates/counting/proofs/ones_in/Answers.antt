@@ -7,7 +7,7 @@ use lib.ListN.{length}
 use Rattle.words.specs.Words.{word_at}
 use Rattle.circuit.specs.Lists.{bit}
 use Rattle.layered.specs.Search.{tally, total}
-use Rattle.layered.proofs.Lists.{total-next}
+use Rattle.layered.proofs.Lists.{total_next}
 use Rattle.counting.proofs.ones_in.Goals as goal
 
 pub loop-e-init : goal.loop-e-init
@@ -41,7 +41,7 @@ loop-e-preserved c =
     λ e. tally c.args.count (bit (word_at c.args.part.now (2 * e)))
     in
     let q : c.ones_of-ones.result ≡ ones-at c.loop-e.e = c.ones_of-ones.ensures.0 ∙ ap (λ (x : ℕ). tally c.args.count (bit x)) c.read.ensures.0 in
-    (omega (arith, c.loop-e-test.true), omega (arith, c.loop-e.invariant.1, total-next (ones-at) c.loop-e.e), omega (arith, c.loop-e.invariant.2, c.ones_of-ones.ensures.1))
+    (omega (arith, c.loop-e-test.true), omega (arith, c.loop-e.invariant.1, total_next (ones-at) c.loop-e.e), omega (arith, c.loop-e.invariant.2, c.ones_of-ones.ensures.1))
 
 pub returns : goal.returns
 returns c =

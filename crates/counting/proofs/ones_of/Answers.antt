@@ -6,7 +6,7 @@ use native.Mathlib.Omega.{arith}
 use Rattle.circuit.specs.Lists.{bit}
 use Rattle.layered.specs.Search.{tally}
 use Rattle.layered.proofs.Search.{tally_at_most}
-use Rattle.layered.proofs.Lists.{tally-next}
+use Rattle.layered.proofs.Lists.{tally_next}
 use Rattle.counting.proofs.ones_of.Goals as goal
 use Rattle.counting.proofs.ones_of.Goals.{then-is_set, else-is_set}
 
@@ -34,8 +34,8 @@ pub loop-j-preserved : goal.loop-j-preserved
 loop-j-preserved c =
     let p = bit c.args.word in
     elim c.if-is_set.branch [
-      | then-is_set w ↦ (omega (arith, c.loop-j-test.true), w.ones-is ∙ omega (arith, c.loop-j.invariant.1, tally-next p c.loop-j.j _ (sym c.is_set.ensures ∙ w.if-is_set.true)))
-      | else-is_set w ↦ (omega (arith, c.loop-j-test.true), w.ones-is ∙ omega (arith, c.loop-j.invariant.1, tally-next p c.loop-j.j _ (sym c.is_set.ensures ∙ w.if-is_set.false)))
+      | then-is_set w ↦ (omega (arith, c.loop-j-test.true), w.ones-is ∙ omega (arith, c.loop-j.invariant.1, tally_next p c.loop-j.j _ (sym c.is_set.ensures ∙ w.if-is_set.true)))
+      | else-is_set w ↦ (omega (arith, c.loop-j-test.true), w.ones-is ∙ omega (arith, c.loop-j.invariant.1, tally_next p c.loop-j.j _ (sym c.is_set.ensures ∙ w.if-is_set.false)))
     ]
 
 pub returns : goal.returns

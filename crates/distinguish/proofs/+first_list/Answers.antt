@@ -11,7 +11,7 @@ use Rattle.table.specs.Sound.{Sound, layout_of}
 use Rattle.table.specs.declared.Layout.{Layout}
 use Rattle.distinguish.specs.Pairs.{PairOf}
 use Rattle.distinguish.specs.declared.Pair.{Pair}
-use Rattle.distinguish.proofs.Searching.{Seeking, laid_of, row_of_lem, all_few, same_answer, one_answer, NoneTo, fewer_is, found-answer, none_further, none-answer}
+use Rattle.distinguish.proofs.Searching.{Seeking, laid_of, row_of_lem, all_few, same_answer, one_answer, NoneTo, fewer_is, found_answer, none_further, none_answer}
 use Rattle.distinguish.proofs.+first_list.Goals as goal
 
 -- what is known at the entry
@@ -56,8 +56,8 @@ first_list-number-requires t c =
     let more = c.if-count-eq1.false in (
       omega (arith, c.decreases, k.some),
       (
-        (k.sound, k.layout_is, c.follow-next.ensures.pair),
-        (omega (arith, k.some, more), omega (arith, k.some, k.within, c.follow-next.ensures.layer), fewer_is k more),
+        (k.sound, k.layout_is, c.follow_next.ensures.pair),
+        (omega (arith, k.some, more), omega (arith, k.some, k.within, c.follow_next.ensures.layer), fewer_is k more),
       ),
     )
 
@@ -71,13 +71,13 @@ overflow_add-result t c =
 
 pub returns-then-number-rest : goal.returns-then-number-rest
 returns-then-number-rest t c =
-    let q = c.follow-next in
-    found-answer (known _ _ _ _ _ c.requires.sound c.requires.le_count) c.if-count-eq1.false c.loop-w.w c.first_list-number.result q.result c.loop-w-test.true q.ensures.layer q.ensures.first q.ensures.second
+    let q = c.follow_next in
+    found_answer (known _ _ _ _ _ c.requires.sound c.requires.le_count) c.if-count-eq1.false c.loop-w.w c.first_list-number.result q.result c.loop-w-test.true q.ensures.layer q.ensures.first q.ensures.second
     c.first_list-number.ensures c.if-number-rest.true c.loop-w.invariant.1
 
 pub loop-w-preserved : goal.loop-w-preserved
 loop-w-preserved t c =
-    let q = c.follow-next in (
+    let q = c.follow_next in (
       omega arith,
       none_further (known _ _ _ _ _ c.requires.sound c.requires.le_count) c.if-count-eq1.false c.loop-w.w c.first_list-number.result q.result c.loop-w-test.true q.ensures.layer q.ensures.first q.ensures.second
           c.first_list-number.ensures c.if-number-rest.false c.loop-w.invariant.1,
@@ -90,4 +90,4 @@ pub returns : goal.returns
 returns t c =
     let k = known _ _ _ _ _ c.requires.sound c.requires.le_count in
     let e : c.loop-w.w ≡ c.args.layout.words = omega arith in
-    none-answer k c.if-count-eq1.false (subst (NoneTo k) e c.loop-w.invariant.1)
+    none_answer k c.if-count-eq1.false (subst (NoneTo k) e c.loop-w.invariant.1)

@@ -9,7 +9,7 @@ use lib.Pow.{pow_pos}
 use Rattle.verdict.proofs.Laws.{accepts}
 use Rattle.sizes.specs.Sizes.{inputs, frames}
 use Rattle.layered.specs.Histories.{history_words}
-use Rattle.layered.proofs.Histories.{history-length}
+use Rattle.layered.proofs.Histories.{history_length}
 use Rattle.table.specs.Table.{states}
 use Rattle.table.specs.Sound.{Sound}
 use Rattle.table.proofs.Accepted.{sound}
@@ -85,8 +85,8 @@ entries_below-requires c =
     let l = stands in
     let p = pair_is.0 in
     record {
-      words_value = (l.words_is, l.words-to);
-      layer_le_most_frames = (omega (arith, p, l.frames_is, l.frames-to), omega (arith, p, l));
+      words_value = (l.words_is, l.words_to);
+      layer_le_most_frames = (omega (arith, p, l.frames_is, l.frames_to), omega (arith, p, l));
     }
 
 pub shortest_list-list-requires : goal.shortest_list-list-requires
@@ -112,7 +112,7 @@ store_words-requires c =
     ap (λ n. n - c.args.layer) stands.frames_is
     in
     let l = stands in
-    (omega (arith, l.words_is, pow_pos (inputs c.args.table.now)), omega (arith, l.words-to), omega (arith, c.shortest_list-list.ensures.few, left_is, c.if-res-left.false))
+    (omega (arith, l.words_is, pow_pos (inputs c.args.table.now)), omega (arith, l.words_to), omega (arith, c.shortest_list-list.ensures.few, left_is, c.if-res-left.false))
 
 pub returns : goal.returns
 returns c =
@@ -129,7 +129,7 @@ returns c =
     let o = accepted c.args.table.now c.args.layer c.args.first c.args.second c.args.res.now c.check-judged.result c.in-Accepted.field-0 c.check-judged.ensures.verdict c.in-Accepted.is c.check_pair-placed.result c.in-Accepted-placed.field-0 c.check_pair-placed.ensures c.in-Accepted-placed.is
     c.shortest_list-list.result.length _
     (omega (arith, left_is, c.if-res-left.false))
-    (sym (history-length K c.shortest_list-list.result.length c.shortest_list-list.result.number) ∙ ap length c.shortest_list-list.ensures.words)
+    (sym (history_length K c.shortest_list-list.result.length c.shortest_list-list.result.number) ∙ ap length c.shortest_list-list.ensures.words)
     (c.store_words.ensures
     ∙ ap (λ n. history_words n c.shortest_list-list.result.length c.shortest_list-list.result.number ++ drop c.shortest_list-list.result.length c.args.res.now) stands.words_is
     ∙ ap (λ l. l ++ drop c.shortest_list-list.result.length c.args.res.now) c.shortest_list-list.ensures.words) in

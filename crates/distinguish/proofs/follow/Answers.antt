@@ -134,9 +134,9 @@ read-requires-2 c =
 
 pub returns : goal.returns
 returns c =
-    let next-at : (x : ℕ) → x < states c.args.table.now c.args.pair.layer
+    let next_at : (x : ℕ) → x < states c.args.table.now c.args.pair.layer
     → word_at c.args.table.now (c.args.layout.nexts + 2 * (c.args.pair.below + x * c.args.layout.words) + 2 * c.args.w) ≡ (machine c.args.table.now).next c.args.pair.layer x c.args.w =
-    λ x h. entries.next-at c.args.table.now c.args.layout c.args.pair c.requires.sound.0 c.requires.sound.1 c.requires.sound.2 c.requires.layer_bound.0 x h c.args.w
+    λ x h. entries.next_at c.args.table.now c.args.layout c.args.pair c.requires.sound.0 c.requires.sound.1 c.requires.sound.2 c.requires.layer_bound.0 x h c.args.w
     in
     let first_in : c.args.pair.first < states c.args.table.now c.args.pair.layer =
     c.requires.sound.2.first_to
@@ -151,8 +151,8 @@ returns c =
     let layer_is : c.args.pair.below + c.states_of.result * c.args.layout.words ≡ entries_below c.args.table.now (c.args.pair.layer + 1) =
     ap (λ n. c.args.pair.below + n * c.args.layout.words) c.states_of.ensures.0 ∙ entries.below_more c.args.table.now c.args.layout c.args.pair c.requires.sound.0 c.requires.sound.1 c.requires.sound.2 c.requires.layer_bound.0
     in
-    let first = c.read.ensures.0 ∙ ap (λ n. word_at c.args.table.now (n + 2 * c.args.w)) c.row-first.ensures ∙ next-at _ first_in in
-    let second = c.read-2.ensures.0 ∙ ap (λ n. word_at c.args.table.now (n + 2 * c.args.w)) c.row-second.ensures ∙ next-at _ second_in in record {
+    let first = c.read.ensures.0 ∙ ap (λ n. word_at c.args.table.now (n + 2 * c.args.w)) c.row-first.ensures ∙ next_at _ first_in in
+    let second = c.read-2.ensures.0 ∙ ap (λ n. word_at c.args.table.now (n + 2 * c.args.w)) c.row-second.ensures ∙ next_at _ second_in in record {
       pair = record {
         layer_to = omega (arith, c.requires.layer_bound.0);
         below_is = layer_is;

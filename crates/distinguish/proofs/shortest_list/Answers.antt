@@ -10,7 +10,7 @@ use Rattle.layered.specs.Histories.{history_words}
 use Rattle.table.specs.Table.{machine}
 use Rattle.table.proofs.Offsets.{Laid, laid}
 use Rattle.distinguish.specs.Distinguish.{first_list, distinguishing}
-use Rattle.distinguish.proofs.Separating.{NoneOf, none_longer, shortest_here, shortest-none}
+use Rattle.distinguish.proofs.Separating.{NoneOf, none_longer, shortest_here, shortest_none}
 use Rattle.distinguish.proofs.Searching.{lists_few}
 use Rattle.distinguish.proofs.shortest_list.Goals as goal
 
@@ -92,7 +92,7 @@ returns c =
     laid c.args.table.now c.args.layout c.requires.0.headed c.requires.1
     in
     let e : c.loop-k.k ≡ frames c.args.table.now - c.args.pair.layer = omega (arith, stands) in record {
-      words = shortest-none (machine c.args.table.now) (2 ^ inputs c.args.table.now) c.args.pair.layer c.args.pair.first c.args.pair.second (frames c.args.table.now - c.args.pair.layer)
+      words = shortest_none (machine c.args.table.now) (2 ^ inputs c.args.table.now) c.args.pair.layer c.args.pair.first c.args.pair.second (frames c.args.table.now - c.args.pair.layer)
           (subst (NoneOf (machine c.args.table.now) (2 ^ inputs c.args.table.now) c.args.pair.layer c.args.pair.first c.args.pair.second) e c.loop-k.invariant.2);
       few = omega arith;
     }

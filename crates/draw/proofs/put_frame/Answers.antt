@@ -12,7 +12,7 @@ use Rattle.circuit.specs.Lists.{listed}
 use Rattle.table.specs.Table.{states, entry_count, outputs_at, nexts_at, layer_part}
 use Rattle.table.specs.Sound.{TableHeaded}
 use Rattle.table.proofs.Parts.{part_length}
-use Rattle.circuit.proofs.Lists.{listed-length}
+use Rattle.circuit.proofs.Lists.{listed_length}
 use Rattle.unfolded.specs.Unfolded.{chains_from, matching, Frame, match_gates, edge_gates, next_gates, out_literal, out_gates, frame_gates, Drawing, table_frame, drawing}
 use Rattle.unfolded.proofs.Counts.{edge_count, frame_count}
 use Rattle.chains.specs.Chains.{Fits, target_of, gates_stored, edge_of}
@@ -24,7 +24,7 @@ use Rattle.gathers.specs.declared.Gathering.{Gathering}
 use Rattle.draw.specs.Limits.{most_drawn_states}
 use Rattle.draw.specs.Draw.{frame_at, source_of, StatesKept}
 use Rattle.draw.specs.declared.Source.{Source}
-use Rattle.draw.proofs.Frames.{matches_are, matches-count, edges_are, nexts_are, next_literals, outs_are, out_literals, outs_count, next_is_not_output, nexts_stand, outputs_stand, nexts_part, outputs_part, parts_stored, frame_ends, frame_room, frame_edges, few_states, few_drawn, states-count, states-next, states-left}
+use Rattle.draw.proofs.Frames.{matches_are, matches_count, edges_are, nexts_are, next_literals, outs_are, out_literals, outs_count, next_is_not_output, nexts_stand, outputs_stand, nexts_part, outputs_part, parts_stored, frame_ends, frame_room, frame_edges, few_states, few_drawn, states_count, states_next, states_left}
 use Rattle.draw.proofs.put_frame.Goals as goal
 use Rattle.draw.proofs.put_frame.Goals.{Start}
 
@@ -73,10 +73,10 @@ room : (s : Start) → s.args.source.first + length (frame_gates (F₀ s)) ≤ s
 room s = omega (arith, first_is s, frame_room (b₀ s) (t₀ s) (early s), ap (λ (target : Target). target.gates) (aim s))
 
 few : (s : Start) (t : ℕ) → t < frames (b₀ s) → states (b₀ s) t ≤ most_drawn_states
-few s t h = few_states (b₀ s) t h (head s).sized.inputs_from (omega (arith, (fits₀ s).gates-to, ap (λ (target : Target). target.gates) (aim s)))
+few s t h = few_states (b₀ s) t h (head s).sized.inputs_from (omega (arith, (fits₀ s).gates_to, ap (λ (target : Target). target.gates) (aim s)))
 
 matches : (s : Start) → length (match_gates (F₀ s)) ≡ s.args.target.words * s.args.target.inputs
-matches s = matches-count (b₀ s) (head s) (t₀ s) (early s) s.args.target (aim s) (d₀ s) s.args.source.first (first_is s)
+matches s = matches_count (b₀ s) (head s) (t₀ s) (early s) s.args.target (aim s) (d₀ s) s.args.source.first (first_is s)
 
 edge-length : (s : Start) → length (edge_gates (F₀ s)) ≡ s.args.source.edges
 edge-length s = edge_count (F₀ s) ∙ frame_edges (b₀ s) (t₀ s) (d₀ s) ∙ sym (edges-is s)
@@ -148,7 +148,7 @@ module _ (s : Start) (v₁ : List ℕ) (j : ℕ)
             e₂
             ∙ ap (gates_stored s.args.target.gates j v₁)
             (edges_are (b₀ s) (head s) (t₀ s) (early s) s.args.target (aim s) (d₀ s) s.args.source.first (first_is s) j ej
-            (head s).sized.inputs_from s.args.states.now (states-count (b₀ s) (head s).one_first (t₀ s) (early s)) s.requires.states_kept.kept _ (edges-is s))
+            (head s).sized.inputs_from s.args.states.now (states_count (b₀ s) (head s).one_first (t₀ s) (early s)) s.requires.states_kept.kept _ (edges-is s))
 
         fits₂ : Fits s.args.target v₂
         fits₂ = fits_still s.args.target v₁ v₂ j (edge_gates (F₀ s)) fits₁ stored₂ (omega (arith, ej, matches s, frame_count (F₀ s), room s))
@@ -169,7 +169,7 @@ module _ (s : Start) (v₁ : List ℕ) (j : ℕ)
           kept₃-are : gather_literals s.args.target nexts₃ p₃ g₂ (count₃ s) ≡ (drawing (b₀ s) (suc (t₀ s))).states
           kept₃-are =
               next_literals (b₀ s) (head s) (t₀ s) (early s) s.args.target (aim s) (d₀ s) s.args.source.first (first_is s) j ej g₂ g₂-is p₃ p₃-is (count₃ s) (count₃-is s)
-              ∙ sym (states-next (b₀ s) (t₀ s))
+              ∙ sym (states_next (b₀ s) (t₀ s))
 
           module _ (v₃ ls₃ : List ℕ) (o : ℕ)
               (ev₃ : v₃ ≡ gates_stored s.args.target.gates g₂ v₂ (gather_gates s.args.target nexts₃ p₃ g₂ (count₃ s)))
@@ -185,8 +185,8 @@ module _ (s : Start) (v₁ : List ℕ) (j : ℕ)
               states₃ : StatesKept (b₀ s) (suc (t₀ s)) (ls₃ ++ drop s.args.source.drawn s.args.states.now)
               states₃ =
                   let e = els₃ ∙ kept₃-are in
-                  states-left (b₀ s) s.args.states.now _ (t₀ s) s.args.source.drawn e
-                  (drawn-is s ∙ sym (ap length (e ∙ states-next (b₀ s) (t₀ s)) ∙ listed-length _ (F₀ s).nexts)) (drawn-few s) s.requires.states_kept.long
+                  states_left (b₀ s) s.args.states.now _ (t₀ s) s.args.source.drawn e
+                  (drawn-is s ∙ sym (ap length (e ∙ states_next (b₀ s) (t₀ s)) ∙ listed_length _ (F₀ s).nexts)) (drawn-few s) s.requires.states_kept.long
 
               o₄-is : o ≡ g₂ + length (next_gates (F₀ s))
               o₄-is = eo ∙ ap (λ (gs : List (ℕ × ℕ)). g₂ + length gs) chains₃-are
@@ -212,8 +212,8 @@ module _ (s : Start) (v₁ : List ℕ) (j : ℕ)
                     out_literals (b₀ s) (head s) (t₀ s) (early s) s.args.target (aim s) (d₀ s) s.args.source.first (first_is s) j ej g₂ g₂-is o o₄-is p₅ p₅-is _ (count₅-is s)
                     ∙ ap (listed [] (out_literal (F₀ s))) (sym (count₅-is s) ∙ s.requires.outputs_len)
 
-                outs-in : o + length (gather_gates s.args.target outs₅ p₅ o (length s.args.outputs.now)) ≤ s.args.target.gates
-                outs-in = omega (arith, ap length chains₅-are, outs-end, room s)
+                outs_in : o + length (gather_gates s.args.target outs₅ p₅ o (length s.args.outputs.now)) ≤ s.args.target.gates
+                outs_in = omega (arith, ap length chains₅-are, outs-end, room s)
 
                 module _ (v₄ : List ℕ) (e₄ : v₄ ≡ gates_stored s.args.target.gates o v₃ (gather_gates s.args.target outs₅ p₅ o (length s.args.outputs.now))) where
                   stored₆ : v₄ ≡ gates_stored s.args.target.gates s.args.source.first s.args.res.now (frame_gates (F₀ s))
@@ -250,7 +250,7 @@ pub overflow_add-edges : goal.overflow_add-edges
 overflow_add-edges c =
     let s = (goal.at.overflow_add-edges c).Start in
     let e = c.put_matches-edges.ensures in
-    omega (arith, edges-in s _ _ e.gates e.end, (fits₀ s).gates-to)
+    omega (arith, edges-in s _ _ e.gates e.end, (fits₀ s).gates_to)
 
 pub slice_bounds-put_gathers-end : goal.slice_bounds-put_gathers-end
 slice_bounds-put_gathers-end c = drawn-few (goal.at.slice_bounds-put_gathers-end c).Start
@@ -280,9 +280,9 @@ put_gathers-requires c =
     let g = c.put_gathers-gathers.ensures in
     let w = c.entries_from-words.ensures in record {
       fits = fits₃ s _ _ e.gates e.end _ c.put_edges.ensures _ n _ _ _ g.gates g.ends g.end;
-      literals_len_bound = (λ _. omega (arith, s.requires.outputs_len, (fits₀ s).outputs-to));
+      literals_len_bound = (λ _. omega (arith, s.requires.outputs_len, (fits₀ s).outputs_to));
       entries_bound = entries-in s _ _ e.gates e.end _ (outputs_at (b₀ s)) (p₅-is s _ _ e.gates e.end _ c.put_edges.ensures _ n _ _ _ g.gates g.ends g.end _ w) (outputs_stand (b₀ s) (head s));
-      literals_bound = outs-in s _ _ e.gates e.end _ c.put_edges.ensures _ n _ _ _ g.gates g.ends g.end _ w;
+      literals_bound = outs_in s _ _ e.gates e.end _ c.put_edges.ensures _ n _ _ _ g.gates g.ends g.end _ w;
     }
 
 pub returns : goal.returns

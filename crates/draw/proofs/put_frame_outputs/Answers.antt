@@ -7,20 +7,20 @@ use Prim.Native.Nat.{ℕ, ◌+◌, ◌≤◌, ◌<◌}
 use native.Mathlib.Omega.{arith}
 use lib.ListN.{length, get_or}
 use Rattle.circuit.specs.Lists.{grown, listed, bit}
-use Rattle.circuit.proofs.Lists.{listed-length}
+use Rattle.circuit.proofs.Lists.{listed_length}
 use Rattle.chains.specs.Chains.{gates_stored}
-use Rattle.chains.proofs.Stored.{gates-none, fits_still, each_more}
+use Rattle.chains.proofs.Stored.{gates_none, fits_still, each_more}
 use Rattle.draw.proofs.Outputs.{gate_by, gate_pair, gate_fits, gate_in}
 use Rattle.draw.proofs.put_frame_outputs.Goals as goal
 
 pub loop-j-init : goal.loop-j-init
 unfolding grown
 loop-j-init c =
-    (omega arith, sym (gates-none _ _ _))
+    (omega arith, sym (gates_none _ _ _))
 
 pub is_set-requires : goal.is_set-requires
 is_set-requires c =
-    omega (arith, c.loop-j-test.true, c.requires.fits.outputs-to)
+    omega (arith, c.loop-j-test.true, c.requires.fits.outputs_to)
 
 pub overflow_add-from : goal.overflow_add-from
 overflow_add-from c =
@@ -48,7 +48,7 @@ overflow_add-k c =
 pub put_gate-requires : goal.put_gate-requires
 put_gate-requires c =
     let within : c.args.k + length (listed [] ((gate_in c.args.connected c.args.from c.args.literals.now)) c.loop-j.j) ≤ c.args.target.gates =
-    omega (arith, listed-length ((gate_in c.args.connected c.args.from c.args.literals.now)) c.loop-j.j, c.loop-j.invariant.0, c.requires.outputs_bound)
+    omega (arith, listed_length ((gate_in c.args.connected c.args.from c.args.literals.now)) c.loop-j.j, c.loop-j.invariant.0, c.requires.outputs_bound)
     in
     let literal-below : get_or c.args.literals.now (c.args.from + c.loop-j.j) 0 < 65536 =
     omega (arith, c.type_inv.literals (c.args.from + c.loop-j.j))
@@ -65,7 +65,7 @@ put_gate-requires c =
 
 pub overflow_step-j : goal.overflow_step-j
 overflow_step-j c =
-    omega (arith, c.loop-j-test.true, c.requires.fits.outputs-to)
+    omega (arith, c.loop-j-test.true, c.requires.fits.outputs_to)
 
 pub loop-j-preserved : goal.loop-j-preserved
 loop-j-preserved c =

@@ -8,18 +8,18 @@ use native.Mathlib.Omega.{arith}
 use lib.ListN.{length}
 use Rattle.sizes.specs.Sizes.{outputs, frames}
 use Rattle.circuit.specs.Lists.{grown, listed}
-use Rattle.circuit.proofs.Lists.{listed-length}
+use Rattle.circuit.proofs.Lists.{listed_length}
 use Rattle.table.proofs.Offsets.{Laid, laid, head_length_lem}
 use Rattle.chains.specs.Chains.{gates_stored}
 use Rattle.chains.specs.declared.Target.{Target}
-use Rattle.chains.proofs.Stored.{gates-none, fits_still}
+use Rattle.chains.proofs.Stored.{gates_none, fits_still}
 use Rattle.draw.proofs.Outputs.{gate_of, frame_stored}
 use Rattle.draw.proofs.put_outputs.Goals as goal
 
 pub loop-t-init : goal.loop-t-init
 unfolding grown
 loop-t-init c =
-    (omega arith, sym (gates-none _ _ _) ∙ ap (λ (q : ℕ). gates_stored c.args.target.gates c.args.k c.args.res.now (listed [] (gate_of c.args.table.now c.args.literals.now) q)) (sym (mul-zero (outputs c.args.table.now))))
+    (omega arith, sym (gates_none _ _ _) ∙ ap (λ (q : ℕ). gates_stored c.args.target.gates c.args.k c.args.res.now (listed [] (gate_of c.args.table.now c.args.literals.now) q)) (sym (mul-zero (outputs c.args.table.now))))
 
 pub overflow_mul-from : goal.overflow_mul-from
 overflow_mul-from c =
@@ -47,7 +47,7 @@ connected_of-connected-requires c =
     in
     let L = layout_of in
     record {
-      last_value = (L.frames_is, L.frames-to, omega (arith, c.loop-t-test.true));
+      last_value = (L.frames_is, L.frames_to, omega (arith, c.loop-t-test.true));
       last_in_bounds = omega (arith, L.outputs-at, L.nexts-at, L.end_at, head_length_lem c.args.layout.frames);
     }
 
@@ -84,7 +84,7 @@ put_frame_outputs-requires c =
     let within : c.args.k + length (listed [] (gate_of ((c.args.table.now)) c.args.literals.now) (outputs ((c.args.table.now)) * c.loop-t.t)) ≤ c.args.target.gates =
     let m : ℕ = outputs ((c.args.table.now)) in
     let few : m * c.loop-t.t ≤ m * frames ((c.args.table.now)) = mul-le-mul_left m (omega (arith, c.loop-t.invariant.0, (layout_of).frames_is)) in
-    omega (arith, listed-length (gate_of ((c.args.table.now)) c.args.literals.now) (m * c.loop-t.t), few, c.requires.table_bound.0)
+    omega (arith, listed_length (gate_of ((c.args.table.now)) c.args.literals.now) (m * c.loop-t.t), few, c.requires.table_bound.0)
     in
     let early : c.loop-t.t < frames ((c.args.table.now)) =
     omega (arith, c.loop-t-test.true, (layout_of).frames_is)
@@ -102,7 +102,7 @@ overflow_step-t c =
     let layout_of : Laid ((c.args.table.now)) c.args.layout =
     laid ((c.args.table.now)) c.args.layout c.requires.sound.headed c.requires.layout_value
     in
-    omega (arith, c.loop-t-test.true, (layout_of).frames-to)
+    omega (arith, c.loop-t-test.true, (layout_of).frames_to)
 
 pub loop-t-preserved : goal.loop-t-preserved
 loop-t-preserved c =

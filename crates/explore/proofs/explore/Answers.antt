@@ -1,9 +1,9 @@
 use native.Mathlib.Omega.{arith}
-use Rattle.explore.proofs.Drive.{reached-first, reached_layer, underway, traceable, done_underway, reached_on, reached_nearer, reached_ends}
+use Rattle.explore.proofs.Drive.{reached_first, reached_layer, underway, traceable, done_underway, reached_on, reached_nearer, reached_ends}
 use Rattle.explore.proofs.explore.Goals as goal
 
 pub loop-cursor-init : goal.loop-cursor-init
-loop-cursor-init c = λ pre. reached-first c.args.layout c.args.nodes.now c.args.scratch.now c.args.work.now pre c.start-cursor.result c.start-cursor.ensures
+loop-cursor-init c = λ pre. reached_first c.args.layout c.args.nodes.now c.args.scratch.now c.args.work.now pre c.start-cursor.result c.start-cursor.ensures
 
 pub overflow_add-cursor : goal.overflow_add-cursor
 overflow_add-cursor c = record { fits = omega (arith, reached_layer c.args.layout c.args.nodes.now c.args.scratch.now c.args.work.now c.requires c.loop-cursor.scratch c.loop-cursor.work c.loop-cursor.cursor (c.loop-cursor.invariant c.requires)) }

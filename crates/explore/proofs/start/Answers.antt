@@ -1,19 +1,19 @@
 use mathlib.Core.Path.{sym, subst}
 use native.Mathlib.Omega.{arith}
 use Rattle.explore.specs.Explore.{Starts}
-use Rattle.explore.proofs.Layers.{frames-to}
+use Rattle.explore.proofs.Layers.{frames_to}
 use Rattle.explore.proofs.Begin.{first_groupable, start_holds}
 use Rattle.explore.proofs.start.Goals as goal
 
 -- src/lib.rt:79:5
 pub offset_bounds-counts-frames : goal.offset_bounds-counts-frames
 offset_bounds-counts-frames c =
-    omega (arith, frames-to c.args.layout c.requires)
+    omega (arith, frames_to c.args.layout c.requires)
 
 -- src/lib.rt:79:5
 pub bounds-counts-frames : goal.bounds-counts-frames
 bounds-counts-frames c =
-    omega (arith, frames-to c.args.layout c.requires)
+    omega (arith, frames_to c.args.layout c.requires)
 
 -- src/lib.rt:89:5
 pub at_group-requires : goal.at_group-requires

@@ -9,7 +9,7 @@ use lib.ListN.{length}
 use Rattle.unfolded.specs.Unfolded.{chain, inverted_edges}
 use Rattle.unfolded.proofs.Gates.{chain_length}
 use Rattle.chains.specs.Chains.{gates_stored}
-use Rattle.chains.proofs.Stored.{gates-none, fits_still, chain_more}
+use Rattle.chains.proofs.Stored.{gates_none, fits_still, chain_more}
 use Rattle.gathers.specs.Gathers.{chosen, gather_edges}
 use Rattle.gathers.proofs.Edges.{belongs, edge_taken, edge_passed, taken_length, edges_most, edge_room, all_edges}
 use Rattle.gathers.proofs.put_gather.Goals as goal
@@ -22,7 +22,7 @@ overflow_add-edges c =
 pub loop-e-init : goal.loop-e-init
 unfolding chain inverted_edges
 loop-e-init c =
-    (omega arith, omega arith, sym (gates-none _ _ _))
+    (omega arith, omega arith, sym (gates_none _ _ _))
 
 pub overflow_mul-e : goal.overflow_mul-e
 overflow_mul-e c =
@@ -48,7 +48,7 @@ chain_end-left-requires c =
     let within : c.args.k + length ((inverted_edges ((c.args.target.base + c.args.gathering.edges)) ((belongs c.args.gathering.key c.args.entries.now c.args.i))) c.loop-e.e) ≤ c.args.target.gates =
     omega (arith, all_fit, edges_most ((c.args.target.base + c.args.gathering.edges)) ((belongs c.args.gathering.key c.args.entries.now c.args.i)) _ _ c.loop-e.invariant.0)
     in
-    (c.requires.fits.base-to, omega (arith, c.loop-e.invariant.1), omega (arith, c.loop-e.invariant.1, within, c.requires.fits))
+    (c.requires.fits.base_to, omega (arith, c.loop-e.invariant.1), omega (arith, c.loop-e.invariant.1, within, c.requires.fits))
 
 pub overflow_add-edges-then-is_chosen : goal.overflow_add-edges-then-is_chosen
 overflow_add-edges-then-is_chosen c =

@@ -10,14 +10,14 @@ use Rattle.circuit.specs.Lists.{grown, listed}
 use Rattle.circuit.proofs.Laws.{fill_grown}
 use Rattle.unfolded.specs.Unfolded.{inverted, chains_from, ending}
 use Rattle.chains.specs.Chains.{gates_stored}
-use Rattle.chains.proofs.Stored.{gates-none, fits_still, chains_next, chains_longer, chains_room, chains_most, ending_is}
+use Rattle.chains.proofs.Stored.{gates_none, fits_still, chains_next, chains_longer, chains_room, chains_most, ending_is}
 use Rattle.gathers.specs.Gathers.{gather_edges}
 use Rattle.gathers.proofs.put_gathers.Goals as goal
 
 pub loop-i-init : goal.loop-i-init
 unfolding chains_from grown
 loop-i-init c =
-    (omega arith, omega arith, sym (gates-none _ _ _), refl, refl)
+    (omega arith, omega arith, sym (gates_none _ _ _), refl, refl)
 
 pub put_gather-next-requires : goal.put_gather-next-requires
 put_gather-next-requires c =
@@ -39,7 +39,7 @@ chain_end-requires c =
     let next : c.loop-i.end + length ((gather_edges c.args.target c.args.gathering c.args.entries.now) c.loop-i.i) ≤ c.args.target.gates =
     omega (arith, c.loop-i.invariant.1, chains_room ((c.args.target.base + c.args.k)) ((gather_edges c.args.target c.args.gathering c.args.entries.now)) c.loop-i.i (length c.args.literals.now) c.loop-i-test.true, c.requires.literals_bound)
     in
-    (c.requires.fits.base-to, omega (arith, c.put_gather-next.ensures.end), omega (arith, c.put_gather-next.ensures.end, next, c.requires.fits))
+    (c.requires.fits.base_to, omega (arith, c.put_gather-next.ensures.end), omega (arith, c.put_gather-next.ensures.end, next, c.requires.fits))
 
 pub invert-requires : goal.invert-requires
 invert-requires c =

@@ -6,8 +6,8 @@ use Prim.Native.Nat.{ℕ}
 use Rattle.lanes.specs.Limits.{lane_count}
 use Rattle.layered.specs.Search.{every}
 use Rattle.circuit.specs.Lists.{bit}
-use Rattle.circuit.proofs.Bits.{bit-none}
-use Rattle.lanes.proofs.Bits.{bit-ones}
+use Rattle.circuit.proofs.Bits.{bit_none}
+use Rattle.lanes.proofs.Bits.{bit_ones}
 use Rattle.lanes.proofs.Laws.{Counts, counting_bit, near_low, near_high}
 use Rattle.lanes.proofs.counting_lanes.Goals as goal
 
@@ -25,10 +25,10 @@ returns-then-place-lt-BITS c j h =
 
 pub returns-then-is_set : goal.returns-then-is_set
 returns-then-is_set c j h =
-    bit-ones lane_count j h
+    bit_ones lane_count j h
     ∙ sym (near_high c.args.at j c.args.place c.requires.0 h c.if-place-lt-BITS.false ∙ sym c.is_set.ensures ∙ c.if-is_set.true)
 
 pub returns-else-is_set : goal.returns-else-is_set
 returns-else-is_set c j h =
-    bit-none j
+    bit_none j
     ∙ sym (near_high c.args.at j c.args.place c.requires.0 h c.if-place-lt-BITS.false ∙ sym c.is_set.ensures ∙ c.if-is_set.false)

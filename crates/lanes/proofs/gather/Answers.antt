@@ -4,7 +4,7 @@ use mathlib.Core.Path.{refl}
 use native.Mathlib.Omega.{arith}
 use lib.ListN.{get_or, length-set}
 use Rattle.lanes.specs.Lanes.{NumberLanes}
-use Rattle.lanes.proofs.Laws.{places-more, gathered}
+use Rattle.lanes.proofs.Laws.{places_more, gathered}
 use Rattle.lanes.proofs.gather.Goals as goal
 
 pub loop-place-init : goal.loop-place-init
@@ -19,7 +19,7 @@ pub loop-place-preserved : goal.loop-place-preserved
 loop-place-preserved c = (
   omega arith,
   simp length-set c.loop-place.invariant.1,
-  places-more c.loop-place.numbers c.loop-place.place c.gathered_lanes.result (λ j. get_or c.args.histories.now j 0) (omega arith) c.loop-place.invariant.2
+  places_more c.loop-place.numbers c.loop-place.place c.gathered_lanes.result (λ j. get_or c.args.histories.now j 0) (omega arith) c.loop-place.invariant.2
       (λ j lj. gathered c.args.histories.now c.gathered_lanes.result c.loop-place.place j c.gathered_lanes.ensures),
 )
 

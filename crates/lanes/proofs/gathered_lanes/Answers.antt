@@ -8,7 +8,7 @@ use lib.Seq.{take_all}
 use Rattle.circuit.specs.Lists.{packed}
 use Rattle.circuit.proofs.Laws.{packed_below, packed_more}
 use Rattle.lanes.specs.Lanes.{lane}
-use Rattle.lanes.proofs.Laws.{lane-length, digit_is}
+use Rattle.lanes.proofs.Laws.{lane_length, digit_is}
 use Rattle.lanes.proofs.gathered_lanes.Goals as goal
 
 pub loop-j-init : goal.loop-j-init
@@ -38,10 +38,10 @@ loop-j-preserved c =
     let i = c.loop-j.j - 1 in (
       omega arith,
       packed_more (lane c.args.place c.args.histories.now) i c.loop-j.j (length c.args.histories.now - c.loop-j.j) (length c.args.histories.now - i) c.loop-j.lanes _
-          (omega (arith, lane-length c.args.histories.now c.args.place)) (omega arith) (omega arith) c.loop-j.invariant.1 (digit_is c.args.histories.now i c.args.place),
+          (omega (arith, lane_length c.args.histories.now c.args.place)) (omega arith) (omega arith) c.loop-j.invariant.1 (digit_is c.args.histories.now i c.args.place),
     )
 
 pub returns : goal.returns
 returns c =
     let z : c.loop-j.j ≡ 0 = omega arith in
-    c.loop-j.invariant.1 ∙ rw z (ap packed (take_all (length c.args.histories.now - 0) (lane c.args.place c.args.histories.now) (omega (arith, lane-length c.args.histories.now c.args.place))))
+    c.loop-j.invariant.1 ∙ rw z (ap packed (take_all (length c.args.histories.now - 0) (lane c.args.place c.args.histories.now) (omega (arith, lane_length c.args.histories.now c.args.place))))

@@ -4,14 +4,14 @@ use mathlib.Core.Path.{sym, ◌∙◌}
 use Prim.Native.Nat.{◌+◌, ◌*◌, ◌-◌, ◌<◌}
 use native.Mathlib.Omega.{arith}
 use lib.Arith.{digits_lt}
-use Rattle.circuit.proofs.Bits.{bit-none}
+use Rattle.circuit.proofs.Bits.{bit_none}
 use Rattle.lanes.specs.Lanes.{NumberLanes}
 use Rattle.lanes.proofs.Laws.{input_bit_lem, input_none}
 use Rattle.lanes.proofs.input_lanes.Goals as goal
 
 pub returns-then-t-frame : goal.returns-then-t-frame
 returns-then-t-frame c T h ht N j lj =
-    bit-none j ∙ sym (input_none c.args.inputs T c.args.t (h j) c.args.frame c.args.k c.requires.0 c.requires.1 ht (omega (arith, c.if-t-frame)))
+    bit_none j ∙ sym (input_none c.args.inputs T c.args.t (h j) c.args.frame c.args.k c.requires.0 c.requires.1 ht (omega (arith, c.if-t-frame)))
 
 pub returns : goal.returns
 unfolding NumberLanes

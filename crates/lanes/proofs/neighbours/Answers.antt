@@ -5,7 +5,7 @@ use Prim.Native.Nat.{◌+◌}
 use native.Mathlib.Omega.{arith}
 use lib.ListN.{length-set}
 use Rattle.lanes.specs.Lanes.{NumberLanes, picked}
-use Rattle.lanes.proofs.Laws.{places-more, picked-bit}
+use Rattle.lanes.proofs.Laws.{places_more, picked_bit}
 use Rattle.lanes.proofs.neighbours.Goals as goal
 
 pub loop-place-init : goal.loop-place-init
@@ -20,8 +20,8 @@ pub loop-place-preserved : goal.loop-place-preserved
 loop-place-preserved c = (
   omega arith,
   simp length-set c.loop-place.invariant.1,
-  places-more c.loop-place.numbers c.loop-place.place c.counting_lanes.result (λ j. picked c.args.bits.now (c.args.at + j)) (omega arith) c.loop-place.invariant.2
-      (λ j h. c.counting_lanes.ensures j h ∙ sym (picked-bit c.args.bits.now (c.args.at + j) c.loop-place.place (omega arith))),
+  places_more c.loop-place.numbers c.loop-place.place c.counting_lanes.result (λ j. picked c.args.bits.now (c.args.at + j)) (omega arith) c.loop-place.invariant.2
+      (λ j h. c.counting_lanes.ensures j h ∙ sym (picked_bit c.args.bits.now (c.args.at + j) c.loop-place.place (omega arith))),
 )
 
 pub returns : goal.returns

@@ -7,7 +7,7 @@ use lib.ListN.{take, drop, length-take}
 use Rattle.circuit.specs.Lists.{packed}
 use Rattle.circuit.proofs.Laws.{packed_below, packed_more}
 use Rattle.lanes.specs.Lanes.{lane}
-use Rattle.lanes.proofs.Laws.{lane-length, digit_is}
+use Rattle.lanes.proofs.Laws.{lane_length, digit_is}
 use Rattle.lanes.proofs.pack_lane.Goals as goal
 
 pub loop-k-init : goal.loop-k-init
@@ -37,7 +37,7 @@ loop-k-preserved c =
     let i = c.args.at + (c.loop-k.k - 1) in (
       omega arith,
       packed_more (lane c.args.j c.args.lanes.now) i (c.args.at + c.loop-k.k) (c.args.count - c.loop-k.k) (c.args.count - (c.loop-k.k - 1)) c.loop-k.word _
-          (omega (arith, lane-length c.args.lanes.now c.args.j)) (omega arith) (omega arith) c.loop-k.invariant.1 (digit_is c.args.lanes.now i c.args.j),
+          (omega (arith, lane_length c.args.lanes.now c.args.j)) (omega arith) (omega arith) c.loop-k.invariant.1 (digit_is c.args.lanes.now i c.args.j),
     )
 
 pub returns : goal.returns

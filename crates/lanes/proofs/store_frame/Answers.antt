@@ -9,7 +9,7 @@ use lib.Seq.{get_or-set_other}
 use Rattle.sizes.specs.Limits.{most_bits}
 use Rattle.circuit.proofs.Frames.{ends}
 use Rattle.lanes.specs.Lanes.{InputLanes}
-use Rattle.lanes.proofs.Laws.{inputs-more, lower, settled_input}
+use Rattle.lanes.proofs.Laws.{inputs_more, lower, settled_input}
 use Rattle.lanes.proofs.store_frame.Goals as goal
 
 pub loop-k-init : goal.loop-k-init
@@ -44,7 +44,7 @@ loop-k-preserved c =
       length-set c.loop-k.lanes s c.input_lanes-after.result ∙ c.loop-k.invariant.1,
       get_or-set_other c.loop-k.lanes s 0 c.input_lanes-after.result 0 (λ e. omega arith) ∙ c.loop-k.invariant.2,
       lower (get_or c.loop-k.lanes s 0) c.input_lanes-after.result c.loop-k.least (get_or c.args.firsts.now s 0) c.restart-least.ensures c.loop-k.invariant.3,
-      λ T h ht N L. inputs-more c.args.inputs T c.args.t h c.loop-k.lanes s c.args.frame c.loop-k.k c.input_lanes-after.result (omega arith) (omega (arith, c)) room (c.loop-k.invariant.4 T h ht N L) (c.input_lanes-after.ensures T h ht N),
+      λ T h ht N L. inputs_more c.args.inputs T c.args.t h c.loop-k.lanes s c.args.frame c.loop-k.k c.input_lanes-after.result (omega arith) (omega (arith, c)) room (c.loop-k.invariant.4 T h ht N L) (c.input_lanes-after.ensures T h ht N),
       λ b e F S. settled_input b c.loop-k.lanes c.args.firsts.now c.loop-k.least s c.input_lanes-after.result c.restart-least.result (omega (arith, few)) F c.restart-least.ensures (c.loop-k.invariant.5 b e F S),
     )
 

@@ -13,7 +13,7 @@ use Rattle.circuit.specs.Circuit.{gates}
 use Rattle.circuit.specs.WellFormed.{WellFormed}
 use Rattle.circuit.proofs.Frames.{next_from, inputs_are}
 use Rattle.lanes.specs.Lanes.{NumberLanes, InputLanes, Settled, Ready}
-use Rattle.lanes.proofs.Laws.{inputs-none, inputs_framed, settled_used, settled_none}
+use Rattle.lanes.proofs.Laws.{inputs_none, inputs_framed, settled_used, settled_none}
 use Rattle.lanes.proofs.store_inputs.Goals as goal
 use Rattle.lanes.proofs.store_inputs.Goals.{then-lanes-eq0, else-lanes-eq0}
 
@@ -30,7 +30,7 @@ loop-f-init c = (
   refl,
   get_or-set_same c.args.lanes.now 0 0 0 (omega (arith, c.requires)),
   omega arith,
-  λ T h ht N. subst (λ i. InputLanes c.args.head.inputs T c.args.t h i (set c.args.lanes.now 0 0)) (sym (zero-mul c.args.head.inputs)) (inputs-none c.args.head.inputs T c.args.t h c.args.lanes.now (omega (arith, c.requires))),
+  λ T h ht N. subst (λ i. InputLanes c.args.head.inputs T c.args.t h i (set c.args.lanes.now 0 0)) (sym (zero-mul c.args.head.inputs)) (inputs_none c.args.head.inputs T c.args.t h c.args.lanes.now (omega (arith, c.requires))),
   λ b e F S. S,
 )
 

@@ -11,16 +11,16 @@ use Rattle.circuit.proofs.Laws.{signals_fit}
 use Rattle.circuit.proofs.Frames.{inputs_are}
 use Rattle.lanes.specs.Limits.{lane_count}
 use Rattle.lanes.specs.Lanes.{Settled}
-use Rattle.lanes.proofs.Laws.{inputs-stored, inputs_kept, settled_more, settled_signals}
+use Rattle.lanes.proofs.Laws.{inputs_stored, inputs_kept, settled_more, settled_signals}
 use Rattle.lanes.proofs.store_signals.Goals as goal
 
 pub store_inputs-start-requires : goal.store_inputs-start-requires
 store_inputs-start-requires c =
-    let inputs-to : c.args.head.frames * c.args.head.inputs ≡ all_inputs c.args.circuit.now =
+    let inputs_to : c.args.head.frames * c.args.head.inputs ≡ all_inputs c.args.circuit.now =
     inputs_are c.args.circuit.now c.args.head.inputs c.args.head.frames c.requires.well_formed.head_is.inputs_is c.requires.well_formed.head_is.frames_is
     in
     record {
-      le_inputs = (omega (arith, c.requires), omega (arith, c.requires, inputs-to), omega (arith, c.requires));
+      le_inputs = (omega (arith, c.requires), omega (arith, c.requires, inputs_to), omega (arith, c.requires));
       most_bits_in_bounds = (omega (arith, c.requires), omega (arith, c.requires), omega (arith, c.requires));
     }
 
@@ -30,7 +30,7 @@ loop-g-init c = (
   omega (arith, c.store_inputs-start.auto.lanes, c.requires),
   refl,
   c.store_inputs-start.ensures.start.1,
-  λ hs N. inputs-stored c.args.circuit.now c.args.t hs c.store_inputs-start.new.lanes c.args.head.inputs c.args.head.frames c.args.head.base c.requires.well_formed.head_is.inputs_is c.requires.well_formed.head_is.frames_is c.requires.well_formed.head_is.base_is (c.store_inputs-start.ensures.inputs hs N),
+  λ hs N. inputs_stored c.args.circuit.now c.args.t hs c.store_inputs-start.new.lanes c.args.head.inputs c.args.head.frames c.args.head.base c.requires.well_formed.head_is.inputs_is c.requires.well_formed.head_is.frames_is c.requires.well_formed.head_is.base_is (c.store_inputs-start.ensures.inputs hs N),
   c.store_inputs-start.ensures.settled c.args.circuit.now c.requires.well_formed c.requires.first_uses.0 c.requires.first_uses.1,
 )
 

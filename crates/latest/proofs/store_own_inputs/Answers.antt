@@ -11,7 +11,7 @@ use Rattle.circuit.specs.declared.Head.{Head}
 use Rattle.circuit.proofs.Frames.{inputs_are, not_after_first}
 use Rattle.source.specs.Source.{head_of, sourced, Spreads}
 use Rattle.source.proofs.Sources.{well, is_whole, is_spread}
-use Rattle.latest.proofs.Laws.{own_inputs_whole, placed-none, placed-more, placed-all}
+use Rattle.latest.proofs.Laws.{own_inputs_whole, placed_none, placed_more, placed_all}
 use Rattle.latest.proofs.store_own_inputs.Goals as goal
 
 -- ---- a circuit as it stands
@@ -40,7 +40,7 @@ returns-then-source c =
 -- ---- a network
 pub loop-i-init : goal.loop-i-init
 loop-i-init c =
-    (omega arith, refl, placed-none c.args.source c.args.latest.now (omega (arith, c.requires.most_signals_in_bounds)))
+    (omega arith, refl, placed_none c.args.source c.args.latest.now (omega (arith, c.requires.most_signals_in_bounds)))
 
 pub output_frame-requires : goal.output_frame-requires
 output_frame-requires c =
@@ -51,7 +51,7 @@ output_frame-requires c =
     spreads c.if-source.false
     in
     let inside : get_or c.args.source.places c.loop-i.i 0 < 16 =
-    let P = of-turn in omega (arith, P.places_in c.loop-i.i (omega (arith, c.loop-i-test.true, P.network.head_is.base_is)), P.sizes.bits-to)
+    let P = of-turn in omega (arith, P.places_in c.loop-i.i (omega (arith, c.loop-i-test.true, P.network.head_is.base_is)), P.sizes.bits_to)
     in
     record {
       le_outputs = omega (arith, of-turn.sizes, inside);
@@ -67,14 +67,14 @@ loop-i-preserved c =
     spreads c.if-source.false
     in
     let few : c.loop-i.i < 16 =
-    let P = of-turn in omega (arith, c.loop-i-test.true, P.network.head_is.base_is, P.network.headed.inputs-to)
+    let P = of-turn in omega (arith, c.loop-i-test.true, P.network.head_is.base_is, P.network.headed.inputs_to)
     in
     let room : 1 + c.loop-i.i < length c.loop-i.latest =
     omega (arith, few, c.loop-i.invariant.1, length-set c.args.latest.now 0 0, c.requires.most_signals_in_bounds)
     in (
       omega (arith, c.loop-i-test.true),
       length-set c.loop-i.latest (1 + c.loop-i.i) c.output_frame.result ∙ c.loop-i.invariant.1,
-      placed-more c.args.source c.loop-i.latest c.loop-i.i c.output_frame.result room c.loop-i.invariant.2 c.output_frame.ensures.frame,
+      placed_more c.args.source c.loop-i.latest c.loop-i.i c.output_frame.result room c.loop-i.invariant.2 c.output_frame.ensures.frame,
     )
 
 pub returns : goal.returns
@@ -82,4 +82,4 @@ returns c =
     let spreads : c.args.source.whole ≡ false → Spreads c.requires.by_index.0 c.args.source =
     λ e. is_spread _ _ c.requires.by_index.1 e
     in
-    placed-all c.args.source c.loop-i.latest c.loop-i.i c.if-source.false (omega (arith, c.loop-i-test.false, c.loop-i.invariant.0, (spreads c.if-source.false).network.head_is.base_is)) c.loop-i.invariant.2
+    placed_all c.args.source c.loop-i.latest c.loop-i.i c.if-source.false (omega (arith, c.loop-i-test.false, c.loop-i.invariant.0, (spreads c.if-source.false).network.head_is.base_is)) c.loop-i.invariant.2

@@ -10,7 +10,7 @@ use Rattle.circuit.specs.WellFormed.{WellFormed}
 use Rattle.circuit.proofs.Laws.{signals_all}
 use Rattle.source.proofs.Sources.{own_well}
 use Rattle.latest.specs.Latest.{later_frame, own_frames}
-use Rattle.latest.proofs.Laws.{latest-none, latest-more}
+use Rattle.latest.proofs.Laws.{latest_none, latest_more}
 use Rattle.latest.proofs.store_signals.Goals as goal
 
 pub store_own_inputs-requires : goal.store_own_inputs-requires
@@ -22,7 +22,7 @@ store_own_inputs-requires c =
 
 pub loop-g-init : goal.loop-g-init
 loop-g-init c =
-    (omega arith, omega (arith, c.store_own_inputs.auto.latest, c.requires.most_signals_in_bounds), refl, latest-none c.args.circuit.now c.store_own_inputs.new.latest c.args.source.own.base)
+    (omega arith, omega (arith, c.store_own_inputs.auto.latest, c.requires.most_signals_in_bounds), refl, latest_none c.args.circuit.now c.store_own_inputs.new.latest c.args.source.own.base)
 
 pub loop-g-preserved : goal.loop-g-preserved
 loop-g-preserved c =
@@ -33,7 +33,7 @@ loop-g-preserved c =
     omega (arith, c, known)
     in
     let left_in : c.read_gate-gate.result.left / 2 < c.args.source.own.base + c.loop-g.g =
-    omega (arith, c.read_gate-gate.ensures.left-before, known)
+    omega (arith, c.read_gate-gate.ensures.left_before, known)
     in
     let right_in : c.read_gate-gate.result.right / 2 < c.args.source.own.base + c.loop-g.g =
     omega (arith, c.read_gate-gate.ensures.right_before, known)
@@ -44,7 +44,7 @@ loop-g-preserved c =
       simp length-set c.loop-g.invariant.1,
       length-set c.loop-g.latest n c.later.result ∙ c.loop-g.invariant.2,
       ap (λ (x : ℕ). take (c.args.source.own.base + (c.loop-g.g + 1)) (set c.loop-g.latest n x)) c.later.ensures
-          ∙ latest-more _ c.args.circuit.now c.loop-g.latest c.loop-g.g n c.read_gate-gate.result.left c.read_gate-gate.result.right room c.loop-g.invariant.3
+          ∙ latest_more _ c.args.circuit.now c.loop-g.latest c.loop-g.g n c.read_gate-gate.result.left c.read_gate-gate.result.right room c.loop-g.invariant.3
           c.read_gate-gate.ensures.left_is c.read_gate-gate.ensures.right_is left_in right_in (c.args.source.own.base + (c.loop-g.g + 1)) (omega arith),
     )
 

@@ -7,7 +7,7 @@ use lib.ListN.{length, length-replicate}
 use Rattle.table.proofs.Offsets.{laid}
 use Rattle.trial.specs.Tried.{Held}
 use Rattle.trial.proofs.Places.{few_entries}
-use Rattle.merge.proofs.Finding.{sought_of, Fewer, held, fewer_none, fewer_more, found-fewest, none-fewest}
+use Rattle.merge.proofs.Finding.{sought_of, Fewer, held, fewer_none, fewer_more, found_fewest, none_fewest}
 use Rattle.merge.proofs.fewest_states.Goals as goal
 
 pub loop-k-init : goal.loop-k-init
@@ -57,7 +57,7 @@ digits-nexts-requires c =
 
 pub returns-then-found-power : goal.returns-then-found-power
 returns-then-found-power c =
-    found-fewest _ c.requires.sound.0 _ c.requires.sound.1 _ _ c.search-found.result.ones (c.loop-k.invariant.1 c.requires.sound.0 c.requires.sound.1) c.search-found.ensures.searched _ (omega arith)
+    found_fewest _ c.requires.sound.0 _ c.requires.sound.1 _ _ c.search-found.result.ones (c.loop-k.invariant.1 c.requires.sound.0 c.requires.sound.1) c.search-found.ensures.searched _ (omega arith)
     (omega (arith, c.power.ensures.0, c.if-found-power.true)) refl refl c.digits-nexts.ensures.digits c.search-found.ensures.long c.digits-nexts.ensures.long
 
 pub loop-k-preserved : goal.loop-k-preserved
@@ -69,4 +69,4 @@ loop-k-preserved c =
 
 pub returns : goal.returns
 returns c =
-    none-fewest _ c.requires.sound.0 _ c.requires.sound.1 _ (subst (Fewer _ c.requires.sound.0 _ c.requires.sound.1) (omega arith) (c.loop-k.invariant.1 c.requires.sound.0 c.requires.sound.1)) refl (ap length c.nothing-outs.ensures ∙ length-replicate {A = ℕ} 12 0) (ap length c.nothing-nexts.ensures ∙ length-replicate {A = ℕ} 12 0)
+    none_fewest _ c.requires.sound.0 _ c.requires.sound.1 _ (subst (Fewer _ c.requires.sound.0 _ c.requires.sound.1) (omega arith) (c.loop-k.invariant.1 c.requires.sound.0 c.requires.sound.1)) refl (ap length c.nothing-outs.ensures ∙ length-replicate {A = ℕ} 12 0) (ap length c.nothing-nexts.ensures ∙ length-replicate {A = ℕ} 12 0)

@@ -22,7 +22,7 @@ offset_bounds-starts-t c =
     let inside : c.loop-t.t < frames c.args.table.now =
     omega (arith, (stands).frames_is)
     in
-    omega (arith, inside, c.requires.0.sized.frames-to)
+    omega (arith, inside, c.requires.0.sized.frames_to)
 
 pub bounds-starts-t : goal.bounds-starts-t
 bounds-starts-t c =
@@ -32,7 +32,7 @@ bounds-starts-t c =
     let inside : c.loop-t.t < frames c.args.table.now =
     omega (arith, (stands).frames_is)
     in
-    omega (arith, inside, c.requires.0.sized.frames-to)
+    omega (arith, inside, c.requires.0.sized.frames_to)
 
 pub states_of-requires : goal.states_of-requires
 states_of-requires c =
@@ -91,7 +91,7 @@ overflow_step-t c =
     let inside : c.loop-t.t < frames c.args.table.now =
     omega (arith, (stands).frames_is)
     in
-    omega (arith, inside, c.requires.0.sized.frames-to)
+    omega (arith, inside, c.requires.0.sized.frames_to)
 
 pub loop-t-preserved : goal.loop-t-preserved
 loop-t-preserved c =
@@ -106,4 +106,4 @@ loop-t-preserved c =
 pub returns : goal.returns
 returns c =
     let f = (laid _ _ c.requires.0 c.requires.1).frames_is in
-    record { starts = record { long = omega (arith, c.loop-t.invariant.long, c.requires.0.sized.frames-to); are = λ t h. c.loop-t.invariant.are t (omega (arith, f)) } }
+    record { starts = record { long = omega (arith, c.loop-t.invariant.long, c.requires.0.sized.frames_to); are = λ t h. c.loop-t.invariant.are t (omega (arith, f)) } }

@@ -17,7 +17,7 @@ use Rattle.merged.specs.Merged.{entries_of, first_machine}
 use Rattle.merge.specs.Merge.{target, merge_bytes}
 use Rattle.merge.specs.Found.{FewestOf}
 use Rattle.merge.specs.declared.Fewest.{Fewest}
-use Rattle.merge.proofs.Bytes.{bytes-length, words-found, words_left}
+use Rattle.merge.proofs.Bytes.{bytes_length, words_found, words_left}
 use Rattle.merge.proofs.Outcomes.{narrow_few, narrow_refused, table_refused, unmatched, short, accepted}
 use Rattle.merge.proofs.merge.Goals as goal
 use Rattle.merge.proofs.merge.Goals.{In-Accepted-judged}
@@ -52,7 +52,7 @@ module _ (t : In-Accepted-judged) (layout : Layout) (el : layout ≡ layout_of t
 
     bytes_are : 6 + 4 * (F.states * layout.words) ≡ length (merge_bytes t.args.table.now)
     unfolding merge_bytes
-    bytes_are = omega (arith, entries_are, ap (entries_of (target t.args.table.now)) known.states_are, bytes-length t.args.table.now (first_machine (target t.args.table.now)))
+    bytes_are = omega (arith, entries_are, ap (entries_of (target t.args.table.now)) known.states_are, bytes_length t.args.table.now (first_machine (target t.args.table.now)))
 
 -- ---- the answers
 
@@ -119,7 +119,7 @@ write_machine-requires c =
     let F = c.fewest_states-fewest.ensures in
     let few = few_entries t _ c.read-layout.ensures _ F c.if-states-gt-STATES.false in
     let Z = (legal t).headed.sized in record {
-      inputs_bound = (omega (arith, ap (λ (s : Sizes). s.inputs) c.read-sizes.ensures, Z.inputs-to), omega (arith, ap (λ (s : Sizes). s.outputs) c.read-sizes.ensures, Z.outputs-to), omega (arith, few));
+      inputs_bound = (omega (arith, ap (λ (s : Sizes). s.inputs) c.read-sizes.ensures, Z.inputs_to), omega (arith, ap (λ (s : Sizes). s.outputs) c.read-sizes.ensures, Z.outputs_to), omega (arith, few));
       outs_len = (F.outs_long, F.nexts_long, few.1, omega (arith, c.if-res-bytes.false));
     }
 
@@ -132,5 +132,5 @@ returns c =
     let p =
     accepted c.args.table.now c.args.res.now c.check_narrow-narrow.result _ c.check_narrow-narrow.ensures c.in-Accepted.is c.check-judged.result _ c.check-judged.ensures.verdict c.in-Accepted-judged.is
     (omega (arith, few, F.states_are)) _ bytes _ (omega (arith, c.if-res-bytes.false))
-    (words_left c.args.table.now _ _ _ _ c.write_machine.ensures (words-found c.args.table.now c.fewest_states-fewest.result F few.0 _ _ c.read-sizes.ensures (entries_are t _ c.read-layout.ensures _ F) few.1) bytes) in
+    (words_left c.args.table.now _ _ _ _ c.write_machine.ensures (words_found c.args.table.now c.fewest_states-fewest.result F few.0 _ _ c.read-sizes.ensures (entries_are t _ c.read-layout.ensures _ F) few.1) bytes) in
     record { verdict = p.0; res = p.1.0; merges = p.1.1.0; alike = p.1.1.1 }

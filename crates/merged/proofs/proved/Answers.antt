@@ -4,7 +4,7 @@ use Rattle.merged.proofs.Demands.{by_demands}
 use Rattle.merged.proofs.Numbers.{in_order_all}
 use Rattle.merged.proofs.Matching.{tested}
 use Rattle.merged.proofs.Undecided.{undecided_zero}
-use Rattle.merged.proofs.Chosen.{first_is_chosen, none_exactly, only, same-machine, first_found, none_found}
+use Rattle.merged.proofs.Chosen.{first_is_chosen, none_exactly, only, same_machine, first_found, none_found}
 use Rattle.merged.proofs.proved.Goals as goal
 
 pub returns : goal.returns
@@ -15,7 +15,7 @@ returns c =
       none = none_exactly;
       only = only;
       undecided = undecided_zero;
-      alike = same-machine;
+      alike = same_machine;
       demands = by_demands;
       order = in_order_all;
       found = first_found;

@@ -7,13 +7,13 @@ use native.Mathlib.Nat.{suc-mul}
 use native.Mathlib.Omega.{arith}
 use lib.ListN.{length}
 use Rattle.words.specs.Words.{word_at, number_at, stored, Held}
-use Rattle.words.proofs.Laws.{stored-length}
+use Rattle.words.proofs.Laws.{stored_length}
 use Rattle.sizes.specs.Sizes.{inputs}
 use Rattle.table.specs.Table.{nexts_at, entry_at, machine}
 use Rattle.paths.specs.Paths.{histories, smallest}
 use Rattle.paths.specs.Places.{reach_head, histories_at, gap}
 use Rattle.paths.specs.Progress.{so_far, added}
-use Rattle.paths.proofs.Places.{LayerIs, layer_is, state_at, next-at, next_inside}
+use Rattle.paths.proofs.Places.{LayerIs, layer_is, state_at, next_at, next_inside}
 use Rattle.paths.proofs.Numbers.{words_some, so_far_length, histories_in, sum_fits, entry_added, smallest_in}
 use Rattle.paths.proofs.follow_words.Goals as goal
 
@@ -26,7 +26,7 @@ overflow_add-nexts c =
     ap (λ (k : ℕ). c.args.s * k) layer.words_is
     in
     let next_place : (w : ℕ) → c.args.layer.nexts + 2 * (c.args.s * c.args.layer.words) + 2 * w ≡ entry_at c.args.table.now (nexts_at c.args.table.now) c.args.layer.layer c.args.s w =
-    λ w. omega (arith, layer.nexts_is, row, next-at c.args.table.now c.args.layer.layer c.args.s w)
+    λ w. omega (arith, layer.nexts_is, row, next_at c.args.table.now c.args.layer.layer c.args.s w)
     in
     let next-there : (w : ℕ) → w < c.args.layer.words → c.args.layer.nexts + 2 * (c.args.s * c.args.layer.words) + 2 * w + 2 ≤ length c.args.table.now =
     λ w h. omega (arith, next_place w, next_inside c.args.table.now c.args.layer.layer c.args.s w c.requires.following.sound.headed c.requires.layer_bound.0 c.requires.layer_bound.2 (omega (arith, layer.words_is)))
@@ -70,7 +70,7 @@ overflow_add-nexts-in-loop-w c =
     ap (λ (k : ℕ). c.args.s * k) layer.words_is
     in
     let next_place : (w : ℕ) → c.args.layer.nexts + 2 * (c.args.s * c.args.layer.words) + 2 * w ≡ entry_at c.args.table.now (nexts_at c.args.table.now) c.args.layer.layer c.args.s w =
-    λ w. omega (arith, layer.nexts_is, row, next-at c.args.table.now c.args.layer.layer c.args.s w)
+    λ w. omega (arith, layer.nexts_is, row, next_at c.args.table.now c.args.layer.layer c.args.s w)
     in
     let next-there : (w : ℕ) → w < c.args.layer.words → c.args.layer.nexts + 2 * (c.args.s * c.args.layer.words) + 2 * w + 2 ≤ length c.args.table.now =
     λ w h. omega (arith, next_place w, next_inside c.args.table.now c.args.layer.layer c.args.s w c.requires.following.sound.headed c.requires.layer_bound.0 c.requires.layer_bound.2 (omega (arith, layer.words_is)))
@@ -86,7 +86,7 @@ read-next-requires c =
     ap (λ (k : ℕ). c.args.s * k) layer.words_is
     in
     let next_place : (w : ℕ) → c.args.layer.nexts + 2 * (c.args.s * c.args.layer.words) + 2 * w ≡ entry_at c.args.table.now (nexts_at c.args.table.now) c.args.layer.layer c.args.s w =
-    λ w. omega (arith, layer.nexts_is, row, next-at c.args.table.now c.args.layer.layer c.args.s w)
+    λ w. omega (arith, layer.nexts_is, row, next_at c.args.table.now c.args.layer.layer c.args.s w)
     in
     let next-there : (w : ℕ) → w < c.args.layer.words → c.args.layer.nexts + 2 * (c.args.s * c.args.layer.words) + 2 * w + 2 ≤ length c.args.table.now =
     λ w h. omega (arith, next_place w, next_inside c.args.table.now c.args.layer.layer c.args.s w c.requires.following.sound.headed c.requires.layer_bound.0 c.requires.layer_bound.2 (omega (arith, layer.words_is)))
@@ -102,7 +102,7 @@ overflow_add-layer c =
     ap (λ (k : ℕ). c.args.s * k) layer.words_is
     in
     let next_place : (w : ℕ) → c.args.layer.nexts + 2 * (c.args.s * c.args.layer.words) + 2 * w ≡ entry_at c.args.table.now (nexts_at c.args.table.now) c.args.layer.layer c.args.s w =
-    λ w. omega (arith, layer.nexts_is, row, next-at c.args.table.now c.args.layer.layer c.args.s w)
+    λ w. omega (arith, layer.nexts_is, row, next_at c.args.table.now c.args.layer.layer c.args.s w)
     in
     let word_is : c.loop-w.w < (2 ^ inputs c.args.table.now) =
     omega (arith, c.loop-w-test.true, layer.words_is)
@@ -144,7 +144,7 @@ add_histories-requires c =
     ap (λ (k : ℕ). c.args.s * k) layer.words_is
     in
     let next_place : (w : ℕ) → c.args.layer.nexts + 2 * (c.args.s * c.args.layer.words) + 2 * w ≡ entry_at c.args.table.now (nexts_at c.args.table.now) c.args.layer.layer c.args.s w =
-    λ w. omega (arith, layer.nexts_is, row, next-at c.args.table.now c.args.layer.layer c.args.s w)
+    λ w. omega (arith, layer.nexts_is, row, next_at c.args.table.now c.args.layer.layer c.args.s w)
     in
     let reached : 0 < histories (2 ^ inputs c.args.table.now) (machine c.args.table.now) c.args.layer.layer c.args.s =
     omega (arith, c.requires.count_nonzero)
@@ -157,7 +157,7 @@ add_histories-requires c =
     in
     let len : length c.loop-w.res ≡ length c.args.res.now =
     let e : ℕ = c.args.s * (2 ^ inputs c.args.table.now) + c.loop-w.w in
-    ap length c.loop-w.invariant.1 ∙ stored-length 4 _ (reach_head c.args.table.now) (so_far c.args.table.now c.args.layer.layer e) (omega (arith, c.requires.following.room, so_far_length c.args.table.now c.requires.following.sound c.args.layer.layer e))
+    ap length c.loop-w.invariant.1 ∙ stored_length 4 _ (reach_head c.args.table.now) (so_far c.args.table.now c.args.layer.layer e) (omega (arith, c.requires.following.room, so_far_length c.args.table.now c.requires.following.sound c.args.layer.layer e))
     in
     let word_is : c.loop-w.w < (2 ^ inputs c.args.table.now) =
     omega (arith, c.loop-w-test.true, layer.words_is)
@@ -186,7 +186,7 @@ loop-w-preserved c =
     ap (λ (k : ℕ). c.args.s * k) layer.words_is
     in
     let next_place : (w : ℕ) → c.args.layer.nexts + 2 * (c.args.s * c.args.layer.words) + 2 * w ≡ entry_at c.args.table.now (nexts_at c.args.table.now) c.args.layer.layer c.args.s w =
-    λ w. omega (arith, layer.nexts_is, row, next-at c.args.table.now c.args.layer.layer c.args.s w)
+    λ w. omega (arith, layer.nexts_is, row, next_at c.args.table.now c.args.layer.layer c.args.s w)
     in
     let reached : 0 < histories (2 ^ inputs c.args.table.now) (machine c.args.table.now) c.args.layer.layer c.args.s =
     omega (arith, c.requires.count_nonzero)

@@ -5,21 +5,21 @@ use Prim.Native.Nat.{ℕ}
 use native.Mathlib.Omega.{arith}
 use lib.ListN.{length}
 use Rattle.words.specs.Words.{stored}
-use Rattle.words.proofs.Laws.{stored-none, stored-length}
+use Rattle.words.proofs.Laws.{stored_none, stored_length}
 use Rattle.layered.specs.Search.{join, tabulate}
-use Rattle.layered.proofs.Lists.{tabulate-length}
+use Rattle.layered.proofs.Lists.{tabulate_length}
 use Rattle.reach.proofs.Stored.{tabulated_more}
 use Rattle.reach.proofs.clear.Goals as goal
 
 pub loop-i-init : goal.loop-i-init
 unfolding join tabulate
 loop-i-init c =
-    (omega arith, sym (stored-none 4 _ _))
+    (omega arith, sym (stored_none 4 _ _))
 
 pub store32-requires : goal.store32-requires
 store32-requires c =
     let len : length c.loop-i.res ≡ length c.args.res.now =
-    ap length c.loop-i.invariant.1 ∙ stored-length 4 _ _ (tabulate c.loop-i.i (λ _. 0)) (omega (arith, c.requires, c.loop-i.invariant.0, tabulate-length c.loop-i.i (λ _. 0)))
+    ap length c.loop-i.invariant.1 ∙ stored_length 4 _ _ (tabulate c.loop-i.i (λ _. 0)) (omega (arith, c.requires, c.loop-i.invariant.0, tabulate_length c.loop-i.i (λ _. 0)))
     in
     omega (arith, c.requires, len)
 

@@ -14,7 +14,7 @@ use Rattle.table.proofs.Offsets.{Laid, laid}
 use Rattle.reach.specs.Reach.{reach_bytes, room_checked, reach_checked}
 use Rattle.paths.specs.Places.{all_states}
 use Rattle.paths.proofs.Places.{head_is}
-use Rattle.reach.proofs.Bytes.{bytes-length}
+use Rattle.reach.proofs.Bytes.{bytes_length}
 use Rattle.reach.proofs.Outcomes.{room_enough, table_answer, room_answer, refused, accepted}
 use Rattle.reach.proofs.reach.Goals as goal
 
@@ -38,7 +38,7 @@ overflow_add-layout c =
     let layout : Laid c.args.table.now c.read-layout.result =
     laid c.args.table.now c.read-layout.result legal.headed c.read-layout.ensures
     in
-    omega (arith, layout.frames-to)
+    omega (arith, layout.frames_to)
 
 pub states_below-states-requires : goal.states_below-states-requires
 states_below-states-requires c =
@@ -48,7 +48,7 @@ states_below-states-requires c =
     let layout : Laid c.args.table.now c.read-layout.result =
     laid c.args.table.now c.read-layout.result legal.headed c.read-layout.ensures
     in
-    let l = layout in (omega (arith, l.frames-to), omega (arith, l.end_at, l.nexts-at, l.outputs-at))
+    let l = layout in (omega (arith, l.frames_to), omega (arith, l.end_at, l.nexts-at, l.outputs-at))
 
 pub head_bytes-requires : goal.head_bytes-requires
 head_bytes-requires c =
@@ -58,7 +58,7 @@ head_bytes-requires c =
     let layout : Laid c.args.table.now c.read-layout.result =
     laid c.args.table.now c.read-layout.result legal.headed c.read-layout.ensures
     in
-    layout.frames-to
+    layout.frames_to
 
 pub overflow_mul-bytes : goal.overflow_mul-bytes
 overflow_mul-bytes c =
@@ -69,7 +69,7 @@ overflow_mul-bytes c =
     laid c.args.table.now c.read-layout.result legal.headed c.read-layout.ensures
     in
     let few : c.states_below-states.result ≤ 65536 * 17 =
-    omega (arith, c.states_below-states.ensures.1, layout.frames-to)
+    omega (arith, c.states_below-states.ensures.1, layout.frames_to)
     in
     omega (arith, few)
 
@@ -82,7 +82,7 @@ overflow_mul-bytes-2 c =
     laid c.args.table.now c.read-layout.result legal.headed c.read-layout.ensures
     in
     let few : c.states_below-states.result ≤ 65536 * 17 =
-    omega (arith, c.states_below-states.ensures.1, layout.frames-to)
+    omega (arith, c.states_below-states.ensures.1, layout.frames_to)
     in
     omega (arith, few)
 
@@ -95,9 +95,9 @@ overflow_add-bytes c =
     laid c.args.table.now c.read-layout.result legal.headed c.read-layout.ensures
     in
     let few : c.states_below-states.result ≤ 65536 * 17 =
-    omega (arith, c.states_below-states.ensures.1, layout.frames-to)
+    omega (arith, c.states_below-states.ensures.1, layout.frames_to)
     in
-    omega (arith, few, c.head_bytes.ensures, layout.frames-to)
+    omega (arith, few, c.head_bytes.ensures, layout.frames_to)
 
 pub returns-in_default-roomy : goal.returns-in_default-roomy
 unfolding all_states room_checked
@@ -113,7 +113,7 @@ returns-in_default-roomy c =
     in
     let bytes_are : c.head_bytes.result + 2 * (4 * c.states_below-states.result) ≡ length (reach_bytes c.args.table.now) =
     let b = c.args.table.now in
-    omega (arith, c.head_bytes.ensures, layout.frames_is, head_is b, states_are, bytes-length b legal)
+    omega (arith, c.head_bytes.ensures, layout.frames_is, head_is b, states_are, bytes_length b legal)
     in
     let room-judged : figures c.refuse_if-roomy.result ≡ room_checked (length (reach_bytes c.args.table.now)) (length c.args.res.now) =
     c.refuse_if-roomy.ensures ∙ ap (λ (n : ℕ). room_checked n (length c.args.res.now)) bytes_are
@@ -138,7 +138,7 @@ write_numbers-requires c =
     in
     let bytes_are : c.head_bytes.result + 2 * (4 * c.states_below-states.result) ≡ length (reach_bytes c.args.table.now) =
     let b = c.args.table.now in
-    omega (arith, c.head_bytes.ensures, layout.frames_is, head_is b, states_are, bytes-length b legal)
+    omega (arith, c.head_bytes.ensures, layout.frames_is, head_is b, states_are, bytes_length b legal)
     in
     let room-judged : figures c.refuse_if-roomy.result ≡ room_checked (length (reach_bytes c.args.table.now)) (length c.args.res.now) =
     c.refuse_if-roomy.ensures ∙ ap (λ (n : ℕ). room_checked n (length c.args.res.now)) bytes_are
@@ -148,7 +148,7 @@ write_numbers-requires c =
     in
     record {
       sound = legal;
-      layout_value = (c.read-layout.ensures, states_are, omega (arith, enough.0, bytes-length c.args.table.now legal, states_are));
+      layout_value = (c.read-layout.ensures, states_are, omega (arith, enough.0, bytes_length c.args.table.now legal, states_are));
     }
 
 pub returns : goal.returns
@@ -165,7 +165,7 @@ returns c =
     in
     let bytes_are : c.head_bytes.result + 2 * (4 * c.states_below-states.result) ≡ length (reach_bytes c.args.table.now) =
     let b = c.args.table.now in
-    omega (arith, c.head_bytes.ensures, layout.frames_is, head_is b, states_are, bytes-length b legal)
+    omega (arith, c.head_bytes.ensures, layout.frames_is, head_is b, states_are, bytes_length b legal)
     in
     let room-judged : figures c.refuse_if-roomy.result ≡ room_checked (length (reach_bytes c.args.table.now)) (length c.args.res.now) =
     c.refuse_if-roomy.ensures ∙ ap (λ (n : ℕ). room_checked n (length c.args.res.now)) bytes_are

@@ -6,10 +6,10 @@ use Prim.Native.Nat.{ℕ, suc, ◌+◌, ◌*◌, ◌≤◌}
 use native.Mathlib.Omega.{arith}
 use lib.ListN.{length}
 use Rattle.words.specs.Words.{stored}
-use Rattle.words.proofs.Laws.{stored-none, stored-length, stored-behind}
+use Rattle.words.proofs.Laws.{stored_none, stored_length, stored_behind}
 use Rattle.sizes.specs.Sizes.{frames}
 use Rattle.layered.specs.Search.{join, tabulate}
-use Rattle.layered.proofs.Lists.{tabulate-length}
+use Rattle.layered.proofs.Lists.{tabulate_length}
 use Rattle.table.specs.Table.{states}
 use Rattle.table.proofs.Parts.{count_in}
 use Rattle.reach.specs.Reach.{head_words}
@@ -24,7 +24,7 @@ store-requires c =
 pub loop-t-init : goal.loop-t-init
 unfolding join tabulate
 loop-t-init c =
-    (omega arith, sym (stored-none 2 _ _))
+    (omega arith, sym (stored_none 2 _ _))
 
 pub states_of-requires : goal.states_of-requires
 states_of-requires c =
@@ -36,10 +36,10 @@ store-requires-in-loop-t c =
     omega (arith, c.requires.last_value, head_is c.args.table.now)
     in
     let len₁ : length c.store.new.bytes ≡ length c.args.res.now =
-    ap length c.store.ensures ∙ stored-length 2 _ 0 (c.args.last ∷ []) (omega (arith, room))
+    ap length c.store.ensures ∙ stored_length 2 _ 0 (c.args.last ∷ []) (omega (arith, room))
     in
     let len : length c.loop-t.res ≡ length c.args.res.now =
-    ap length c.loop-t.invariant.1 ∙ stored-length 2 _ 2 (tabulate c.loop-t.t (states c.args.table.now)) (omega (arith, room, len₁, c.loop-t.invariant.0, tabulate-length c.loop-t.t (states c.args.table.now))) ∙ len₁
+    ap length c.loop-t.invariant.1 ∙ stored_length 2 _ 2 (tabulate c.loop-t.t (states c.args.table.now)) (omega (arith, room, len₁, c.loop-t.invariant.0, tabulate_length c.loop-t.t (states c.args.table.now))) ∙ len₁
     in
     omega (arith, room, len, c.loop-t-test.true)
 
@@ -49,7 +49,7 @@ loop-t-preserved c =
     omega (arith, c.requires.last_value, head_is c.args.table.now)
     in
     let len₁ : length c.store.new.bytes ≡ length c.args.res.now =
-    ap length c.store.ensures ∙ stored-length 2 _ 0 (c.args.last ∷ []) (omega (arith, room))
+    ap length c.store.ensures ∙ stored_length 2 _ 0 (c.args.last ∷ []) (omega (arith, room))
     in
     let S = states c.args.table.now in (
       omega (arith, c.loop-t-test.true),
@@ -67,5 +67,5 @@ returns c =
     let b : List ℕ = c.args.table.now in
     let e : c.loop-t.t ≡ suc (frames b) = omega (arith, c.requires.last_value.0, c.loop-t-test.false) in
     c.loop-t.invariant.1
-    ∙ stored-behind 2 c.args.res.now c.store.new.bytes 0 (c.args.last ∷ []) (tabulate c.loop-t.t (states b)) 2 c.store.ensures refl (omega (arith, room))
+    ∙ stored_behind 2 c.args.res.now c.store.new.bytes 0 (c.args.last ∷ []) (tabulate c.loop-t.t (states b)) 2 c.store.ensures refl (omega (arith, room))
     ∙ ap₂ (λ (x n : ℕ). stored 2 c.args.res.now 0 (x ∷ tabulate n (states b))) c.requires.last_value.0 e

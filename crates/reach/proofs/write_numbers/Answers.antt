@@ -14,7 +14,7 @@ use Rattle.paths.specs.Places.{reach_head, all_states}
 use Rattle.paths.specs.Progress.{so_far}
 use Rattle.paths.proofs.Places.{head_is}
 use Rattle.paths.proofs.Numbers.{following, further}
-use Rattle.reach.proofs.Bytes.{some_states, begun, bytes-stored, head_kept, zeros_kept}
+use Rattle.reach.proofs.Bytes.{some_states, begun, bytes_stored, head_kept, zeros_kept}
 use Rattle.reach.proofs.write_numbers.Goals as goal
 
 pub head_bytes-head-requires : goal.head_bytes-head-requires
@@ -22,7 +22,7 @@ head_bytes-head-requires c =
     let layout : Laid c.args.table.now c.args.layout =
     laid c.args.table.now c.args.layout c.requires.sound.headed c.requires.layout_value.0
     in
-    layout.frames-to
+    layout.frames_to
 
 pub store_head-requires : goal.store_head-requires
 store_head-requires c =
@@ -125,5 +125,5 @@ returns c =
     c.store32.ensures ∙ ap (λ (i : ℕ). stored 4 c.clear.new.res i (1 ∷ [])) at_is ∙ begun c.args.table.now c.requires.sound c.store_head.new.res c.clear.new.res room₁ cleared
     in
     let b = c.args.table.now in
-    bytes-stored b legal c.args.res.now c.store_head.new.res _ c.store_head.ensures
+    bytes_stored b legal c.args.res.now c.store_head.new.res _ c.store_head.ensures
     (further b legal c.store_head.new.res c.store32.new.bytes _ 0 0 (frames b) 0 room₁ started c.follow_layers.ensures)

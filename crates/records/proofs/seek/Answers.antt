@@ -8,7 +8,7 @@ use Rattle.diagrams.specs.Making.{Laid, home, place, no_id}
 use Rattle.diagrams.proofs.Probing.{Passed, passed_none, place_is}
 use Rattle.nodes.specs.declared.Node.{Node}
 use Rattle.nodes.specs.Nodes.{SoughtId, Stops, Shows, next_id}
-use Rattle.nodes.proofs.Seeking.{home_below, id_in, id_next, id_goes_on, id_ends, id-none}
+use Rattle.nodes.proofs.Seeking.{home_below, id_in, id_next, id_goes_on, id_ends, id_none}
 use Rattle.records.specs.Records.{nodes_in}
 use Rattle.records.proofs.Laws.{shows_of}
 use Rattle.records.proofs.seek.Goals as goal
@@ -24,7 +24,7 @@ module _ (R : ℕ) (D : Nodes) (l p q : ℕ) where
 module _ (R : ℕ) (D : Nodes) (l p q : ℕ) (laid : Laid R D) (pos : 0 < l) (small : R + 2 < no_id)
     (left id : ℕ) (most : left ≤ R) (id_is : 0 < left → id ≡ place R (home R l p q) (R - left) + 2) (passed : Passed R D l p q (R - left)) where
   over : left ≤ 0 → SoughtId R D l p q 4294967295
-  over z = let e : R - left ≡ R = omega arith in id-none R D l p q laid pos small (R - left) e passed
+  over z = let e : R - left ≡ R = omega arith in id_none R D l p q laid pos small (R - left) e passed
 
   module _ (some : 0 < left) where
     within : R - left < R

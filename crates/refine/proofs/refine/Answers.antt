@@ -16,7 +16,7 @@ use Rattle.diagrams.proofs.Numbering.{first_le}
 use Rattle.refine.proofs.Numbers.{count_most}
 use Rattle.refine.proofs.Buckets.{Hashed, Bucketed, bucketed_none, bucketed_later, bucketed_new}
 use Rattle.refine.proofs.Same.{row_hashed}
-use Rattle.refine.proofs.Refining.{Numbered, numbered-none, numbered-all, placed_same, copied_long, kept, turn_later, turn_new}
+use Rattle.refine.proofs.Refining.{Numbered, numbered_none, numbered_all, placed_same, copied_long, kept, turn_later, turn_new}
 use Rattle.refine.proofs.refine.Goals as goal
 use Rattle.refine.proofs.refine.Goals.{then-g-c, else-g-c}
 
@@ -74,7 +74,7 @@ module _ (s₀ s w : List ℕ) (rows : Rows) (c fresh : ℕ) (P : Placed s₀ w 
 
 pub loop-c-init : goal.loop-c-init
 loop-c-init c =
-    (omega arith, numbered-none c.args.scratch.now c.args.work.now c.args.rows, bucketed_none _ _ (row_hashed (number_in c.args.scratch.now c.args.rows) c.args.work.now c.args.rows) c.no_buckets-buckets.result c.no_links-links.result c.no_buckets-buckets.ensures c.no_links-links.ensures)
+    (omega arith, numbered_none c.args.scratch.now c.args.work.now c.args.rows, bucketed_none _ _ (row_hashed (number_in c.args.scratch.now c.args.rows) c.args.work.now c.args.rows) c.no_buckets-buckets.result c.no_links-links.result c.no_buckets-buckets.ensures c.no_links-links.ensures)
 
 pub row_hash-hash-requires : goal.row_hash-hash-requires
 row_hash-hash-requires c = record {
@@ -148,4 +148,4 @@ overflow_cast-result c =
 
 pub returns : goal.returns
 returns c =
-    numbered-all c.args.scratch.now _ _ (c.args.rows) c.loop-c.c _ (omega arith) c.loop-c.invariant.1
+    numbered_all c.args.scratch.now _ _ (c.args.rows) c.loop-c.c _ (omega arith) c.loop-c.invariant.1

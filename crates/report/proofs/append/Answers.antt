@@ -2,7 +2,7 @@
 -- Assumes nothing.
 use mathlib.Core.Path.{refl}
 use native.Mathlib.Omega.{arith}
-use Rattle.report.proofs.Appending.{append-length, append-next, append-all}
+use Rattle.report.proofs.Appending.{append_length, append_next, append_all}
 use Rattle.report.proofs.append.Goals as goal
 
 pub loop-i-init : goal.loop-i-init
@@ -11,12 +11,12 @@ loop-i-init c =
 
 pub bounds-out-at : goal.bounds-out-at
 bounds-out-at c =
-    omega (arith, append-length c.loop-i.invariant.1)
+    omega (arith, append_length c.loop-i.invariant.1)
 
 pub loop-i-preserved : goal.loop-i-preserved
 loop-i-preserved c =
-    (omega arith, append-next _ _ _ _ _ (omega arith) c.requires c.loop-i.invariant.1)
+    (omega arith, append_next _ _ _ _ _ (omega arith) c.requires c.loop-i.invariant.1)
 
 pub returns : goal.returns
 returns c =
-    append-all _ _ _ _ _ (omega arith) c.loop-i.invariant.1
+    append_all _ _ _ _ _ (omega arith) c.loop-i.invariant.1

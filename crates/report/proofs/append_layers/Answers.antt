@@ -8,7 +8,7 @@ use Rattle.sizes.specs.Limits.{most_frames}
 use Rattle.table.specs.Limits.{most_states}
 use Rattle.table.specs.Table.{states}
 use Rattle.report.specs.Report.{pair_line, layer_lines, line_room, Appended}
-use Rattle.report.proofs.Appending.{append-length, append_nothing}
+use Rattle.report.proofs.Appending.{append_length, append_nothing}
 use Rattle.report.proofs.Lines.{layer_most, append_layer, layer_in}
 use Rattle.report.proofs.append_layers.Goals as goal
 
@@ -32,7 +32,7 @@ append_pair-end-requires c =
     let short : length (pair_line c.loop-t.t c.states_of.result) ≤ line_room =
     let h = here in layer_most _ c.states_of.result h.0 (omega (arith, h.2, c.states_of.ensures.0))
     in
-    omega (arith, short, append-length c.loop-t.invariant.1)
+    omega (arith, short, append_length c.loop-t.invariant.1)
 
 pub overflow_step-t : goal.overflow_step-t
 overflow_step-t c =

@@ -2,7 +2,7 @@
 -- Assumes nothing.
 use native.Mathlib.Omega.{arith}
 use Rattle.report.specs.Report.{pair_line}
-use Rattle.report.proofs.Appending.{append-then}
+use Rattle.report.proofs.Appending.{append_then}
 use Rattle.report.proofs.Lines.{pair_length}
 use Rattle.report.proofs.append_pair.Goals as goal
 
@@ -17,4 +17,4 @@ append_field-requires c =
 pub returns : goal.returns
 unfolding pair_line
 returns c =
-    append-then c.append_field-end.ensures c.append_field.ensures
+    append_then c.append_field-end.ensures c.append_field.ensures

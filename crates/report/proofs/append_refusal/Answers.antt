@@ -3,7 +3,7 @@
 use Prim.Native.Char.{code}
 use native.Mathlib.Omega.{arith}
 use Rattle.report.specs.Report.{ascii, refusal_line}
-use Rattle.report.proofs.Appending.{append-then}
+use Rattle.report.proofs.Appending.{append_then}
 use Rattle.report.proofs.Lines.{pair_length, field_most}
 use Rattle.report.proofs.append_refusal.Goals as goal
 
@@ -14,4 +14,4 @@ append_pair-requires c =
 pub returns : goal.returns
 unfolding ascii refusal_line
 returns c =
-    append-then c.append-end.ensures c.append_pair.ensures
+    append_then c.append-end.ensures c.append_pair.ensures

@@ -9,7 +9,7 @@ use Rattle.sizes.specs.Sizes.{frames}
 use Rattle.sizes.specs.declared.Sizes.{Sizes}
 use Rattle.table.proofs.Offsets.{arrays_stand}
 use Rattle.report.specs.Report.{ascii}
-use Rattle.report.proofs.Lines.{total-length, field_most, table_lines_lem}
+use Rattle.report.proofs.Lines.{total_length, field_most, table_lines_lem}
 use Rattle.report.proofs.append_table.Goals as goal
 
 pub read-count-requires : goal.read-count-requires
@@ -50,7 +50,7 @@ append_total-requires c =
     (e, omega (arith, c.requires.table_headed.sized))
     in
     let f = few in
-    omega (arith, total-length c.states_below.result, field_most 6 c.states_below.result (code "\n") (omega arith))
+    omega (arith, total_length c.states_below.result, field_most 6 c.states_below.result (code "\n") (omega arith))
 
 pub returns : goal.returns
 unfolding ascii

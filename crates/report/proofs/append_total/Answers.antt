@@ -2,19 +2,19 @@
 -- Assumes nothing.
 use native.Mathlib.Omega.{arith}
 use Rattle.report.specs.Report.{ascii, total_line}
-use Rattle.report.proofs.Appending.{append-then}
-use Rattle.report.proofs.Lines.{total-length}
+use Rattle.report.proofs.Appending.{append_then}
+use Rattle.report.proofs.Lines.{total_length}
 use Rattle.report.proofs.append_total.Goals as goal
 
 pub append-end-requires : goal.append-end-requires
 append-end-requires c =
-    omega (arith, total-length c.args.total)
+    omega (arith, total_length c.args.total)
 
 pub append_field-requires : goal.append_field-requires
 append_field-requires c =
-    omega (arith, total-length c.args.total)
+    omega (arith, total_length c.args.total)
 
 pub returns : goal.returns
 unfolding ascii total_line
 returns c =
-    append-then c.append-end.ensures c.append_field.ensures
+    append_then c.append-end.ensures c.append_field.ensures

@@ -9,7 +9,7 @@ use native.Mathlib.Omega.{arith}
 use lib.Bits.{bit_and}
 use lib.ListN.{length, drop, get_or, length-set}
 use Rattle.verdict.specs.Judgements.{answer}
-use Rattle.sizes.specs.Sizes.{inputs, frames as framesOf}
+use Rattle.sizes.specs.Sizes.{inputs, frames as frames_of}
 use Rattle.sizes.specs.Sized.{Fed}
 use Rattle.layered.specs.Machines.{Machine, masked, feed}
 use Rattle.layered.proofs.Lists.{drop_more}
@@ -20,7 +20,7 @@ use Rattle.run.specs.Run.{shown}
 use Rattle.table.specs.Sound.{Sound}
 use Rattle.table.proofs.Accepted.{sound}
 use Rattle.steps.proofs.Steps.{moves, moved_is, not_refused}
-use Rattle.run.proofs.Runs.{feed-more, feed-all}
+use Rattle.run.proofs.Runs.{feed_more, feed_all}
 use Rattle.run.proofs.run_masked.Goals as goal
 
 -- the table as it is seen through the mask
@@ -28,8 +28,8 @@ abbrev seen : List ℕ → (mask : ℕ) → Machine
 seen table mask = masked (λ _. mask) (machine table)
 
 -- frame t of an accepted table that is fed words: its step is accepted
-module _ (b words : List ℕ) (accepted : checked b ≡ answer 0 0) (fed₀ : Fed (inputs b) (framesOf b) words) (t : ℕ) (h : t < length words) where
-  frame_in : t < framesOf b
+module _ (b words : List ℕ) (accepted : checked b ≡ answer 0 0) (fed₀ : Fed (inputs b) (frames_of b) words) (t : ℕ) (h : t < length words) where
+  frame_in : t < frames_of b
   frame_in = omega (arith, fed₀.as_many)
 
   step_moves : (layer state : ℕ) (x : Stepped) → step_figures x ≡ stepped b layer state (get_or words t 0) → layer ≡ t → state < states b t → step_figures x ≡ moved b t state (get_or words t 0)
@@ -46,7 +46,7 @@ returns-in_default c =
 
 pub loop-t-preserved : goal.loop-t-preserved
 loop-t-preserved c =
-    let f : c.loop-t.t < framesOf c.args.table.now = frame_in c.args.table.now c.args.words.now c.requires.table_value c.requires.fed c.loop-t.t c.loop-t-test.true in
+    let f : c.loop-t.t < frames_of c.args.table.now = frame_in c.args.table.now c.args.words.now c.requires.table_value c.requires.fed c.loop-t.t c.loop-t-test.true in
     let room : c.loop-t.t < length c.loop-t.res = omega (arith, f, c.requires.table_in_bounds, c.loop-t.invariant.1) in
     let w = get_or c.args.words.now c.loop-t.t 0 in
     let m = moved_is c.args.table.now c.loop-t.t c.loop-t.position.state w c.step-answer.result (step_moves c.args.table.now c.args.words.now c.requires.table_value c.requires.fed c.loop-t.t c.loop-t-test.true c.loop-t.position.layer c.loop-t.position.state c.step-answer.result c.step-answer.ensures.answer c.loop-t.invariant.2 c.loop-t.invariant.3) c.in-Moved.output c.in-Moved.next c.in-Moved.is in
@@ -56,15 +56,15 @@ loop-t-preserved c =
       simp length-set c.loop-t.invariant.1,
       m.1 ∙ sym (add-one c.loop-t.t),
       rw add-one n,
-      feed-more (seen c.args.table.now c.args.mask) c.args.words.now c.loop-t.res c.loop-t.t c.loop-t.position.state o c.in-Moved.next.state c.loop-t-test.true room (ap (λ (x : ℕ). bit_and x c.args.mask) m.0) m.2 c.loop-t.invariant.4,
+      feed_more (seen c.args.table.now c.args.mask) c.args.words.now c.loop-t.res c.loop-t.t c.loop-t.position.state o c.in-Moved.next.state c.loop-t-test.true room (ap (λ (x : ℕ). bit_and x c.args.mask) m.0) m.2 c.loop-t.invariant.4,
       drop_more c.loop-t.res c.args.res.now c.loop-t.t o c.loop-t.invariant.5,
     )
 
 pub returns : goal.returns
 returns c =
     let t : length (c.args.words.now) ≡ c.loop-t.t = omega (arith, c.loop-t-test.false, c.loop-t.invariant.0) in
-    let T : length (c.args.words.now) ≡ framesOf (c.args.table.now) = (c.requires.fed).as_many in
-    let r : c.loop-t.res ≡ shown (c.args.table.now) c.args.mask (c.args.words.now) ++ drop c.loop-t.t c.args.res.now = feed-all (seen (c.args.table.now) c.args.mask) (c.args.words.now) c.loop-t.res c.args.res.now c.loop-t.t c.loop-t.position.state t c.loop-t.invariant.4 c.loop-t.invariant.5 in
+    let T : length (c.args.words.now) ≡ frames_of (c.args.table.now) = (c.requires.fed).as_many in
+    let r : c.loop-t.res ≡ shown (c.args.table.now) c.args.mask (c.args.words.now) ++ drop c.loop-t.t c.args.res.now = feed_all (seen (c.args.table.now) c.args.mask) (c.args.words.now) c.loop-t.res c.args.res.now c.loop-t.t c.loop-t.position.state t c.loop-t.invariant.4 c.loop-t.invariant.5 in
     record {
       verdict = ap (answer 0) T;
       outputs = r ∙ ap (λ (n : ℕ). shown (c.args.table.now) c.args.mask (c.args.words.now) ++ drop n c.args.res.now) (sym t ∙ T);

@@ -13,7 +13,7 @@ use Rattle.layered.specs.Search.{least}
 use Rattle.circuit.specs.Circuit.{all_inputs, all_outputs}
 use Rattle.circuit.specs.WellFormed.{CircuitHeaded, HeadOf}
 use Rattle.circuit.specs.declared.Head.{Head}
-use Rattle.schedule.proofs.Lists.{found-to, joined_at, inputs_wrong, outputs_wrong, outside-found, taken_found}
+use Rattle.schedule.proofs.Lists.{found_to, joined_at, inputs_wrong, outputs_wrong, outside_found, taken_found}
 use Rattle.schedule.proofs.check_lists.Goals as goal
 
 -- as many places as the network has inputs and outputs: few enough for `joined`
@@ -25,10 +25,10 @@ module _ (c : List ℕ) (h : CircuitHeaded c) (own : Head) (O : HeadOf c own) (i
   outputs-many e = omega (arith, O.total_is)
 
   few : length ins ≡ own.base - 1 → length outs ≡ own.total → (length ins ≤ 16) × (length outs ≤ 4352)
-  few e o = (omega (arith, inputs-many e, h.inputs-to), omega (arith, outputs-many o, h.outputs-to, h.gates-to))
+  few e o = (omega (arith, inputs-many e, h.inputs_to), omega (arith, outputs-many o, h.outputs_to, h.gates_to))
 
   joinable : length ins ≡ own.base - 1 → length outs ≡ own.total → (r : ℕ) (p : ℕ → Bool) → r ≡ least (length outs) p → (length ins ≤ 16) × (r ≤ 4352)
-  joinable e o r p q = let f = few e o in (f.0, omega (arith, found-to _ r p q, f.1))
+  joinable e o r p q = let f = few e o in (f.0, omega (arith, found_to _ r p q, f.1))
 
 -- what is found in either list
 found : (a : ℕ) (p : ℕ → Bool) (d : ℕ) (q : ℕ → Bool) (x y r : ℕ) → x ≡ least a p → y ≡ least d q → r ≡ cond (ltb x a) x (a + y) → r ≡ joined_at a p d q
@@ -48,7 +48,7 @@ returns-then-shown-own c =
 
 pub overflow_mul-sizes-2 : goal.overflow_mul-sizes-2
 overflow_mul-sizes-2 c =
-    omega (arith, mul-le-mul c.requires.sized.outputs-to c.requires.sized.frames-to)
+    omega (arith, mul-le-mul c.requires.sized.outputs_to c.requires.sized.frames_to)
 
 pub joined-outside-requires : goal.joined-outside-requires
 joined-outside-requires c =
@@ -63,7 +63,7 @@ returns-then-outside-count c =
     let i = inputs-many _ c.requires.circuit_headed _ c.read-own.ensures _ c.args.outputs.now c.if-count-own.false in
     let o = outputs-many _ c.requires.circuit_headed _ c.read-own.ensures c.args.inputs.now _ c.if-shown-own.false in
     let e = found _ _ _ _ _ _ c.joined-outside.result c.first_outside.ensures c.first_outside-2.ensures c.joined-outside.ensures in
-    ap (answer 19) e ∙ outside-found _ _ _ _ _ _ i o (omega (arith, e, c.if-outside-count.true))
+    ap (answer 19) e ∙ outside_found _ _ _ _ _ _ i o (omega (arith, e, c.if-outside-count.true))
 
 pub joined-taken-requires : goal.joined-taken-requires
 joined-taken-requires c =

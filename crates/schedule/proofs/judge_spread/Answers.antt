@@ -11,7 +11,7 @@ use Rattle.source.proofs.Sources.{well}
 use Rattle.lent.proofs.Needed.{needed_is, bits_fit}
 use Rattle.folded.specs.Folded.{scratch_needed}
 use Rattle.spreading.specs.Spread.{schedule_checked, spread_lent}
-use Rattle.schedule.proofs.Spread.{scratch_kept, ahead_refused, lent_judged, lent-left}
+use Rattle.schedule.proofs.Spread.{scratch_kept, ahead_refused, lent_judged, lent_left}
 use Rattle.schedule.proofs.judge_spread.Goals as goal
 
 pub returns-in-Refused : goal.returns-in-Refused
@@ -65,5 +65,5 @@ returns c =
     let a = accepts c.check_look_ahead-ahead.result _ c.in_default-ahead.field-0 (ahead-is) c.in_default-ahead.is in
     let n = needed_is _ c.spread_source-source.result (well _ _ c.spread_source-source.ensures.0).head_is ∙ ap scratch_needed c.spread_source-source.ensures.1 in record {
       verdict = lent_judged _ _ _ _ _ _ c.args.scratch.now _ (passed) _ a c.judge_scratch.result _ n _ c.judge_scratch.ensures;
-      scratch = lent-left _ _ _ _ _ _ c.args.scratch.now _ (passed) _ a c.judge_scratch.result _ n _ c.judge_scratch.ensures;
+      scratch = lent_left _ _ _ _ _ _ c.args.scratch.now _ (passed) _ a c.judge_scratch.result _ n _ c.judge_scratch.ensures;
     }

@@ -24,23 +24,23 @@ read-own-requires c = (tells _ _ _ _ _ _ c.requires).spreads.network.headed
 pub overflow_mul-total : goal.overflow_mul-total
 overflow_mul-total c =
     let Z = (tells _ _ _ _ _ _ c.requires).spreads.sizes in
-    omega (arith, mul-le-mul Z.outputs-to Z.frames-to)
+    omega (arith, mul-le-mul Z.outputs_to Z.frames_to)
 
 pub overflow_add-result : goal.overflow_add-result
 overflow_add-result c =
     let F = (tells _ _ _ _ _ _ c.requires).spreads in
-    omega (arith, mul-le-mul F.sizes.outputs-to F.sizes.frames-to, F.few, c.read-own.ensures.gates_is)
+    omega (arith, mul-le-mul F.sizes.outputs_to F.sizes.frames_to, F.few, c.read-own.ensures.gates_is)
 
 pub overflow_mul-result : goal.overflow_mul-result
-overflow_mul-result c = omega (arith, (tells _ _ _ _ _ _ c.requires).spreads.sizes.bits-to)
+overflow_mul-result c = omega (arith, (tells _ _ _ _ _ _ c.requires).spreads.sizes.bits_to)
 
 pub overflow_add-result-2 : goal.overflow_add-result-2
-overflow_add-result-2 c = omega (arith, (tells _ _ _ _ _ _ c.requires).spreads.sizes.bits-to)
+overflow_add-result-2 c = omega (arith, (tells _ _ _ _ _ _ c.requires).spreads.sizes.bits_to)
 
 pub held-requires : goal.held-requires
 held-requires c =
     let S = tells _ _ _ _ _ _ c.requires in
-    omega (arith, S.ins_many, S.spreads.network.headed.inputs-to)
+    omega (arith, S.ins_many, S.spreads.network.headed.inputs_to)
 
 pub held-requires-2 : goal.held-requires-2
 held-requires-2 c =

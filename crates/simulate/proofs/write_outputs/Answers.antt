@@ -8,21 +8,21 @@ use borrow.Author.Rules.{rules}
 use lib.ListN.{length, get_or, take, drop}
 use lib.Seq.{get_or-take, length-take-le}
 use Rattle.sizes.specs.Limits.{most_bits}
-use Rattle.sizes.specs.Sizes.{frames as framesOf}
+use Rattle.sizes.specs.Sizes.{frames as frames_of}
 use Rattle.circuit.specs.Limits.{most_signals}
 use Rattle.lanes.proofs.Laws.{uses_none, room_ready}
 use Rattle.simulate.specs.Limits.{most_sequences}
 use Rattle.simulate.specs.Simulate.{all_output_words}
-use Rattle.simulate.proofs.Sequences.{ends_before, part_length, fed_by, all_fit, outputs-at, nothing_written, outputs-length, outputs-more}
+use Rattle.simulate.proofs.Sequences.{ends_before, part_length, fed_by, all_fit, outputs-at, nothing_written, outputs_length, outputs_more}
 use Rattle.simulate.proofs.write_outputs.Goals as goal
 
 pub sequence_numbers-sequences-requires : goal.sequence_numbers-sequences-requires
 sequence_numbers-sequences-requires c =
-    let inputs-to : c.args.head.inputs * c.args.head.frames ≤ most_bits =
-    rw (c.requires.well_formed.head_is.inputs_is, c.requires.well_formed.head_is.frames_is) c.requires.well_formed.headed.sizes.bits-to
+    let inputs_to : c.args.head.inputs * c.args.head.frames ≤ most_bits =
+    rw (c.requires.well_formed.head_is.inputs_is, c.requires.well_formed.head_is.frames_is) c.requires.well_formed.headed.sizes.bits_to
     in
     record {
-      inputs_le_most_bits = (omega (arith, c.requires), inputs-to, omega (arith, c.requires), omega (arith, c.requires));
+      inputs_le_most_bits = (omega (arith, c.requires), inputs_to, omega (arith, c.requires), omega (arith, c.requires));
       fed = fed_by c.args.circuit.now c.args.head c.requires.well_formed.headed c.requires.well_formed.head_is c.args.count c.args.words.now c.requires.fed;
     }
 
@@ -51,10 +51,10 @@ loop-k-init c =
 pub pack_frames-requires : goal.pack_frames-requires
 pack_frames-requires c =
     let kept_length : length c.loop-k.res ≡ length c.args.res.now =
-    ap length c.loop-k.invariant.1 ∙ outputs-length c.args.circuit.now c.args.words.now c.args.res.now c.loop-k.k (omega (arith, c.requires, ends_before (framesOf c.args.circuit.now) c.loop-k.k c.args.count c.loop-k-test.true))
+    ap length c.loop-k.invariant.1 ∙ outputs_length c.args.circuit.now c.args.words.now c.args.res.now c.loop-k.k (omega (arith, c.requires, ends_before (frames_of c.args.circuit.now) c.loop-k.k c.args.count c.loop-k-test.true))
     in
     let ends : c.loop-k.k * c.args.head.frames + c.args.head.frames ≤ length c.loop-k.res =
-    rw c.requires.well_formed.head_is.frames_is (omega (arith, kept_length, c.requires, ends_before (framesOf c.args.circuit.now) c.loop-k.k c.args.count c.loop-k-test.true))
+    rw c.requires.well_formed.head_is.frames_is (omega (arith, kept_length, c.requires, ends_before (frames_of c.args.circuit.now) c.loop-k.k c.args.count c.loop-k-test.true))
     in
     let room-length : length c.room-lanes.result ≡ most_signals =
     search rules
@@ -71,13 +71,13 @@ pack_frames-requires c =
 pub loop-k-preserved : goal.loop-k-preserved
 loop-k-preserved c =
     let kept_length : length c.loop-k.res ≡ length c.args.res.now =
-    ap length c.loop-k.invariant.1 ∙ outputs-length c.args.circuit.now c.args.words.now c.args.res.now c.loop-k.k (omega (arith, c.requires, ends_before (framesOf c.args.circuit.now) c.loop-k.k c.args.count c.loop-k-test.true))
+    ap length c.loop-k.invariant.1 ∙ outputs_length c.args.circuit.now c.args.words.now c.args.res.now c.loop-k.k (omega (arith, c.requires, ends_before (frames_of c.args.circuit.now) c.loop-k.k c.args.count c.loop-k-test.true))
     in
     let ends : c.loop-k.k * c.args.head.frames + c.args.head.frames ≤ length c.loop-k.res =
-    rw c.requires.well_formed.head_is.frames_is (omega (arith, kept_length, c.requires, ends_before (framesOf c.args.circuit.now) c.loop-k.k c.args.count c.loop-k-test.true))
+    rw c.requires.well_formed.head_is.frames_is (omega (arith, kept_length, c.requires, ends_before (frames_of c.args.circuit.now) c.loop-k.k c.args.count c.loop-k-test.true))
     in (
       omega (arith, c),
-      outputs-more c.args.circuit.now c.args.words.now c.loop-k.res c.args.res.now c.pack_frames.new.words c.loop-k.k c.args.head.frames _ _
+      outputs_more c.args.circuit.now c.args.words.now c.loop-k.res c.args.res.now c.pack_frames.new.words c.loop-k.k c.args.head.frames _ _
           c.requires.well_formed.head_is.frames_is refl refl c.loop-k.invariant.1
           (outputs-at c.args.circuit.now c.args.head c.requires.well_formed.headed c.requires.well_formed.head_is c.args.count c.args.words.now c.store_signals.new.lanes _
           (λ j. get_or (take c.args.count c.sequence_numbers-sequences.result) j 0) c.loop-k.k _ (omega (arith, c.requires)) c.loop-k-test.true
@@ -88,4 +88,4 @@ loop-k-preserved c =
 pub returns : goal.returns
 returns c =
     let e : c.loop-k.k ≡ c.args.count = omega (arith, c.loop-k.invariant) in
-    c.loop-k.invariant.1 ∙ ap (λ k. all_output_words c.args.circuit.now k c.args.words.now ++ drop (k * framesOf c.args.circuit.now) c.args.res.now) e
+    c.loop-k.invariant.1 ∙ ap (λ k. all_output_words c.args.circuit.now k c.args.words.now ++ drop (k * frames_of c.args.circuit.now) c.args.res.now) e

@@ -4,10 +4,10 @@ use mathlib.Core.Path.{◌≡◌}
 use mathlib.Core.List.{◌++◌}
 use Prim.Native.Nat.{◌*◌, ◌≤◌}
 use lib.ListN.{drop}
-use Rattle.sizes.specs.Sizes.{frames as framesOf}
+use Rattle.sizes.specs.Sizes.{frames as frames_of}
 use Rattle.simulate.specs.Simulate.{all_output_words}
 use Rattle.simulate.proofs.write_outputs.Given as goal
 
 abbrev pub invariant-loop-k : goal.invariant-loop-k
 invariant-loop-k l =
-    (l.k ≤ l.count) × (l.res ≡ all_output_words l.circuit l.k l.words ++ drop (l.k * framesOf l.circuit) l.initial.res)
+    (l.k ≤ l.count) × (l.res ≡ all_output_words l.circuit l.k l.words ++ drop (l.k * frames_of l.circuit) l.initial.res)

@@ -16,7 +16,7 @@ use Rattle.circuit.specs.WellFormed.{WellFormed}
 use Rattle.source.specs.Source.{head_of, sourced}
 use Rattle.source.proofs.Sources.{well}
 use Rattle.circuit.proofs.Laws.{packed_more, packed_below}
-use Rattle.circuit.proofs.Lists.{listed-length, listed_at}
+use Rattle.circuit.proofs.Lists.{listed_length, listed_at}
 use Rattle.source.proofs.connected_outputs.Goals.{then-is_connected, else-is_connected}
 use Rattle.source.proofs.connected_outputs.Goals as goal
 
@@ -69,13 +69,13 @@ loop-j-preserved c =
     let n : i < outputs b = omega (arith, known, c) in
     let at : m * (c.args.t + 1) - 1 - j ≡ outputs b * c.args.t + i = omega (arith, frame_outputs, known, c) in
     let q : x ≡ get_or (flags b c.args.t) i false = sym e ∙ c.is_connected.ensures ∙ ap (λ q. not (unconnected b (gate_of_output b q))) at ∙ sym (listed_at (connects b c.args.t) false (outputs b) i n) in
-    packed_more (flags b c.args.t) i (m - j) j (j + 1) c.loop-j.word (cond x 1 0) (omega (arith, listed-length (connects b c.args.t) (outputs b))) (omega arith) refl c.loop-j.invariant.1
+    packed_more (flags b c.args.t) i (m - j) j (j + 1) c.loop-j.word (cond x 1 0) (omega (arith, listed_length (connects b c.args.t) (outputs b))) (omega arith) refl c.loop-j.invariant.1
     (ap (λ y. cond y 1 0) q)
     in (
       omega arith,
       elim c.if-is_connected.branch [
-        | then-is_connected w ↦ w.word-is ∙ omega (arith, grows true w.if-is_connected.true)
-        | else-is_connected w ↦ w.word-is ∙ omega (arith, grows false w.if-is_connected.false)
+        | then-is_connected w ↦ w.word_is ∙ omega (arith, grows true w.if-is_connected.true)
+        | else-is_connected w ↦ w.word_is ∙ omega (arith, grows false w.if-is_connected.false)
       ],
     )
 
@@ -89,7 +89,7 @@ returns c =
     let m : ℕ = c.args.source.outputs in
     let e : c.loop-j.j ≡ m = omega arith in
     let z : m - c.loop-j.j ≡ 0 = omega arith in
-    let n : length (flags b c.args.t) ≤ c.loop-j.j = omega (arith, known, listed-length (connects b c.args.t) (outputs b)) in
+    let n : length (flags b c.args.t) ≤ c.loop-j.j = omega (arith, known, listed_length (connects b c.args.t) (outputs b)) in
     (c.loop-j.invariant.1 ∙ ap (λ i. packed (take c.loop-j.j (drop i (flags b c.args.t)))) z ∙ ap packed (take_all c.loop-j.j (flags b c.args.t) n), omega (arith, c.loop-j.invariant, small b c.args.t (m - c.loop-j.j) c.loop-j.j (omega (arith, known))))
 
 pub overflow_mul-word : goal.overflow_mul-word

@@ -52,7 +52,7 @@ rename-requires c =
     let network : Spreads c.args.circuit.now c.args.source =
     is_spread _ _ c.requires.0 c.if-source.false
     in
-    renames _ _ (network) c.args.g _ (in-network) c.read_gate-gate.ensures.left-before (omega arith)
+    renames _ _ (network) c.args.g _ (in-network) c.read_gate-gate.ensures.left_before (omega arith)
 
 pub rename-requires-2 : goal.rename-requires-2
 rename-requires-2 c =

@@ -7,7 +7,7 @@ use lib.Dec.{eqb}
 use lib.ListN.{get_or}
 use borrow.Author.Tests.{eq-eqb, ne_eqb}
 use Rattle.layered.proofs.Search.{below_suc}
-use Rattle.source.proofs.Standing.{item_whole, item-found, item-none}
+use Rattle.source.proofs.Standing.{item_whole, item_found, item_none}
 use Rattle.source.proofs.item_at.Goals as goal
 
 pub returns-then-source : goal.returns-then-source
@@ -20,7 +20,7 @@ loop-k-init c =
 
 pub returns-then-source-k : goal.returns-then-source-k
 returns-then-source-k c =
-    item-found _ _ c.if-source.false c.loop-k.k c.loop-k-test.true c.loop-k.invariant.1 (eq-eqb _ _ c.if-source-k.true)
+    item_found _ _ c.if-source.false c.loop-k.k c.loop-k-test.true c.loop-k.invariant.1 (eq-eqb _ _ c.if-source-k.true)
 
 pub loop-k-preserved : goal.loop-k-preserved
 loop-k-preserved c =
@@ -28,4 +28,4 @@ loop-k-preserved c =
 
 pub returns : goal.returns
 returns c =
-    item-none _ _ c.if-source.false (λ i h. c.loop-k.invariant.1 i (omega (arith, c.loop-k-test.false)))
+    item_none _ _ c.if-source.false (λ i h. c.loop-k.invariant.1 i (omega (arith, c.loop-k-test.false)))

@@ -17,6 +17,6 @@ returns-then-signal-eq0 c =
 pub returns : goal.returns
 returns c =
     let low : get_or c.args.places.now (c.args.signal - 1) 0 < 16 =
-    c.requires.places-to (c.args.signal - 1) (omega (arith, c.if-first-signal.false, c.if-signal-eq0.false))
+    c.requires.places_to (c.args.signal - 1) (omega (arith, c.if-first-signal.false, c.if-signal-eq0.false))
     in
     (stands_input _ _ _ _ c.requires.first_from c.requires.base_from c.if-first-signal.false c.if-signal-eq0.false, omega (arith, low))

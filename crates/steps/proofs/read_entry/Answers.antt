@@ -32,16 +32,16 @@ module _ (b : List ℕ) (layout : Layout) (headed : TableHeaded b) (is : layout 
   unfolding entry_at
   output_at_lem = let l = laid b layout headed is in omega (arith, index_is, l.outputs_is)
 
-  next-at : layout.nexts + 2 * (below + (s * layout.words + w)) ≡ entry_at b (nexts_at b) t s w
+  next_at : layout.nexts + 2 * (below + (s * layout.words + w)) ≡ entry_at b (nexts_at b) t s w
   unfolding entry_at
-  next-at = let l = laid b layout headed is in omega (arith, index_is, l.nexts_is)
+  next_at = let l = laid b layout headed is in omega (arith, index_is, l.nexts_is)
 
   -- what is read there
   output_is : (output : ℕ) → output ≡ word_at b (layout.outputs + 2 * (below + (s * layout.words + w))) → output ≡ (machine b).out t s w
   output_is output e = e ∙ ap (word_at b) output_at_lem
 
   next_is : (next : ℕ) → next ≡ word_at b (layout.nexts + 2 * (below + (s * layout.words + w))) → next ≡ (machine b).next t s w
-  next_is next e = e ∙ ap (word_at b) next-at
+  next_is next e = e ∙ ap (word_at b) next_at
 
   -- how the output was judged
   stray-is : (stray : Bool) (connected₀ output : ℕ) → stray ≡ strays connected₀ output → connected₀ ≡ connected b t → output ≡ (machine b).out t s w → bad_output b t ((machine b).out t s w) ≡ stray
@@ -92,7 +92,7 @@ pub connected_of-requires : goal.connected_of-requires
 connected_of-requires c =
     let l = laid c.args.table.now c.args.layout c.requires.table_headed c.requires.layout_value in
     record {
-      last_value = (l.frames_is, l.frames-to, omega (arith, c.requires.layer_bound));
+      last_value = (l.frames_is, l.frames_to, omega (arith, c.requires.layer_bound));
       last_in_bounds = omega (arith, l.end_at, head_length_lem c.args.layout.frames);
     }
 
@@ -100,7 +100,7 @@ pub returns-then-is_stray : goal.returns-then-is_stray
 unfolding entry_checked
 returns-then-is_stray c =
     let stray : bad_output c.args.table.now c.args.position.layer ((machine c.args.table.now).out c.args.position.layer c.args.position.state c.args.word) ≡ c.is_stray.result =
-    stray-is c.args.table.now c.args.layout c.requires.table_headed c.requires.layout_value c.args.position.layer c.args.position.state c.args.word c.requires.layer_bound c.entries_below-below.result c.entries_below-below.ensures.0 _ _ _ c.is_stray.ensures c.connected_of.ensures.0 (output_is c.args.table.now c.args.layout c.requires.table_headed c.requires.layout_value c.args.position.layer c.args.position.state c.args.word c.requires.layer_bound c.entries_below-below.result c.entries_below-below.ensures.0 _ c.read-output.ensures.0)
+    stray-is c.args.table.now c.args.layout c.requires.table_headed c.requires.layout_value c.args.position.layer c.args.position.state c.args.word c.requires.layer_bound c.entries_below-below.result c.entries_below-below.ensures.0 _ _ _ c.is_stray.ensures c.connected_of.ensures.0 (output_is c.args.table.now c.args.layout c.requires.table_headed c.requires.layout_value c.args.position.layer c.args.position.state c.args.word c.requires.layer_bound c.entries_below-below.result c.entries_below-below.ensures.0 _ c.read_output.ensures.0)
     in
     rw (stray ∙ c.if-is_stray.true)
     (ap (λ (p : ℕ). handed_back (answer 5 p) c.args.position.layer c.args.position.state) (output_at_lem c.args.table.now c.args.layout c.requires.table_headed c.requires.layout_value c.args.position.layer c.args.position.state c.args.word c.requires.layer_bound c.entries_below-below.result c.entries_below-below.ensures.0))
@@ -113,7 +113,7 @@ pub returns-then-states_of-next : goal.returns-then-states_of-next
 unfolding bad_next entry_checked
 returns-then-states_of-next c =
     let good : bad_output c.args.table.now c.args.position.layer ((machine c.args.table.now).out c.args.position.layer c.args.position.state c.args.word) ≡ false =
-    stray-is c.args.table.now c.args.layout c.requires.table_headed c.requires.layout_value c.args.position.layer c.args.position.state c.args.word c.requires.layer_bound c.entries_below-below.result c.entries_below-below.ensures.0 _ _ _ c.is_stray.ensures c.connected_of.ensures.0 (output_is c.args.table.now c.args.layout c.requires.table_headed c.requires.layout_value c.args.position.layer c.args.position.state c.args.word c.requires.layer_bound c.entries_below-below.result c.entries_below-below.ensures.0 _ c.read-output.ensures.0) ∙ c.if-is_stray.false
+    stray-is c.args.table.now c.args.layout c.requires.table_headed c.requires.layout_value c.args.position.layer c.args.position.state c.args.word c.requires.layer_bound c.entries_below-below.result c.entries_below-below.ensures.0 _ _ _ c.is_stray.ensures c.connected_of.ensures.0 (output_is c.args.table.now c.args.layout c.requires.table_headed c.requires.layout_value c.args.position.layer c.args.position.state c.args.word c.requires.layer_bound c.entries_below-below.result c.entries_below-below.ensures.0 _ c.read_output.ensures.0) ∙ c.if-is_stray.false
     in
     let next : c.read-next.result ≡ (machine c.args.table.now).next c.args.position.layer c.args.position.state c.args.word =
     next_is c.args.table.now c.args.layout c.requires.table_headed c.requires.layout_value c.args.position.layer c.args.position.state c.args.word c.requires.layer_bound c.entries_below-below.result c.entries_below-below.ensures.0 _ c.read-next.ensures.0
@@ -122,16 +122,16 @@ returns-then-states_of-next c =
     c.states_of.ensures.0 ∙ ap (states c.args.table.now) (add-one c.args.position.layer)
     in
     rw (good, le-leb (states c.args.table.now (suc c.args.position.layer)) ((machine c.args.table.now).next c.args.position.layer c.args.position.state c.args.word) (omega (arith, next, count, c.if-states_of-next.true)))
-    (ap (λ (p : ℕ). handed_back (answer 5 p) c.args.position.layer c.args.position.state) (next-at c.args.table.now c.args.layout c.requires.table_headed c.requires.layout_value c.args.position.layer c.args.position.state c.args.word c.requires.layer_bound c.entries_below-below.result c.entries_below-below.ensures.0))
+    (ap (λ (p : ℕ). handed_back (answer 5 p) c.args.position.layer c.args.position.state) (next_at c.args.table.now c.args.layout c.requires.table_headed c.requires.layout_value c.args.position.layer c.args.position.state c.args.word c.requires.layer_bound c.entries_below-below.result c.entries_below-below.ensures.0))
 
 pub returns : goal.returns
 unfolding bad_next entry_checked
 returns c =
     let good : bad_output c.args.table.now c.args.position.layer ((machine c.args.table.now).out c.args.position.layer c.args.position.state c.args.word) ≡ false =
-    stray-is c.args.table.now c.args.layout c.requires.table_headed c.requires.layout_value c.args.position.layer c.args.position.state c.args.word c.requires.layer_bound c.entries_below-below.result c.entries_below-below.ensures.0 _ _ _ c.is_stray.ensures c.connected_of.ensures.0 (output_is c.args.table.now c.args.layout c.requires.table_headed c.requires.layout_value c.args.position.layer c.args.position.state c.args.word c.requires.layer_bound c.entries_below-below.result c.entries_below-below.ensures.0 _ c.read-output.ensures.0) ∙ c.if-is_stray.false
+    stray-is c.args.table.now c.args.layout c.requires.table_headed c.requires.layout_value c.args.position.layer c.args.position.state c.args.word c.requires.layer_bound c.entries_below-below.result c.entries_below-below.ensures.0 _ _ _ c.is_stray.ensures c.connected_of.ensures.0 (output_is c.args.table.now c.args.layout c.requires.table_headed c.requires.layout_value c.args.position.layer c.args.position.state c.args.word c.requires.layer_bound c.entries_below-below.result c.entries_below-below.ensures.0 _ c.read_output.ensures.0) ∙ c.if-is_stray.false
     in
-    let output : c.read-output.result ≡ (machine c.args.table.now).out c.args.position.layer c.args.position.state c.args.word =
-    output_is c.args.table.now c.args.layout c.requires.table_headed c.requires.layout_value c.args.position.layer c.args.position.state c.args.word c.requires.layer_bound c.entries_below-below.result c.entries_below-below.ensures.0 _ c.read-output.ensures.0
+    let output : c.read_output.result ≡ (machine c.args.table.now).out c.args.position.layer c.args.position.state c.args.word =
+    output_is c.args.table.now c.args.layout c.requires.table_headed c.requires.layout_value c.args.position.layer c.args.position.state c.args.word c.requires.layer_bound c.entries_below-below.result c.entries_below-below.ensures.0 _ c.read_output.ensures.0
     in
     let next : c.read-next.result ≡ (machine c.args.table.now).next c.args.position.layer c.args.position.state c.args.word =
     next_is c.args.table.now c.args.layout c.requires.table_headed c.requires.layout_value c.args.position.layer c.args.position.state c.args.word c.requires.layer_bound c.entries_below-below.result c.entries_below-below.ensures.0 _ c.read-next.ensures.0

@@ -2,7 +2,7 @@
 -- Assumes nothing.
 use mathlib.Core.Path.{ap}
 use Rattle.answers.specs.Answer.{verdict_numbers}
-use Rattle.answers.proofs.Laws.{answer_kept, answer_put, lent_kept, lent-left}
+use Rattle.answers.proofs.Laws.{answer_kept, answer_put, lent_kept, lent_left}
 use Rattle.tff.proofs.tff_commit.Goals as goal
 
 pub returns-then-answer-lt-VERDICT : goal.returns-then-answer-lt-VERDICT
@@ -18,7 +18,7 @@ pub returns : goal.returns
 returns c =
     record {
       answer = answer_put _ _ _ _ c.if-answer-lt-VERDICT.false (ap verdict_numbers c.commit_numbers-verdict.ensures.verdict) c.put.ensures;
-      res = lent-left _ _ _ _ _ c.if-answer-lt-VERDICT.false c.commit_numbers-verdict.ensures.res;
-      scratch = lent-left _ _ _ _ _ c.if-answer-lt-VERDICT.false c.commit_numbers-verdict.ensures.scratch;
-      nodes = lent-left _ _ _ _ _ c.if-answer-lt-VERDICT.false c.commit_numbers-verdict.ensures.nodes;
+      res = lent_left _ _ _ _ _ c.if-answer-lt-VERDICT.false c.commit_numbers-verdict.ensures.res;
+      scratch = lent_left _ _ _ _ _ c.if-answer-lt-VERDICT.false c.commit_numbers-verdict.ensures.scratch;
+      nodes = lent_left _ _ _ _ _ c.if-answer-lt-VERDICT.false c.commit_numbers-verdict.ensures.nodes;
     }

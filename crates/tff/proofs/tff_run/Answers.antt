@@ -2,7 +2,7 @@
 -- Assumes nothing.
 use mathlib.Core.Path.{ap}
 use Rattle.answers.specs.Answer.{verdict_numbers}
-use Rattle.answers.proofs.Laws.{answer_kept, answer_put, lent_kept, lent-left}
+use Rattle.answers.proofs.Laws.{answer_kept, answer_put, lent_kept, lent_left}
 use Rattle.tff.proofs.tff_run.Goals as goal
 
 pub returns-then-answer-lt-VERDICT : goal.returns-then-answer-lt-VERDICT
@@ -16,5 +16,5 @@ pub returns : goal.returns
 returns c =
     record {
       answer = answer_put _ _ _ _ c.if-answer-lt-VERDICT.false (ap verdict_numbers c.run-verdict.ensures.verdict) c.put.ensures;
-      res = lent-left _ _ _ _ _ c.if-answer-lt-VERDICT.false c.run-verdict.ensures.outputs;
+      res = lent_left _ _ _ _ _ c.if-answer-lt-VERDICT.false c.run-verdict.ensures.outputs;
     }

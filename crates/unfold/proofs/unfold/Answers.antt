@@ -13,8 +13,8 @@ use Rattle.table.specs.Sound.{Sound}
 use Rattle.table.proofs.Accepted.{sound}
 use Rattle.table.proofs.Offsets.{arrays_stand}
 use Rattle.unfolded.specs.Unfolded.{gates_needed, unfolded_bytes, drawn_checked, unfold_checked}
-use Rattle.unfolded.proofs.Outcomes.{accepted, table_answer, drawn-answer, refused, unfolded}
-use Rattle.unfold.proofs.Circuits.{bytes-needed, bytes-stored, promises}
+use Rattle.unfolded.proofs.Outcomes.{accepted, table_answer, drawn_answer, refused, unfolded}
+use Rattle.unfold.proofs.Circuits.{bytes_needed, bytes_stored, promises}
 use Rattle.unfold.proofs.unfold.Goals as goal
 use Rattle.unfold.proofs.unfold.Goals.{In-Accepted, After-check_drawn-drawn}
 
@@ -32,11 +32,11 @@ gates_are : (d : After-check_drawn-drawn) → d.gates_needed-gates.result ≡ ga
 gates_are d = d.gates_needed-gates.ensures.0
 
 bytes_are : (d : After-check_drawn-drawn) → circuit_head + 4 * d.gates_needed-gates.result ≡ length (unfolded_bytes d.args.table.now)
-bytes_are d = ap (λ (n : ℕ). circuit_head + 4 * n) (gates_are d) ∙ sym (bytes-needed d.args.table.now)
+bytes_are d = ap (λ (n : ℕ). circuit_head + 4 * n) (gates_are d) ∙ sym (bytes_needed d.args.table.now)
 
 drawn-is : (d : After-check_drawn-drawn) → figures d.check_drawn-drawn.result ≡ unfold_checked d.args.table.now (length d.args.res.now)
 drawn-is d =
-    drawn-answer d.args.table.now (length d.args.res.now) d.in-Accepted.field-0 d.check-judged.result d.check_drawn-drawn.result d.check-judged.ensures.verdict d.in-Accepted.is
+    drawn_answer d.args.table.now (length d.args.res.now) d.in-Accepted.field-0 d.check-judged.result d.check_drawn-drawn.result d.check-judged.ensures.verdict d.in-Accepted.is
     (d.check_drawn-drawn.ensures ∙ ap₂ (λ (n m : ℕ). drawn_checked n m (length d.args.res.now)) (gates_are d) (bytes_are d))
 
 -- ---- the answers
@@ -68,7 +68,7 @@ write_circuit-requires c =
     let f = accepted c.args.table.now (length c.args.res.now) c.in-Accepted-drawn.field-0 (accepts c.check_drawn-drawn.result _ c.in-Accepted-drawn.field-0 (drawn-is d) c.in-Accepted-drawn.is) in record {
       sound = known (goal.at.write_circuit-requires c).In-Accepted;
       layout_value = (c.read-layout.ensures, c.read-sizes.ensures, gates_are d);
-      gates_le_most_gates = (omega (arith, gates_are d, f.gates-to), omega (arith, bytes_are d, f.room_enough));
+      gates_le_most_gates = (omega (arith, gates_are d, f.gates_to), omega (arith, bytes_are d, f.room_enough));
     }
 
 pub returns : goal.returns
@@ -80,5 +80,5 @@ returns c =
     let p =
     promises b r _ _
     (unfolded b r c.check_drawn-drawn.result (drawn-is d) c.in-Accepted-drawn.field-0 _ c.in-Accepted-drawn.is
-    (c.write_circuit.ensures ∙ bytes-stored b r ∙ ap (λ (k : ℕ). unfolded_bytes b ++ drop k r) (sym f.place_is))) in
+    (c.write_circuit.ensures ∙ bytes_stored b r ∙ ap (λ (k : ℕ). unfolded_bytes b ++ drop k r) (sym f.place_is))) in
     record { verdict = p.0; res = p.1.0; promised = p.1.1 }

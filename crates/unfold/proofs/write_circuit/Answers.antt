@@ -6,12 +6,12 @@ use Prim.Native.Nat.{◌+◌, ◌*◌, ◌^◌}
 use native.Mathlib.Omega.{arith}
 use lib.ListN.{length}
 use Rattle.words.specs.Words.{stored}
-use Rattle.words.proofs.Laws.{stored-length}
+use Rattle.words.proofs.Laws.{stored_length}
 use Rattle.sizes.specs.Sizes.{inputs, outputs, frames}
 use Rattle.sizes.specs.Sized.{Sized}
 use Rattle.sizes.specs.declared.Sizes.{Sizes}
 use Rattle.unfolded.specs.Unfolded.{drawn, gates_needed}
-use Rattle.unfold.proofs.Circuits.{circuit-stored}
+use Rattle.unfold.proofs.Circuits.{circuit_stored}
 use Rattle.unfold.proofs.write_circuit.Goals as goal
 
 pub overflow_cast-head : goal.overflow_cast-head
@@ -40,14 +40,14 @@ overflow_mul-target c =
     let sized : Sized 8 c.args.sizes.inputs c.args.sizes.outputs c.args.sizes.frames =
     rw c.requires.layout_value.1 c.requires.sound.headed.sized
     in
-    omega (arith, (sized).bits-to)
+    omega (arith, (sized).bits_to)
 
 pub overflow_add-target : goal.overflow_add-target
 overflow_add-target c =
     let sized : Sized 8 c.args.sizes.inputs c.args.sizes.outputs c.args.sizes.frames =
     rw c.requires.layout_value.1 c.requires.sound.headed.sized
     in
-    omega (arith, (sized).bits-to)
+    omega (arith, (sized).bits_to)
 
 pub draw-requires : goal.draw-requires
 draw-requires c =
@@ -55,7 +55,7 @@ draw-requires c =
     rw c.requires.layout_value.1 c.requires.sound.headed.sized
     in
     let length₁ : length ((c.store_all.new.bytes)) ≡ length c.args.res.now =
-    ap length c.store_all.ensures ∙ stored-length 2 _ 0 _ (omega (arith, c.requires.gates_le_most_gates.1))
+    ap length c.store_all.ensures ∙ stored_length 2 _ 0 _ (omega (arith, c.requires.gates_le_most_gates.1))
     in
     let z = sized in record {
       sound = c.requires.sound;
@@ -64,11 +64,11 @@ draw-requires c =
         (λ i. record { inputs = (c.requires.layout_value.1 i).inputs; words = (c.requires.layout_value.0 i).words; outputs = (c.requires.layout_value.1 i).outputs; base = 1 + (c.requires.layout_value.1 i).inputs * (c.requires.layout_value.1 i).frames; gates = c.requires.layout_value.2 i }),
         record {
           inputs_from = z.inputs_from;
-          inputs-to = z.inputs-to;
+          inputs_to = z.inputs_to;
           words_are = (λ i. (c.requires.layout_value.0 i).words) ∙ ap (λ (z : Sizes). 2 ^ z.inputs) (sym c.requires.layout_value.1);
-          outputs-to = z.outputs-to;
-          base-to = omega (arith, z.bits-to);
-          gates-to = c.requires.gates_le_most_gates.0;
+          outputs_to = z.outputs_to;
+          base_to = omega (arith, z.bits_to);
+          gates_to = c.requires.gates_le_most_gates.0;
           room = omega (arith, length₁, c.requires.gates_le_most_gates.1);
         },
       );
@@ -78,5 +78,5 @@ pub returns : goal.returns
 unfolding gates_needed
 returns c =
     let b = (c.args.table.now) in
-    circuit-stored (inputs b) (outputs b) (frames b) c.args.gates (drawn b) c.args.res.now (c.store_all.new.bytes) _
+    circuit_stored (inputs b) (outputs b) (frames b) c.args.gates (drawn b) c.args.res.now (c.store_all.new.bytes) _
     (c.store_all.ensures ∙ (λ i. stored 2 c.args.res.now 0 ((c.requires.layout_value.1 i).inputs ∷ (c.requires.layout_value.1 i).outputs ∷ (c.requires.layout_value.1 i).frames ∷ c.args.gates ∷ []))) c.requires.layout_value.2 c.draw.ensures c.requires.gates_le_most_gates.1

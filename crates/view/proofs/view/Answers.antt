@@ -10,7 +10,7 @@ use Rattle.verdict.specs.Judgements.{answer, figures, refuse, and_then}
 use Rattle.verdict.specs.declared.Figures.{Figures}
 use Rattle.verdict.specs.declared.Verdict.{Verdict}
 use Rattle.verdict.proofs.Laws.{stop, go_on, accepts, both_accept}
-use Rattle.sizes.specs.Sizes.{inputs, outputs, frames as framesOf, sequence_checked}
+use Rattle.sizes.specs.Sizes.{inputs, outputs, frames as frames_of, sequence_checked}
 use Rattle.sizes.specs.Sized.{Fed, sizes_of}
 use Rattle.sizes.specs.declared.Sizes.{Sizes}
 use Rattle.sizes.proofs.Laws.{fed}
@@ -22,7 +22,7 @@ use Rattle.view.proofs.view.Goals as goal
 
 -- what is judged behind the table: the mask, then the words and the room
 abbrev rest : (b : List ℕ) (mask : ℕ) (words : List ℕ) (room : ℕ) → Figures
-rest b mask words room = and_then (mask_checked (outputs b) mask) (sequence_checked (inputs b) (framesOf b) words room)
+rest b mask words room = and_then (mask_checked (outputs b) mask) (sequence_checked (inputs b) (frames_of b) words room)
 
 module _ (b : List ℕ) (mask : ℕ) (words : List ℕ) (room : ℕ) where
   -- by the sizes that are read it is what the code judges
@@ -33,7 +33,7 @@ module _ (b : List ℕ) (mask : ℕ) (words : List ℕ) (room : ℕ) where
       e ∙ ap₂ and_then (en ∙ ap (λ (k : ℕ). refuse (leb k mask) 17 0 (answer 0 0)) (el ∙ ap (λ (s : Sizes). 2 ^ s.outputs) es)) (ef ∙ ap (λ (s : Sizes). sequence_checked s.inputs s.frames words room) es)
 
   -- where it is accepted, the words are fed and have room
-  rest_fed : (p : ℕ) → rest b mask words room ≡ answer 0 p → Fed (inputs b) (framesOf b) words × (framesOf b ≤ room) × (p ≡ framesOf b)
+  rest_fed : (p : ℕ) → rest b mask words room ≡ answer 0 p → Fed (inputs b) (frames_of b) words × (frames_of b ≤ room) × (p ≡ frames_of b)
   rest_fed p e = fed _ _ words room _ (both_accept (mask_checked (outputs b) mask) _ _ e).2
 
 pub returns-in_default : goal.returns-in_default
@@ -87,7 +87,7 @@ returns c =
     let e : figures c.and_then-seen.result ≡ viewed c.args.table.now c.args.mask c.args.words.now (length c.args.res.now) =
     go_on c.check-judged.result _ _ _ c.in-Accepted.field-0 c.check-judged.ensures.verdict c.in-Accepted.is (rest_is c.args.table.now c.args.mask c.args.words.now (length c.args.res.now) c.read-sizes.result c.read-sizes.ensures c.power.result c.power.ensures c.refuse_if-narrow.result c.check_sequence-fed.result c.and_then-seen.result c.refuse_if-narrow.ensures c.check_sequence-fed.ensures c.and_then-seen.ensures)
     in
-    let v : answer 0 (framesOf c.args.table.now) ≡ viewed c.args.table.now c.args.mask c.args.words.now (length c.args.res.now) =
+    let v : answer 0 (frames_of c.args.table.now) ≡ viewed c.args.table.now c.args.mask c.args.words.now (length c.args.res.now) =
     ap (answer 0) (sym f.2) ∙ sym (ap figures c.in-Accepted-seen.is) ∙ e
     in
     record {

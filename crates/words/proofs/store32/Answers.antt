@@ -5,7 +5,7 @@ use mathlib.Core.List.{List, [], ◌∷◌}
 use Prim.Native.Nat.{ℕ, ◌+◌, ◌/◌}
 use native.Mathlib.Omega.{arith}
 use Rattle.words.specs.Words.{stored}
-use Rattle.words.proofs.Laws.{stored-join, stored_low}
+use Rattle.words.proofs.Laws.{stored_join, stored_low}
 use Rattle.words.proofs.store32.Goals as goal
 
 pub returns : goal.returns
@@ -14,4 +14,4 @@ returns c =
     c.store-2.ensures
     ∙ stored_low _ (c.args.at + 2) (c.args.word / 65536)
     ∙ ap (λ v. stored 2 v (c.args.at + 2) (c.args.word / 65536 ∷ [])) (c.store.ensures ∙ stored_low b c.args.at c.args.word)
-    ∙ stored-join 2 2 b c.args.at c.args.word (omega arith)
+    ∙ stored_join 2 2 b c.args.at c.args.word (omega arith)

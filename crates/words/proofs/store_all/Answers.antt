@@ -5,12 +5,12 @@ use Prim.Native.Nat.{ℕ}
 use native.Mathlib.Omega.{arith}
 use lib.ListN.{length, take, length-take}
 use Rattle.words.specs.Words.{stored}
-use Rattle.words.proofs.Laws.{stored-none, stored-length, taken_more}
+use Rattle.words.proofs.Laws.{stored_none, stored_length, taken_more}
 use Rattle.words.proofs.store_all.Goals as goal
 
 pub loop-i-init : goal.loop-i-init
 loop-i-init c =
-    (omega arith, sym (stored-none 2 _ _))
+    (omega arith, sym (stored_none 2 _ _))
 
 pub overflow_mul-i : goal.overflow_mul-i
 overflow_mul-i c =
@@ -28,7 +28,7 @@ pub store-requires : goal.store-requires
 store-requires c =
     let len : length c.loop-i.bytes ≡ length c.args.bytes.now =
     let n : length (take c.loop-i.i c.args.numbers.now) ≡ c.loop-i.i = length-take c.loop-i.i c.args.numbers.now ∙ omega (arith, c.requires, c.loop-i.invariant.0) in
-    ap length c.loop-i.invariant.1 ∙ stored-length 2 _ _ (take c.loop-i.i c.args.numbers.now) (omega (arith, c.requires, c.loop-i.invariant.0))
+    ap length c.loop-i.invariant.1 ∙ stored_length 2 _ _ (take c.loop-i.i c.args.numbers.now) (omega (arith, c.requires, c.loop-i.invariant.0))
     in
     omega (arith, c.requires, len)
 

@@ -7,10 +7,10 @@ use native.Mathlib.Numerals.{add-one}
 use native.Mathlib.Omega.{arith}
 use lib.ListN.{length}
 use Rattle.words.specs.Words.{stored}
-use Rattle.words.proofs.Laws.{stored-none, stored-length, stored-behind}
+use Rattle.words.proofs.Laws.{stored_none, stored_length, stored_behind}
 use Rattle.sizes.specs.Sizes.{frames}
 use Rattle.layered.specs.Search.{join, tabulate}
-use Rattle.layered.proofs.Lists.{tabulate-length}
+use Rattle.layered.proofs.Lists.{tabulate_length}
 use Rattle.circuit.specs.Circuit.{connected_outputs}
 use Rattle.circuit.specs.WellFormed.{WellFormed}
 use Rattle.source.specs.Source.{head_of, sourced}
@@ -26,7 +26,7 @@ first b t = tabulate t (connected_outputs b)
 pub loop-t-init : goal.loop-t-init
 unfolding join tabulate
 loop-t-init c =
-    (omega arith, sym (stored-none 2 _ _))
+    (omega arith, sym (stored_none 2 _ _))
 
 pub connected_outputs-word-requires : goal.connected_outputs-word-requires
 connected_outputs-word-requires c =
@@ -52,10 +52,10 @@ store-requires c =
     in
     let room : connected_at (frames ((sourced c.args.source c.args.circuit.now))) 0 + 2 * length (first ((sourced c.args.source c.args.circuit.now)) c.loop-t.t) ≤ length c.args.res.now =
     let b = (sourced c.args.source c.args.circuit.now) in
-    omega (arith, connected-at (frames b) 0, head_length_lem (frames b), tabulate-length c.loop-t.t (connected_outputs b), c.loop-t.invariant.0, (known).head_is, c.requires.circuit_in_bounds)
+    omega (arith, connected-at (frames b) 0, head_length_lem (frames b), tabulate_length c.loop-t.t (connected_outputs b), c.loop-t.invariant.0, (known).head_is, c.requires.circuit_in_bounds)
     in
     let len : length c.loop-t.res ≡ length c.args.res.now =
-    ap length c.loop-t.invariant.1 ∙ stored-length 2 _ _ _ (room)
+    ap length c.loop-t.invariant.1 ∙ stored_length 2 _ _ _ (room)
     in
     let place : c.connected_at.result ≡ connected_at (frames ((sourced c.args.source c.args.circuit.now))) 0 + 2 * c.loop-t.t =
     let b = (sourced c.args.source c.args.circuit.now) in
@@ -75,7 +75,7 @@ loop-t-preserved c =
     in
     let room : connected_at (frames ((sourced c.args.source c.args.circuit.now))) 0 + 2 * length (first ((sourced c.args.source c.args.circuit.now)) c.loop-t.t) ≤ length c.args.res.now =
     let b = (sourced c.args.source c.args.circuit.now) in
-    omega (arith, connected-at (frames b) 0, head_length_lem (frames b), tabulate-length c.loop-t.t (connected_outputs b), c.loop-t.invariant.0, (known).head_is, c.requires.circuit_in_bounds)
+    omega (arith, connected-at (frames b) 0, head_length_lem (frames b), tabulate_length c.loop-t.t (connected_outputs b), c.loop-t.invariant.0, (known).head_is, c.requires.circuit_in_bounds)
     in
     let place : c.connected_at.result ≡ connected_at (frames ((sourced c.args.source c.args.circuit.now))) 0 + 2 * c.loop-t.t =
     let b = (sourced c.args.source c.args.circuit.now) in
@@ -85,8 +85,8 @@ loop-t-preserved c =
     let t : ℕ = c.loop-t.t in (
       omega arith,
       c.store.ensures
-          ∙ stored-behind 2 c.args.res.now c.loop-t.res (connected_at (frames b) 0) (first b t) _ c.connected_at.result c.loop-t.invariant.1
-          (place ∙ omega (arith, tabulate-length t (connected_outputs b))) (room)
+          ∙ stored_behind 2 c.args.res.now c.loop-t.res (connected_at (frames b) 0) (first b t) _ c.connected_at.result c.loop-t.invariant.1
+          (place ∙ omega (arith, tabulate_length t (connected_outputs b))) (room)
           ∙ ap (λ (x : ℕ). stored 2 c.args.res.now (connected_at (frames b) 0) (first b t ++ (x ∷ []))) c.connected_outputs-word.ensures.0
           ∙ ap (λ (t : ℕ). stored 2 c.args.res.now (connected_at (frames b) 0) (first b t)) (sym (add-one t)),
     )

@@ -51,7 +51,7 @@ returns c =
     in
     let b = (sourced c.args.source c.args.circuit.now) in
     let h = (known).head_is in
-    head_stored b c.args.res.now c.args.counts.now (omega (arith, head_length_lem (frames b), c.requires.circuit_in_bounds)) c.requires.counts_to (known).headed.sizes.frames-to
+    head_stored b c.args.res.now c.args.counts.now (omega (arith, head_length_lem (frames b), c.requires.circuit_in_bounds)) c.requires.counts_to (known).headed.sizes.frames_to
     c.store_all.new.bytes c.store_all-2.new.bytes c.put_connected.new.res (c.args.source.frames + 1) (connected_at (frames b) 0)
     (ap (λ (t : ℕ). t + 1) h.frames_is) (omega (arith, connected-at (frames b) 0))
     (c.store_all.ensures ∙ ap (stored 2 c.args.res.now 0) (first-words _ _ _ b h.inputs_is h.outputs_is h.frames_is))

@@ -6,22 +6,22 @@ use native.Mathlib.Numerals.{add-one}
 use native.Mathlib.Omega.{arith}
 use lib.ListN.{replicate, length, get_or, take, drop, length-append, length-take, length-drop}
 use Rattle.words.specs.Words.{stored}
-use Rattle.words.proofs.Laws.{stored-none, stored-length, stored-behind}
+use Rattle.words.proofs.Laws.{stored_none, stored_length, stored_behind}
 use Rattle.explore.specs.Explore.{layer_at}
 use Rattle.explore.proofs.Layers.{layer_next, half_to}
-use Rattle.write.proofs.Nexts.{layer_one, nexts_in, nexts-none, nexts_layer, part_lent, part_in, from_to, next_room, nexts_whole}
+use Rattle.write.proofs.Nexts.{layer_one, nexts_in, nexts_none, nexts_layer, part_lent, part_in, from_to, next_room, nexts_whole}
 use Rattle.write.proofs.put_nexts.Goals as goal
 
 pub loop-t-init : goal.loop-t-init
 loop-t-init c =
-    let z = nexts-none c.args.layout c.args.scratch.now c.args.counts.now in
-    (omega arith, sym (layer_one _), omega (arith, ap length z), sym (ap (stored 2 c.args.res.now c.args.at) z ∙ stored-none 2 _ _))
+    let z = nexts_none c.args.layout c.args.scratch.now c.args.counts.now in
+    (omega arith, sym (layer_one _), omega (arith, ap length z), sym (ap (stored 2 c.args.res.now c.args.at) z ∙ stored_none 2 _ _))
 
 pub store_all-requires : goal.store_all-requires
 store_all-requires c =
     let inside : c.loop-t.t < c.args.layout.frames = omega (arith, c.loop-t.invariant.0, c.requires.laid.frames_from) in
     let fits : c.args.at + 2 * length (nexts_in c.args.layout c.args.scratch.now c.args.counts.now c.loop-t.t) + 2 * (get_or c.args.counts.now c.loop-t.t 0 * c.args.layout.fan) ≤ length c.args.res.now = next_room _ _ _ _ _ c.requires c.loop-t.t inside in
-    let len : length c.loop-t.res ≡ length c.args.res.now = ap length c.loop-t.invariant.3 ∙ stored-length 2 _ _ _ (omega (arith, fits)) in
+    let len : length c.loop-t.res ≡ length c.args.res.now = ap length c.loop-t.invariant.3 ∙ stored_length 2 _ _ _ (omega (arith, fits)) in
     let more : suc c.loop-t.t < c.args.layout.frames = omega (arith, c.loop-t-test.true) in
     let part : c.args.layout.half + layer_at c.args.layout.fan (suc c.loop-t.t) + get_or c.args.counts.now c.loop-t.t 0 * c.args.layout.fan ≤ length c.args.scratch.now = part_in _ _ _ _ _ c.requires c.loop-t.t more in
     (rw (length-take, length-drop) (omega (arith, part, c.loop-t.invariant.1)), omega (arith, fits, len, c.loop-t.invariant.2))
@@ -43,7 +43,7 @@ loop-t-preserved c =
       next_from ∙ sym (layer_next c.args.layout.fan (suc t)) ∙ ap (λ (t : ℕ). layer_at c.args.layout.fan (suc t)) (sym (add-one t)),
       omega (arith, c.loop-t.invariant.2, ap length e ∙ length-append (v t) _, k),
       c.store_all.ensures ∙ ap (stored 2 c.loop-t.res c.loop-t.end) q
-          ∙ stored-behind 2 c.args.res.now c.loop-t.res c.args.at (v t) _ c.loop-t.end c.loop-t.invariant.3 c.loop-t.invariant.2 (omega (arith, fits))
+          ∙ stored_behind 2 c.args.res.now c.loop-t.res c.args.at (v t) _ c.loop-t.end c.loop-t.invariant.3 c.loop-t.invariant.2 (omega (arith, fits))
           ∙ ap (stored 2 c.args.res.now c.args.at) (sym e),
     )
 
@@ -51,7 +51,7 @@ pub put_zeros-requires : goal.put_zeros-requires
 put_zeros-requires c =
     let inside : c.loop-t.t < c.args.layout.frames = omega (arith, c.loop-t.invariant.0, c.requires.laid.frames_from) in
     let fits : c.args.at + 2 * length (nexts_in c.args.layout c.args.scratch.now c.args.counts.now c.loop-t.t) + 2 * (get_or c.args.counts.now c.loop-t.t 0 * c.args.layout.fan) ≤ length c.args.res.now = next_room _ _ _ _ _ c.requires c.loop-t.t inside in
-    let len : length c.loop-t.res ≡ length c.args.res.now = ap length c.loop-t.invariant.3 ∙ stored-length 2 _ _ _ (omega (arith, fits)) in
+    let len : length c.loop-t.res ≡ length c.args.res.now = ap length c.loop-t.invariant.3 ∙ stored_length 2 _ _ _ (omega (arith, fits)) in
     let at_last : c.loop-t.t ≡ c.args.layout.frames - 1 =
     omega (arith, c.loop-t.invariant.0)
     in

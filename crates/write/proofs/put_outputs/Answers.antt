@@ -6,7 +6,7 @@ use Rattle.descend.specs.Descend.{Traced}
 use Rattle.descend.specs.declared.Job.{Job}
 use Rattle.explore.proofs.Layers.{two_words}
 use Rattle.write.specs.declared.Writing.{Writing}
-use Rattle.write.proofs.Rows.{row-to, doing_first, doing_ends, at_row, row_room, row_traceable, doing_on}
+use Rattle.write.proofs.Rows.{row_to, doing_first, doing_ends, at_row, row_room, row_traceable, doing_on}
 use Rattle.write.proofs.put_outputs.Goals as goal
 
 pub loop-writing-init : goal.loop-writing-init
@@ -46,5 +46,5 @@ returns c =
 pub loop-writing-smaller : goal.loop-writing-smaller
 loop-writing-smaller c =
     let room = row_room _ _ _ _ _ _ _ c.requires _ _ _ (c.loop-writing.invariant c.requires) c.loop-writing-test.true in
-    let step = ap (λ (w : Writing). w.to) c.next_row-next.ensures ∙ row-to c.args.layout c.args.counts.now c.loop-writing.writing in
+    let step = ap (λ (w : Writing). w.to) c.next_row-next.ensures ∙ row_to c.args.layout c.args.counts.now c.loop-writing.writing in
     omega (arith, room, step, two_words c.args.layout c.requires.laid, c.put_row.auto.res, c.loop-writing.auto.res)

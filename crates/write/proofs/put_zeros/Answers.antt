@@ -6,13 +6,13 @@ use Prim.Native.Nat.{ℕ, ◌+◌, ◌*◌, ◌≤◌}
 use native.Mathlib.Omega.{arith}
 use lib.ListN.{length, replicate, length-replicate}
 use Rattle.words.specs.Words.{stored}
-use Rattle.words.proofs.Laws.{stored-none, stored-length, stored-behind}
+use Rattle.words.proofs.Laws.{stored_none, stored_length, stored_behind}
 use Rattle.write.proofs.Nexts.{one_more}
 use Rattle.write.proofs.put_zeros.Goals as goal
 
 pub loop-i-init : goal.loop-i-init
 loop-i-init c =
-    (omega arith, sym (stored-none 2 _ _))
+    (omega arith, sym (stored_none 2 _ _))
 
 pub store-requires : goal.store-requires
 store-requires c =
@@ -20,7 +20,7 @@ store-requires c =
     omega (arith, c.requires, c.loop-i.invariant.0, length-replicate {A = ℕ} c.loop-i.i 0)
     in
     let len : length c.loop-i.res ≡ length c.args.res.now =
-    ap length c.loop-i.invariant.1 ∙ stored-length 2 _ _ _ (room)
+    ap length c.loop-i.invariant.1 ∙ stored_length 2 _ _ _ (room)
     in
     omega (arith, c.requires, len)
 
@@ -31,7 +31,7 @@ loop-i-preserved c =
     in (
       omega arith,
       c.store.ensures
-          ∙ stored-behind 2 c.args.res.now c.loop-i.res c.args.at (replicate c.loop-i.i 0) (0 ∷ []) _ c.loop-i.invariant.1 (omega (arith, length-replicate {A = ℕ} c.loop-i.i 0)) (room)
+          ∙ stored_behind 2 c.args.res.now c.loop-i.res c.args.at (replicate c.loop-i.i 0) (0 ∷ []) _ c.loop-i.invariant.1 (omega (arith, length-replicate {A = ℕ} c.loop-i.i 0)) (room)
           ∙ ap (stored 2 c.args.res.now c.args.at) (one_more 0 c.loop-i.i),
     )
 

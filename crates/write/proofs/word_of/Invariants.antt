@@ -12,8 +12,8 @@ use Rattle.circuit.specs.Lists.{packed, listed}
 use Rattle.write.proofs.word_of.Given as goal
 
 -- the bits of all outputs
-abbrev bitsIn : (ws : List ℕ) (from m : ℕ) → List Bool
-bitsIn ws from m = listed [] (λ j. eqb (get_or ws (from + j) 0) 1) m
+abbrev bits_in : (ws : List ℕ) (from m : ℕ) → List Bool
+bits_in ws from m = listed [] (λ j. eqb (get_or ws (from + j) 0) 1) m
 
 -- a truth value as a digit
 byte-most : (v : Bool) → bool_byte v ≤ 1
@@ -26,7 +26,7 @@ byte-is false = refl
 
 abbrev pub invariant-loop-k : goal.invariant-loop-k
 invariant-loop-k l =
-    (l.k ≤ l.outputs) × (l.word ≡ packed (take (l.outputs - l.k) (drop l.k (bitsIn l.work l.from l.outputs))))
+    (l.k ≤ l.outputs) × (l.word ≡ packed (take (l.outputs - l.k) (drop l.k (bits_in l.work l.from l.outputs))))
 
 abbrev pub decreases-loop-k : goal.decreases-loop-k
 decreases-loop-k l =

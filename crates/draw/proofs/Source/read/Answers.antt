@@ -22,7 +22,7 @@ overflow_mul-edges c =
     let layout_of : Laid ((c.args.table.now)) c.args.layout =
     laid ((c.args.table.now)) c.args.layout c.requires.table_headed c.requires.layout_value.0
     in
-    omega (arith, row_small _ c.args.layout.words c.states_of.ensures.1 (layout_of).words-to)
+    omega (arith, row_small _ c.args.layout.words c.states_of.ensures.1 (layout_of).words_to)
 
 pub entries_below-below-requires : goal.entries_below-below-requires
 entries_below-below-requires c =
@@ -30,7 +30,7 @@ entries_below-below-requires c =
     laid ((c.args.table.now)) c.args.layout c.requires.table_headed c.requires.layout_value.0
     in
     record {
-      words_value = ((layout_of).words_is, (layout_of).words-to);
+      words_value = ((layout_of).words_is, (layout_of).words_to);
       layer_le_most_frames = (omega (arith, c.requires.layout_value.1, c.requires.table_headed.sized), omega (arith, c.requires.layout_value.1, count_in (c.args.table.now) c.requires.table_headed c.args.t (omega (arith, c.requires.layout_value.1))));
     }
 
@@ -46,7 +46,7 @@ overflow_add-result-2 c =
     let layout_of : Laid ((c.args.table.now)) c.args.layout =
     laid ((c.args.table.now)) c.args.layout c.requires.table_headed c.requires.layout_value.0
     in
-    omega (arith, (layout_of).outputs-at, (layout_of).frames-to, c.entries_below-below.ensures.1)
+    omega (arith, (layout_of).outputs-at, (layout_of).frames_to, c.entries_below-below.ensures.1)
 
 pub returns : goal.returns
 returns c =

@@ -14,7 +14,7 @@ entries_below-entries-requires c =
     laid c.args.table.now c.args.layout c.requires.table_headed c.requires.layout_value.0
     in
     record {
-      words_value = (layout_of.words_is, layout_of.words-to);
+      words_value = (layout_of.words_is, layout_of.words_to);
       layer_le_most_frames = (omega (arith, c.requires.layout_value.1, c.requires.table_headed.sized), omega (arith, count_in c.args.table.now c.requires.table_headed c.args.t (omega (arith, c.requires.layout_value.1))));
     }
 
@@ -32,14 +32,14 @@ states_below-all-requires c =
     laid c.args.table.now c.args.layout c.requires.table_headed c.requires.layout_value.0
     in
     let l = layout_of in
-    (omega (arith, l.frames-to), omega (arith, l.end_at, l.nexts-at, l.outputs-at))
+    (omega (arith, l.frames_to), omega (arith, l.end_at, l.nexts-at, l.outputs-at))
 
 pub head_bytes-requires : goal.head_bytes-requires
 head_bytes-requires c =
     let layout_of : Laid c.args.table.now c.args.layout =
     laid c.args.table.now c.args.layout c.requires.table_headed c.requires.layout_value.0
     in
-    layout_of.frames-to
+    layout_of.frames_to
 
 pub overflow_add-result : goal.overflow_add-result
 overflow_add-result c =

@@ -36,7 +36,7 @@ entries_below-entries-requires c =
     ap (λ (s : Sizes). s.frames) c.read-sizes.ensures
     in
     let w : c.power-words.result ≡ 2 ^ inputs c.args.table.now = c.power-words.ensures ∙ ap (λ (n : ℕ). 2 ^ n) (inputs_is) in record {
-      words_value = (w, omega (arith, words_most (inputs c.args.table.now) c.requires.sized.inputs-to));
+      words_value = (w, omega (arith, words_most (inputs c.args.table.now) c.requires.sized.inputs_to));
       layer_le_most_frames = (omega (arith, frames_is, c.requires), omega (arith, frames_is, c.requires, arrays_stand c.args.table.now));
     }
 

@@ -232,7 +232,7 @@ entries_below-entries-requires c =
     c.head_length-head.ensures ∙ ap head_length (frames_is)
     in
     let w : c.power.result ≡ 2 ^ inputs (c.args.table.now) = c.power.ensures ∙ ap (λ (n : ℕ). 2 ^ n) (inputs_is) in record {
-      words_value = (w, omega (arith, words_most (inputs (c.args.table.now)) (sized₁).inputs-to));
+      words_value = (w, omega (arith, words_most (inputs (c.args.table.now)) (sized₁).inputs_to));
       layer_le_most_frames = (omega (arith, frames_is, sized₁), omega (arith, c.if-length-head.false, head_is, head_length_lem (frames (c.args.table.now)), frames_is));
     }
 

@@ -100,7 +100,7 @@ entries_below-below-requires c =
     in
     let l = laid₂ in
     record {
-      words_value = (l.words_is, l.words-to);
+      words_value = (l.words_is, l.words_to);
       layer_le_most_frames = (omega (arith, l, low₃), omega (arith, count₃));
     }
 
@@ -144,7 +144,7 @@ overflow_mul-entries c =
     laid ((c.args.table.now)) c.read-layout.result (headed₁) c.read-layout.ensures
     in
     let few₄ : c.states_of.result * c.read-layout.result.words ≤ 16777216 =
-    row_small _ _ c.states_of.ensures.1 (laid₂).words-to
+    row_small _ _ c.states_of.ensures.1 (laid₂).words_to
     in
     omega (arith, few₄)
 
@@ -163,7 +163,7 @@ overflow_mul-result c =
     laid ((c.args.table.now)) c.read-layout.result (headed₁) c.read-layout.ensures
     in
     let few₄ : c.states_of.result * c.read-layout.result.words ≤ 16777216 =
-    row_small _ _ c.states_of.ensures.1 (laid₂).words-to
+    row_small _ _ c.states_of.ensures.1 (laid₂).words_to
     in
     omega (arith, few₄, c.entries_below-below.ensures.1)
 
@@ -182,7 +182,7 @@ overflow_add-result c =
     laid ((c.args.table.now)) c.read-layout.result (headed₁) c.read-layout.ensures
     in
     let few₄ : c.states_of.result * c.read-layout.result.words ≤ 16777216 =
-    row_small _ _ c.states_of.ensures.1 (laid₂).words-to
+    row_small _ _ c.states_of.ensures.1 (laid₂).words_to
     in
     omega (arith, laid₂, few₄, c.entries_below-below.ensures.1)
 
@@ -201,7 +201,7 @@ overflow_mul-result-2 c =
     laid ((c.args.table.now)) c.read-layout.result (headed₁) c.read-layout.ensures
     in
     let few₄ : c.states_of.result * c.read-layout.result.words ≤ 16777216 =
-    row_small _ _ c.states_of.ensures.1 (laid₂).words-to
+    row_small _ _ c.states_of.ensures.1 (laid₂).words_to
     in
     omega (arith, few₄)
 

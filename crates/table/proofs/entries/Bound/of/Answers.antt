@@ -22,7 +22,7 @@ connected_of-by-requires c =
     laid c.args.table.now c.args.layout c.requires.table_headed c.requires.layout_value
     in
     let l = laid₀ in record {
-      last_value = (l.frames_is, l.frames-to, omega (arith, c.requires));
+      last_value = (l.frames_is, l.frames_to, omega (arith, c.requires));
       last_in_bounds = omega (arith, l.end_at, head_length_lem c.args.layout.frames);
     }
 
