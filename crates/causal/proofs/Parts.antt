@@ -13,7 +13,7 @@ use Rattle.sizes.specs.Sizes.{inputs, frames}
 use Rattle.layered.specs.Search.{every}
 use Rattle.layered.proofs.Search.{every_true, every_each}
 use Rattle.circuit.specs.Lists.{bit, block_start}
-use Rattle.circuit.specs.Circuit.{all_outputs, frame_of, output_on_lem, later_inputs, as_first}
+use Rattle.circuit.specs.Circuit.{all_outputs, frame_of, output_on, later_inputs, as_first}
 use Rattle.circuit.specs.WellFormed.{CircuitHeaded, HeadOf}
 use Rattle.circuit.specs.declared.Head.{Head}
 use Rattle.circuit.proofs.Ahead.{beq_same, same_beq, output_parts}
@@ -47,15 +47,15 @@ module _ (b : List ℕ) (H : CircuitHeaded b) (s : Head) (O : HeadOf b s) (q : �
 -- ---- one output on a part
 
 -- what its lanes are due to be: those of the first sequences
-pub due_holds : (b : List ℕ) (at q bits seen due kept : ℕ) → bits ≡ later_inputs b q → Holds seen at (output_on_lem b q)
-    → (0 < at → Holds kept (at - lane_count) (λ x. output_on_lem b q (block_start (later_inputs b q) x)))
+pub due_holds : (b : List ℕ) (at q bits seen due kept : ℕ) → bits ≡ later_inputs b q → Holds seen at (output_on b q)
+    → (0 < at → Holds kept (at - lane_count) (λ x. output_on b q (block_start (later_inputs b q) x)))
     → ((v : ℕ → Bool) → Holds seen at v → (0 < at → Holds kept (at - lane_count) (λ x. v (block_start bits x))) → Holds due at (λ x. v (block_start bits x)))
-    → Holds due at (λ x. output_on_lem b q (block_start (later_inputs b q) x))
+    → Holds due at (λ x. output_on b q (block_start (later_inputs b q) x))
 due_holds b at q bits seen due kept e S K f =
-    subst (λ k. Holds due at (λ x. output_on_lem b q (block_start k x))) e
-    (f (output_on_lem b q) S (λ p. subst (λ k. Holds kept (at - lane_count) (λ x. output_on_lem b q (block_start k x))) (sym e) (K p)))
+    subst (λ k. Holds due at (λ x. output_on b q (block_start k x))) e
+    (f (output_on b q) S (λ p. subst (λ k. Holds kept (at - lane_count) (λ x. output_on b q (block_start k x))) (sym e) (K p)))
 
-module _ (b : List ℕ) (at q seen due : ℕ) (S : Holds seen at (output_on_lem b q)) (D : Holds due at (λ x. output_on_lem b q (block_start (later_inputs b q) x))) where
+module _ (b : List ℕ) (at q seen due : ℕ) (S : Holds seen at (output_on b q)) (D : Holds due at (λ x. output_on b q (block_start (later_inputs b q) x))) where
   -- its lanes are those of the first sequences
   pub part_same : seen ≡ due → part_as_first b at q ≡ true
   unfolding part_as_first as_first Holds
@@ -64,9 +64,9 @@ module _ (b : List ℕ) (at q seen due : ℕ) (S : Holds seen at (output_on_lem 
   -- they are not
   pub part_apart : seen < 2 ^ lane_count → due < 2 ^ lane_count → ¬ (seen ≡ due) → part_as_first b at q ≡ false
   unfolding part_as_first as_first
-  part_apart hs hd n = go (part_as_first b at q) refl (holds_apart seen due at (output_on_lem b q) (λ x. output_on_lem b q (block_start (later_inputs b q) x)) hs hd S D n)
+  part_apart hs hd n = go (part_as_first b at q) refl (holds_apart seen due at (output_on b q) (λ x. output_on b q (block_start (later_inputs b q) x)) hs hd S D n)
     where
-      go : (t : Bool) → every lane_count (λ j. as_first b q (at + j)) ≡ t → (j : ℕ) × (j < lane_count) × ¬ (output_on_lem b q (at + j) ≡ output_on_lem b q (block_start (later_inputs b q) (at + j))) → t ≡ false
+      go : (t : Bool) → every lane_count (λ j. as_first b q (at + j)) ≡ t → (j : ℕ) × (j < lane_count) × ¬ (output_on b q (at + j) ≡ output_on b q (block_start (later_inputs b q) (at + j))) → t ≡ false
       go true e (j, l, d) = absurd (d (beq_same _ _ (every_each (λ j. as_first b q (at + j)) lane_count e j l)))
       go false e r = refl
 
@@ -74,11 +74,11 @@ module _ (b : List ℕ) (at q seen due : ℕ) (S : Holds seen at (output_on_lem 
 
 module _ (b : List ℕ) (at : ℕ) (k : List ℕ) (q due : ℕ) where
   -- one output more
-  pub firsts_more : (from : ℕ) → q < length k → Firsts b at k from q → Holds due at (λ x. output_on_lem b q (block_start (later_inputs b q) x)) → Firsts b at (set k q due) from (q + 1)
+  pub firsts_more : (from : ℕ) → q < length k → Firsts b at k from q → Holds due at (λ x. output_on b q (block_start (later_inputs b q) x)) → Firsts b at (set k q due) from (q + 1)
   unfolding Firsts
   firsts_more from room F D i lo hi = go (dec_lt i q)
     where
-      go : Dec (i < q) → Holds (get_or (set k q due) i 0) at (λ x. output_on_lem b i (block_start (later_inputs b i) x))
+      go : Dec (i < q) → Holds (get_or (set k q due) i 0) at (λ x. output_on b i (block_start (later_inputs b i) x))
       go (yes l) = rw (get_or-set_other k q i due 0 (λ e. omega arith)) (F i lo l)
       go (no n) =
           let e : i ≡ q = omega arith in

@@ -23,7 +23,7 @@ use Rattle.circuit.proofs.Bits.{equal_bits}
 use Rattle.circuit.proofs.Lists.{listed_at, listed_length, grown_start}
 use Rattle.circuit.proofs.Laws.{packed_below}
 use Rattle.circuit.proofs.Ahead.{output_value}
-use Rattle.functions.specs.Functions.{signal_on, output_on_lem}
+use Rattle.functions.specs.Functions.{signal_on, output_on}
 use Rattle.functions.proofs.Sequences.{bits_of, words_listed}
 use Rattle.functions.proofs.Outputs.{values_on}
 use Rattle.source.specs.Rearranged.{item_at}
@@ -70,8 +70,8 @@ module _ (b : List ℕ) (H : CircuitHeaded b) (x : ℕ) where
   constant_value : get_or (signal_values b words (gates b)) 0 false ≡ false
   constant_value = ap (λ v. get_or v 0 false) (values_on b H words (history_length (2 ^ inputs b) (frames b) x)) ∙ grown_start _ (gate_value b) false (gates b) 0 (omega arith)
 
-  output_is : (q : ℕ) → q < all_outputs b → circuit.output_on_lem b q x ≡ output_on_lem b q (bits_of (inputs b) words)
-  unfolding circuit.output_on_lem output_on_lem output_signal gate_signal
+  output_is : (q : ℕ) → q < all_outputs b → circuit.output_on b q x ≡ output_on b q (bits_of (inputs b) words)
+  unfolding circuit.output_on output_on output_signal gate_signal
   output_is q h =
       let e : 1 + all_inputs b + gate_of_output b q ≡ suc (all_inputs b + gate_of_output b q) = omega arith in
       output_value b H q h words ∙ ap (λ i. get_or (signal_values b words (gates b)) i false) e ∙ signal_value (all_inputs b + gate_of_output b q)
@@ -104,8 +104,8 @@ module _ (c : List ℕ) (s : Source) (bits shown : List ℕ) (OB : OwnBits s bit
     unfolding item_in
     item_same q = rw e
 
-    stands_played : (q : ℕ) → q < all_outputs c → q < most_all_outputs → (j : ℕ) → j < lane_count → bit (get_or v (get_or shown q 0) 0) j ≡ circuit.output_on_lem c q (at + j)
-    unfolding circuit.output_on_lem output_signal gate_signal
+    stands_played : (q : ℕ) → q < all_outputs c → q < most_all_outputs → (j : ℕ) → j < lane_count → bit (get_or v (get_or shown q 0) 0) j ≡ circuit.output_on c q (at + j)
+    unfolding circuit.output_on output_signal gate_signal
     stands_played q h m j l =
         let O = W.head_is in
         let sh : get_or shown q 0 ≡ 1 + all_inputs c + gate_of_output c q = (SS.are q m).0 ∙ sym (shown_item s q q (item_same q) (omega (arith, O.total_is))) ∙ omega (arith, O.base_is, O.gates_is, O.total_is) in
@@ -153,18 +153,18 @@ module _ (c : List ℕ) (s : Source) (bits shown : List ℕ) (OB : OwnBits s bit
       vs = bits_of s.inputs (history_words (2 ^ s.inputs) s.frames x)
 
       -- the output at place q, by the network's
-      place_value : (q : ℕ) → q < all_outputs r → circuit.output_on_lem r q x ≡ cond (ltb (item_in s q) s.own.total) (output_on_lem c (item_in s q) us) false
+      place_value : (q : ℕ) → q < all_outputs r → circuit.output_on r q x ≡ cond (ltb (item_in s q) s.own.total) (output_on c (item_in s q) us) false
       unfolding item_in all_inputs
       place_value q h =
           let H = rearranged_head c s P in
           let item : item_at (all_outputs c) s.shown q ≡ item_in s q = rw (e, O.head_is.total_is) in
           output_is r (rearranged_formed c s P).head x q h
-          ∙ ap₂ (λ n T. output_on_lem r q (bits_of n (history_words (2 ^ n) T x))) (sym H.inputs_is) (sym H.frames_is)
+          ∙ ap₂ (λ n T. output_on r q (bits_of n (history_words (2 ^ n) T x))) (sym H.inputs_is) (sym H.frames_is)
           ∙ output_same c s P vs us (bits_long s.inputs s.frames x P.sizes.inputs_from) (bits_long (inputs c) (frames c) (picked bits x) O.headed.sizes.inputs_from) (own_input x) q (omega (arith, outputs_are c s P))
-          ∙ ap₂ (λ k M. cond (ltb k M) (output_on_lem c k us) false) item (sym O.head_is.total_is)
+          ∙ ap₂ (λ k M. cond (ltb k M) (output_on c k us) false) item (sym O.head_is.total_is)
 
-    spread_played : (q : ℕ) → q < all_outputs r → q < most_all_outputs → (j : ℕ) → j < lane_count → bit (get_or v (get_or shown q 0) 0) j ≡ circuit.output_on_lem r q (at + j)
-    unfolding gate_signal output_on_lem
+    spread_played : (q : ℕ) → q < all_outputs r → q < most_all_outputs → (j : ℕ) → j < lane_count → bit (get_or v (get_or shown q 0) 0) j ≡ circuit.output_on r q (at + j)
+    unfolding gate_signal output_on
     spread_played q h m j l =
         let k : ℕ = item_in s q in
         let y : ℕ = picked bits (at + j) in
@@ -176,12 +176,12 @@ module _ (c : List ℕ) (s : Source) (bits shown : List ℕ) (OB : OwnBits s bit
         ap (λ i. bit (get_or v i 0) j) sh
         ∙ lane_is j (suc (all_inputs c + gate_of_output c k)) l (omega (arith, H.total_is, O.headed.outputs_to))
         ∙ signal_value c O.headed y (all_inputs c + gate_of_output c k)
-        ∙ sym (place_value (at + j) q h ∙ ap (λ t. cond t (output_on_lem c k (us (at + j))) false) (lt-ltb k s.own.total in_List)))
+        ∙ sym (place_value (at + j) q h ∙ ap (λ t. cond t (output_on c k (us (at + j))) false) (lt-ltb k s.own.total in_List)))
         (λ (none : s.own.total ≤ k).
         ap (λ i. bit (get_or v i 0) j) (sym (shown_none s q k refl none))
         ∙ lane_is j 0 l (omega arith)
         ∙ constant_value c O.headed y
-        ∙ sym (place_value (at + j) q h ∙ ap (λ t. cond t (output_on_lem c k (us (at + j))) false) (le-ltb k s.own.total none)))
+        ∙ sym (place_value (at + j) q h ∙ ap (λ t. cond t (output_on c k (us (at + j))) false) (le-ltb k s.own.total none)))
         (below_or k s.own.total)
 
   -- ---- so they have the outputs
@@ -190,10 +190,10 @@ module _ (c : List ℕ) (s : Source) (bits shown : List ℕ) (OB : OwnBits s bit
   unfolding Outputs Holds
   outputs_played (stands O W) most q h j l =
       let e = sourced_whole c s O.whole_is in
-      stands_played O.whole_is W q (rw e at h) (most q h) j l ∙ sym (ap (λ b. circuit.output_on_lem b q (at + j)) e)
+      stands_played O.whole_is W q (rw e at h) (most q h) j l ∙ sym (ap (λ b. circuit.output_on b q (at + j)) e)
   outputs_played (spread w P) most q h j l =
       let e = sourced_spread c s w in
-      spread_played w P q (rw e at h) (most q h) j l ∙ sym (ap (λ b. circuit.output_on_lem b q (at + j)) e)
+      spread_played w P q (rw e at h) (most q h) j l ∙ sym (ap (λ b. circuit.output_on b q (at + j)) e)
 
 -- ---- what playing asks of a source
 

@@ -4,7 +4,7 @@ use Rattle.layered.specs.Search.{every}
 use Rattle.sizes.specs.Limits.{most_inputs, most_bits}
 use Rattle.circuit.specs.Limits.{most_signals}
 use Rattle.circuit.specs.Lists.{block_start}
-use Rattle.circuit.specs.Circuit.{all_outputs, output_on_lem, later_inputs, as_first}
+use Rattle.circuit.specs.Circuit.{all_outputs, output_on, later_inputs, as_first}
 use Rattle.source.specs.Source.{shown_signal}
 use Rattle.source.specs.declared.Source.{Source}
 use Rattle.lanes.specs.Limits.{lane_count}
@@ -42,11 +42,11 @@ pub record ShownSignals (s : Source) (v : List ℕ) : Type 0 where
 
 -- the lanes v of the signals have the outputs on the sequences from `at` on, each at the signal that is shown
 unfoldable pub Outputs : List ℕ → (shown : List ℕ) (at : ℕ) (v : List ℕ) → Type 0
-Outputs b shown at v = (q : ℕ) → q < all_outputs b → Holds (get_or v (get_or shown q 0) 0) at (output_on_lem b q)
+Outputs b shown at v = (q : ℕ) → q < all_outputs b → Holds (get_or v (get_or shown q 0) 0) at (output_on b q)
 
 -- of the outputs from `from` to before `to`, k has on the sequences from `at` on what each is on the first that agrees up to its frame
 unfoldable pub Firsts : List ℕ → (at : ℕ) (k : List ℕ) (from to : ℕ) → Type 0
-Firsts b at k from to = (q : ℕ) → from ≤ q → q < to → Holds (get_or k q 0) at (λ x. output_on_lem b q (block_start (later_inputs b q) x))
+Firsts b at k from to = (q : ℕ) → from ≤ q → q < to → Holds (get_or k q 0) at (λ x. output_on b q (block_start (later_inputs b q) x))
 
 -- output q is so on each sequence of the part from `at` on
 unfoldable pub part_as_first : List ℕ → (at q : ℕ) → Bool

@@ -17,7 +17,7 @@ use Rattle.layered.proofs.Search.{every_true, every_each, every_fails}
 use Rattle.layered.proofs.Rows.{pow-mul}
 use Rattle.layered.proofs.Histories.{history_below, history-words, history_front, words_number, number_words}
 use Rattle.circuit.specs.Lists.{block_start}
-use Rattle.circuit.specs.Circuit.{gates, all_inputs, all_outputs, gate_signal, output_signal, frame_of, signal_values, output_word, output_bit, output_on_lem, later_inputs, as_first, looks_ahead}
+use Rattle.circuit.specs.Circuit.{gates, all_inputs, all_outputs, gate_signal, output_signal, frame_of, signal_values, output_word, output_bit, output_on, later_inputs, as_first, looks_ahead}
 use Rattle.circuit.specs.WellFormed.{CircuitHeaded}
 use Rattle.circuit.specs.Theorems.{DependsOnLater}
 use Rattle.circuit.proofs.Bits.{bit_packed}
@@ -101,15 +101,15 @@ module _ (b : List ℕ) (H : CircuitHeaded b) (q : ℕ) (h : q < all_outputs b) 
 
   -- where it looks ahead, there are two sequences: one on which it differs from the first that agrees up to there, and that one
   pub ahead_depends : looks_ahead b q ≡ true → DependsOnLater b q
-  unfolding looks_ahead as_first output_on_lem DependsOnLater
+  unfolding looks_ahead as_first output_on DependsOnLater
   ahead_depends e =
       let (x, l, f) = every_fails (2 ^ all_inputs b) (as_first b q) (not-true _ e) in
       let y : ℕ = block_start (later_inputs b q) x in
       (history_words K (frames b) x, history_words K (frames b) y, is_sequence x, is_sequence y, same_front x, beq_apart _ _ f)
 
   -- where it does not, it is on a sequence what it is on the first that agrees up to there
-  of_first : looks_ahead b q ≡ false → (c : List ℕ) → Words K (frames b) c → output_bit b c q ≡ output_on_lem b q (block_start (later_inputs b q) (history_number K 0 c))
-  unfolding looks_ahead as_first output_on_lem all_inputs
+  of_first : looks_ahead b q ≡ false → (c : List ℕ) → Words K (frames b) c → output_bit b c q ≡ output_on b q (block_start (later_inputs b q) (history_number K 0 c))
+  unfolding looks_ahead as_first output_on all_inputs
   of_first e c W =
       let x : ℕ = history_number K 0 c in
       let l : x < 2 ^ (inputs b * frames b) = rw (pow-mul 2 (inputs b) (frames b)) (history_below W) in
@@ -131,17 +131,17 @@ module _ (b : List ℕ) (H : CircuitHeaded b) (q : ℕ) (h : q < all_outputs b) 
       let below : (c : List ℕ) → Words K T c → history_number K 0 c < 2 ^ (n * T) = λ c W. rw (pow-mul 2 n T) (history_below W) in
       let words : take t (history_words K T (history_number K 0 c)) ≡ take t (history_words K T (history_number K 0 d)) = ap (take t) (words_number W) ∙ s ∙ ap (take t) (sym (words_number U)) in
       of_first e c W
-      ∙ ap (λ k. output_on_lem b q (k * 2 ^ later_inputs b q)) (one_block (history_number K 0 c) (history_number K 0 d) (below c W) (below d U) words)
+      ∙ ap (λ k. output_on b q (k * 2 ^ later_inputs b q)) (one_block (history_number K 0 c) (history_number K 0 d) (below c W) (below d U) words)
       ∙ sym (of_first e d U)
 
   -- it looks ahead only where two sequences show it
   pub quiet : ((c d : List ℕ) → Words K (frames b) c → Words K (frames b) d → take t c ≡ take t d → output_bit b c q ≡ output_bit b d q) → looks_ahead b q ≡ false
-  unfolding looks_ahead as_first output_on_lem
+  unfolding looks_ahead as_first output_on
   quiet f = ap not (every_true (as_first b q) (2 ^ all_inputs b) (λ x l. same_beq _ _ (f _ _ (is_sequence x) (is_sequence _) (same_front x))))
 
   -- any number is a sequence's: where one shows a difference, the output looks ahead
   pub ahead_seen : (x : ℕ) → as_first b q x ≡ false → looks_ahead b q ≡ true
-  unfolding as_first output_on_lem
+  unfolding as_first output_on
   ahead_seen x f = go (looks_ahead b q) refl
     where
       go : (t : Bool) → looks_ahead b q ≡ t → t ≡ true

@@ -22,7 +22,7 @@ use Rattle.layered.proofs.Search.{every_cong, least_le, least_tells}
 use Rattle.layered.proofs.Histories.{history-words}
 use Rattle.circuit.specs.Limits.{circuit_head, most_gates}
 use Rattle.circuit.specs.Lists.{bit, block_start}
-use Rattle.circuit.specs.Circuit.{gates, lefts_at, rights_at, circuit_length, all_inputs, all_outputs, head_checked, literals_checked, form_within, form_checked, output_word, output_words, output_bit, output_on_lem, later_inputs, as_first, looks_ahead, look_ahead_checked, checked}
+use Rattle.circuit.specs.Circuit.{gates, lefts_at, rights_at, circuit_length, all_inputs, all_outputs, head_checked, literals_checked, form_within, form_checked, output_word, output_words, output_bit, output_on, later_inputs, as_first, looks_ahead, look_ahead_checked, checked}
 use Rattle.circuit.specs.Theorems.{DependsOnLater, FirstAhead, JudgedAlike}
 use Rattle.circuit.proofs.Lists.{listed_at}
 use Rattle.circuit.specs.WellFormed.{Formed}
@@ -158,8 +158,8 @@ module _
         ∙ ap (λ l. get_or l t 0) (same c W)
         ∙ listed_at (output_word d c) 0 (frames d) t (omega arith)
 
-    on_same : (q x : ℕ) → q < all_outputs b → output_on_lem b q x ≡ output_on_lem d q x
-    unfolding output_on_lem output_bit
+    on_same : (q x : ℕ) → q < all_outputs b → output_on b q x ≡ output_on d q x
+    unfolding output_on output_bit
     on_same q x h =
         ap (λ w. bit w (q % outputs b)) (word_same (history_words (2 ^ inputs b) (frames b) x) (q / outputs b) (history-words (pow_pos (inputs b)) (frames b) x) (output_parts b F.head q h).0)
         ∙ rw (i, o, f) refl
@@ -169,7 +169,7 @@ module _
     ahead_same q h =
         let later : later_inputs b q ≡ later_inputs d q = rw (i, o, f) refl in
         ap not
-        (every_cong (2 ^ all_inputs b) (as_first b q) (as_first d q) (λ x l. ap₂ beq (on_same q x h) (on_same q _ h ∙ ap (λ k. output_on_lem d q (block_start k x)) later))
+        (every_cong (2 ^ all_inputs b) (as_first b q) (as_first d q) (λ x l. ap₂ beq (on_same q x h) (on_same q _ h ∙ ap (λ k. output_on d q (block_start k x)) later))
         ∙ ap (λ k. every (2 ^ k) (as_first d q)) (rw (i, f) refl))
 
 pub judged_alike : (b : List ℕ) → JudgedAlike b

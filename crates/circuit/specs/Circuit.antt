@@ -155,8 +155,8 @@ unfoldable pub output_bit : List ℕ → (words : List ℕ) (q : ℕ) → Bool
 output_bit b words q = bit (output_word b words (q / outputs b)) (q % outputs b)
 
 -- output q on the sequence x
-unfoldable pub output_on_lem : List ℕ → (q x : ℕ) → Bool
-output_on_lem b q x = output_bit b (history_words (2 ^ inputs b) (frames b) x) q
+unfoldable pub output_on : List ℕ → (q x : ℕ) → Bool
+output_on b q x = output_bit b (history_words (2 ^ inputs b) (frames b) x) q
 
 -- how many inputs there are in the frames after that of output q
 unfoldable pub later_inputs : List ℕ → (q : ℕ) → ℕ
@@ -164,7 +164,7 @@ later_inputs b q = inputs b * (frames b - frame_of (outputs b) q)
 
 -- output q is on the sequence x what it is on the first of the sequences that agree with x up to its frame: they are a block of 2 ^ later_inputs
 unfoldable pub as_first : List ℕ → (q x : ℕ) → Bool
-as_first b q x = beq (output_on_lem b q x) (output_on_lem b q (block_start (later_inputs b q) x))
+as_first b q x = beq (output_on b q x) (output_on b q (block_start (later_inputs b q) x))
 
 -- output q looks ahead: on some sequence it is not what it is on the first that agrees with this one up to its frame
 unfoldable pub looks_ahead : List ℕ → (q : ℕ) → Bool

@@ -23,7 +23,7 @@ use Rattle.circuit.proofs.Lists.{listed_cons, listed_length, listed_at}
 use Rattle.circuit.proofs.Unconnected.{word_below, word_bit}
 use Rattle.circuit.proofs.Causal.{word_agrees}
 use Rattle.diagrams.specs.Frames.{history_bits}
-use Rattle.functions.specs.Functions.{signal_on, output_on_lem}
+use Rattle.functions.specs.Functions.{signal_on, output_on}
 use Rattle.functions.specs.Theorems.{OutputsRespond, ResponsesRead}
 use Rattle.functions.proofs.Sequences.{bits_of, words_listed, bits_append, bits_history, bits_zeros, words_of}
 
@@ -50,25 +50,25 @@ module _ (b : List ℕ) (H : CircuitHeaded b) where
       (listed_cons false _ (inputs b * frames b) ∙ ap (λ l. false ∷ l) (words_listed (inputs b) H.sizes.inputs_from c (frames b) e))
 
   -- so an output is a bit of its frame's output word
-  pub output_on_lem : (c : List ℕ) → length c ≡ frames b → (t j : ℕ) → t < frames b → j < outputs b → bit (output_word b c t) j ≡ output_on_lem b (outputs b * t + j) (bits_of (inputs b) c)
-  unfolding output_on_lem signal_on gate_signal
+  pub output_on_lem : (c : List ℕ) → length c ≡ frames b → (t j : ℕ) → t < frames b → j < outputs b → bit (output_word b c t) j ≡ output_on b (outputs b * t + j) (bits_of (inputs b) c)
+  unfolding output_on signal_on gate_signal
   output_on_lem c e t j h l =
       let g : ℕ = gate_of_output b (outputs b * t + j) in
       let i : 1 + all_inputs b + g ≡ suc (all_inputs b + g) = omega arith in
       word_bit b H c t h j l ∙ ap₂ (λ (vs : List Bool) (i : ℕ). get_or vs i false) (values_on c e) i
 
-  pub response_bit : (t h j : ℕ) → t < frames b → j < outputs b → bit (response b (suc t) h) j ≡ output_on_lem b (outputs b * t + j) (filled b (suc t) h)
+  pub response_bit : (t h j : ℕ) → t < frames b → j < outputs b → bit (response b (suc t) h) j ≡ output_on b (outputs b * t + j) (filled b (suc t) h)
   unfolding response
   response_bit t h j l k =
       let i : suc t - 1 ≡ t = omega arith in
       let c : List ℕ = history_words (2 ^ inputs b) (suc t) h ++ replicate (frames b - suc t) 0 in
       let long : length c ≡ frames b = words_length (words_whole l (history-words (pow_pos (inputs b)) (suc t) h) (some_words (frames b - suc t) (pow_pos (inputs b)))) in
-      ap (λ t. bit (output_word b c t) j) i ∙ output_on_lem c long t j l k ∙ ap (output_on_lem b (outputs b * t + j)) (filled_bits b (suc t) h)
+      ap (λ t. bit (output_word b c t) j) i ∙ output_on_lem c long t j l k ∙ ap (output_on b (outputs b * t + j)) (filled_bits b (suc t) h)
 
 pub responses_read : ResponsesRead
 unfolding ResponsesRead
 responses_read b H t h l =
-    let f : ℕ → Bool = λ j. output_on_lem b (outputs b * t + j) (filled b (suc t) h) in
+    let f : ℕ → Bool = λ j. output_on b (outputs b * t + j) (filled b (suc t) h) in
     sym (packed_bits (outputs b) _ (listed [] f (outputs b)) (response_below b (suc t) h) (listed_length f (outputs b))
     (λ j k. listed_at f false (outputs b) j k ∙ sym (response_bit b H t h j l k)))
 
@@ -79,15 +79,15 @@ module _ (b : List ℕ) (A : Accepted b) (t i : ℕ) (h : t < frames b) (k : i <
 
   -- whatever words follow
   any_words : (p v w : List ℕ) → Words (2 ^ inputs b) (suc t) p → Words (2 ^ inputs b) (frames b - suc t) v → Words (2 ^ inputs b) (frames b - suc t) w
-      → output_on_lem b o (bits_of (inputs b) p ++ bits_of (inputs b) v) ≡ output_on_lem b o (bits_of (inputs b) p ++ bits_of (inputs b) w)
+      → output_on b o (bits_of (inputs b) p ++ bits_of (inputs b) v) ≡ output_on b o (bits_of (inputs b) p ++ bits_of (inputs b) w)
   any_words p v w I X Y =
       let same = word_agrees b A (p ++ v) (p ++ w) t h (words_whole h I X) (words_whole h I Y) (take_at p v (suc t) (words_length I) ∙ sym (take_at p w (suc t) (words_length I))) in
       sym (on v X) ∙ ap (λ x. bit x i) same ∙ on w Y
     where
-      on : (c : List ℕ) → Words (2 ^ inputs b) (frames b - suc t) c → bit (output_word b (p ++ c) t) i ≡ output_on_lem b o (bits_of (inputs b) p ++ bits_of (inputs b) c)
-      on c U = output_on_lem b A.form.head (p ++ c) (words_length (words_whole h I U)) t i h k ∙ ap (output_on_lem b o) (bits_append (inputs b) p c)
+      on : (c : List ℕ) → Words (2 ^ inputs b) (frames b - suc t) c → bit (output_word b (p ++ c) t) i ≡ output_on b o (bits_of (inputs b) p ++ bits_of (inputs b) c)
+      on c U = output_on_lem b A.form.head (p ++ c) (words_length (words_whole h I U)) t i h k ∙ ap (output_on b o) (bits_append (inputs b) p c)
 
-  any_inputs : (ps vs ws : List Bool) → length ps ≡ inputs b * suc t → length vs + inputs b * suc t ≡ inputs b * frames b → length ws ≡ length vs → output_on_lem b o (ps ++ vs) ≡ output_on_lem b o (ps ++ ws)
+  any_inputs : (ps vs ws : List Bool) → length ps ≡ inputs b * suc t → length vs + inputs b * suc t ≡ inputs b * frames b → length ws ≡ length vs → output_on b o (ps ++ vs) ≡ output_on b o (ps ++ ws)
   any_inputs ps vs ws ep ev ew =
       let left = mul-sub (inputs b) (frames b) (suc t) in
       go (words_of (inputs b) (suc t) ps ep) (words_of (inputs b) (frames b - suc t) vs (omega (arith, left))) (words_of (inputs b) (frames b - suc t) ws (omega (arith, left)))
@@ -95,9 +95,9 @@ module _ (b : List ℕ) (A : Accepted b) (t i : ℕ) (h : t < frames b) (k : i <
       Told : (k : ℕ) → List Bool → Type 0
       Told k us = (c : List ℕ) × Words (2 ^ inputs b) k c × (bits_of (inputs b) c ≡ us)
 
-      go : Told (suc t) ps → Told (frames b - suc t) vs → Told (frames b - suc t) ws → output_on_lem b o (ps ++ vs) ≡ output_on_lem b o (ps ++ ws)
+      go : Told (suc t) ps → Told (frames b - suc t) vs → Told (frames b - suc t) ws → output_on b o (ps ++ vs) ≡ output_on b o (ps ++ ws)
       go (p, I, pe) (v, X, ve) (w, Y, we) =
-          ap₂ (λ l r. output_on_lem b o (l ++ r)) (sym pe) (sym ve) ∙ any_words p v w I X Y ∙ ap₂ (λ l r. output_on_lem b o (l ++ r)) pe we
+          ap₂ (λ l r. output_on b o (l ++ r)) (sym pe) (sym ve) ∙ any_words p v w I X Y ∙ ap₂ (λ l r. output_on b o (l ++ r)) pe we
 
 pub outputs_respond : OutputsRespond
 unfolding OutputsRespond

@@ -9,8 +9,8 @@ unfoldable pub signal_on : List ℕ → (s : ℕ) → List Bool → Bool
 signal_on b s vs = get_or (grown (false ∷ vs) (gate_value b) (gates b)) (suc s) false
 
 -- output o, counted over all frames
-unfoldable pub output_on_lem : List ℕ → (o : ℕ) → List Bool → Bool
-output_on_lem b o vs = signal_on b (all_inputs b + gate_of_output b o) vs
+unfoldable pub output_on : List ℕ → (o : ℕ) → List Bool → Bool
+output_on b o vs = signal_on b (all_inputs b + gate_of_output b o) vs
 
 -- the distinct nodes of the inputs and of gates 1 to k
 unfoldable pub nodes_to : List ℕ → (k : ℕ) → ℕ

@@ -8,7 +8,7 @@ use Rattle.circuit.specs.Theorems.{response}
 use Rattle.circuit.specs.declared.Head.{Head}
 use Rattle.diagrams.specs.Building.{Family}
 use Rattle.diagrams.specs.Frames.{history_bits, Responds}
-use Rattle.functions.specs.Functions.{signal_on, output_on_lem, nodes_to}
+use Rattle.functions.specs.Functions.{signal_on, output_on, nodes_to}
 
 -- the signals are a family: each input is itself, and each gate the AND of its operands
 unfoldable pub SignalsFamily : Type 0
@@ -16,12 +16,12 @@ SignalsFamily = (b : List ℕ) (h : Head) → WellFormed b h → Family (all_inp
 
 -- an accepted circuit's response is that of its outputs
 unfoldable pub OutputsRespond : Type 0
-OutputsRespond = (b : List ℕ) → Accepted b → Responds (inputs b) (outputs b) (frames b) (response b) (output_on_lem b)
+OutputsRespond = (b : List ℕ) → Accepted b → Responds (inputs b) (outputs b) (frames b) (response b) (output_on b)
 
 -- the response to any number h as history is the word of the frame's outputs, where all later inputs are false
 unfoldable pub ResponsesRead : Type 0
 ResponsesRead = (b : List ℕ) → CircuitHeaded b → (t h : ℕ) → t < frames b
-    → response b (suc t) h ≡ packed (listed [] (λ j. output_on_lem b (outputs b * t + j) (history_bits (inputs b) (suc t) h ++ replicate (inputs b * frames b - inputs b * suc t) false)) (outputs b))
+    → response b (suc t) h ≡ packed (listed [] (λ j. output_on b (outputs b * t + j) (history_bits (inputs b) (suc t) h ++ replicate (inputs b * frames b - inputs b * suc t) false)) (outputs b))
 
 -- however many gates, there are fewer than 2 ^ 29 nodes
 unfoldable pub FewNodes : Type 0

@@ -13,7 +13,7 @@ use Rattle.circuit.specs.Circuit.{gates, lefts_at, rights_at, literal_at, all_in
 use Rattle.circuit.proofs.Literals.{operand_before}
 use Rattle.circuit.proofs.Gates.{closing, closing_connected, closing_blank}
 use Rattle.diagrams.specs.Building.{signal, literal, Family}
-use Rattle.functions.specs.Functions.{signal_on, output_on_lem}
+use Rattle.functions.specs.Functions.{signal_on, output_on}
 use Rattle.functions.specs.Theorems.{SignalsFamily}
 use Rattle.functions.proofs.Signals.{signals_family}
 use Rattle.source.specs.Rearranged.{standing, renamed, item_at, connects_at, shown_literal}
@@ -99,8 +99,8 @@ module _ (c : List ℕ) (s : Source) (P : Spreads c s) (vs us : List Bool) (lv :
   -- ---- outputs
 
   -- output k of the network, where it is unconnected
-  blank : (k : ℕ) → k < all_outputs c → unconnected c (gate_of_output c k) ≡ true → output_on_lem c k us ≡ false
-  unfolding output_on_lem operand literal signal
+  blank : (k : ℕ) → k < all_outputs c → unconnected c (gate_of_output c k) ≡ true → output_on c k us ≡ false
+  unfolding output_on operand literal signal
   blank k h u =
       let g : ℕ = gate_of_output c k in
       family.gates g (omega (arith, P.network.headed.outputs_to)) us lu ∙ ap₂ (λ x y. literal (signal_on c) us x && literal (signal_on c) us y) (ap (λ t. cond t 0 (literal_at c (lefts_at c) g)) u) (ap (λ t. cond t 0 (literal_at c (rights_at c) g)) u)
@@ -109,8 +109,8 @@ module _ (c : List ℕ) (s : Source) (P : Spreads c s) (vs us : List Bool) (lv :
   item q = item_at (all_outputs c) s.shown q
 
   -- the gate behind the network's that is for place q
-  shown_is : (q : ℕ) → q < s.outputs * s.frames → output_on_lem r q vs ≡ literal (signal_on r) vs (closing (connects_at c s.shown) (shown_literal c s.shown A) 0 q).0 && literal (signal_on r) vs (closing (connects_at c s.shown) (shown_literal c s.shown A) 0 q).1
-  unfolding output_on_lem
+  shown_is : (q : ℕ) → q < s.outputs * s.frames → output_on r q vs ≡ literal (signal_on r) vs (closing (connects_at c s.shown) (shown_literal c s.shown A) 0 q).0 && literal (signal_on r) vs (closing (connects_at c s.shown) (shown_literal c s.shown A) 0 q).1
+  unfolding output_on
   shown_is q h =
       let o = closing_operands c s P q h in
       let e : gate_of_output r q ≡ gates c + q = omega (arith, gates_are c s P, outputs_are c s P) in
@@ -118,8 +118,8 @@ module _ (c : List ℕ) (s : Source) (P : Spreads c s) (vs us : List Bool) (lv :
       ∙ rearranged_family.gates (gates c + q) (omega (arith, gates_are c s P)) vs long
       ∙ ap₂ (λ x y. literal (signal_on r) vs x && literal (signal_on r) vs y) o.0 o.1
 
-  connected_value : (q : ℕ) → q < s.outputs * s.frames → connects_at c s.shown q ≡ true → item q < all_outputs c → output_on_lem r q vs ≡ output_on_lem c (item q) us
-  unfolding output_on_lem literal signal shown_literal
+  connected_value : (q : ℕ) → q < s.outputs * s.frames → connects_at c s.shown q ≡ true → item q < all_outputs c → output_on r q vs ≡ output_on c (item q) us
+  unfolding output_on literal signal shown_literal
   connected_value q h t l =
       let g : ℕ = gate_of_output c (item q) in
       let f = closing_connected (connects_at c s.shown) (shown_literal c s.shown A) 0 q t in
@@ -131,16 +131,16 @@ module _ (c : List ℕ) (s : Source) (P : Spreads c s) (vs us : List Bool) (lv :
       ∙ ap₂ (λ m x. cond (eqb m 1) (not (signal (signal_on r) vs x)) (signal (signal_on r) vs x)) even half
       ∙ gate_same g (omega (arith, P.network.headed.outputs_to))
 
-  blank_value : (q : ℕ) → q < s.outputs * s.frames → connects_at c s.shown q ≡ false → output_on_lem r q vs ≡ false
+  blank_value : (q : ℕ) → q < s.outputs * s.frames → connects_at c s.shown q ≡ false → output_on r q vs ≡ false
   unfolding literal signal
   blank_value q h t = shown_is q h ∙ ap (λ (x : ℕ × ℕ). literal (signal_on r) vs x.0 && literal (signal_on r) vs x.1) (closing_blank (connects_at c s.shown) (shown_literal c s.shown A) 0 q t)
 
   -- the output at place q is the network's that stands there, or false
-  pub output_same : (q : ℕ) → q < s.outputs * s.frames → output_on_lem r q vs ≡ cond (ltb (item q) (all_outputs c)) (output_on_lem c (item q) us) false
+  pub output_same : (q : ℕ) → q < s.outputs * s.frames → output_on r q vs ≡ cond (ltb (item q) (all_outputs c)) (output_on c (item q) us) false
   unfolding connects_at
   output_same q h = go (ltb (item q) (all_outputs c)) refl (unconnected c (gate_of_output c (item q))) refl
     where
-      go : (t : Bool) → ltb (item q) (all_outputs c) ≡ t → (u : Bool) → unconnected c (gate_of_output c (item q)) ≡ u → output_on_lem r q vs ≡ cond t (output_on_lem c (item q) us) false
+      go : (t : Bool) → ltb (item q) (all_outputs c) ≡ t → (u : Bool) → unconnected c (gate_of_output c (item q)) ≡ u → output_on r q vs ≡ cond t (output_on c (item q) us) false
       go true e false f = connected_value q h (ap₂ (λ x y. x && not y) e f) (ltb-true _ _ e)
       go true e true f = blank_value q h (ap₂ (λ x y. x && not y) e f) ∙ sym (blank (item q) (ltb-true _ _ e) f)
       go false e u f = blank_value q h (ap (λ x. x && not (unconnected c (gate_of_output c (item q)))) e)

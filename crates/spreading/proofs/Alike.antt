@@ -17,7 +17,7 @@ use Rattle.circuit.proofs.Lists.{listed_cong}
 use Rattle.circuit.proofs.Unconnected.{word_below}
 use Rattle.diagrams.specs.Frames.{word_bits}
 use Rattle.diagrams.proofs.Frames.{word_of}
-use Rattle.functions.specs.Functions.{output_on_lem}
+use Rattle.functions.specs.Functions.{output_on}
 use Rattle.functions.proofs.Sequences.{bits_of}
 use Rattle.source.specs.Rearranged.{rearranged, item_at, connects_at}
 use Rattle.spreading.proofs.Schedule.{Scheduled}
@@ -44,25 +44,25 @@ module _
     as_many_out = outputs_one c S.spreads.network.headed S.spreads.one_frame ∙ sym eo ∙ sym (outputs_one d R.spreads.network.headed R.spreads.one_frame)
 
     -- as functions of all inputs
-    same_output : (us : List Bool) → length us ≡ all_inputs c → (k : ℕ) → k < all_outputs c → output_on_lem c k us ≡ output_on_lem d k us
+    same_output : (us : List Bool) → length us ≡ all_inputs c → (k : ℕ) → k < all_outputs c → output_on c k us ≡ output_on d k us
     same_output us l k h =
         let (a, b, e) = word_bits_lem (inputs c) us (l ∙ ic) in
-        ap (output_on_lem c k) (sym e)
+        ap (output_on c k) (sym e)
         ∙ sym (network_bit c S.spreads.network.headed S.spreads.one_frame a k h)
         ∙ ap (λ (w : List ℕ). bit (get_or w 0 0) k) (same a (subst (λ n. a < 2 ^ n) (sym ic) b))
         ∙ network_bit d R.spreads.network.headed R.spreads.one_frame a k (omega (arith, as_many_out))
-        ∙ ap (λ n. output_on_lem d k (bits_of n (a ∷ []))) ei
-        ∙ ap (output_on_lem d k) e
+        ∙ ap (λ n. output_on d k (bits_of n (a ∷ []))) ei
+        ∙ ap (output_on d k) e
 
     -- what stands at a place
     abbrev item : ℕ → ℕ
     item q = item_at (all_outputs c) outs q
 
     same_item : (us : List Bool) → length us ≡ all_inputs c → (q : ℕ)
-        → cond (ltb (item q) (all_outputs c)) (output_on_lem c (item q) us) false ≡ cond (ltb (item_at (all_outputs d) outs q) (all_outputs d)) (output_on_lem d (item_at (all_outputs d) outs q) us) false
-    same_item us l q = go (ltb (item q) (all_outputs c)) refl ∙ ap (λ k. cond (ltb (item_at k outs q) k) (output_on_lem d (item_at k outs q) us) false) as_many_out
+        → cond (ltb (item q) (all_outputs c)) (output_on c (item q) us) false ≡ cond (ltb (item_at (all_outputs d) outs q) (all_outputs d)) (output_on d (item_at (all_outputs d) outs q) us) false
+    same_item us l q = go (ltb (item q) (all_outputs c)) refl ∙ ap (λ k. cond (ltb (item_at k outs q) k) (output_on d (item_at k outs q) us) false) as_many_out
       where
-        go : (t : Bool) → ltb (item q) (all_outputs c) ≡ t → cond t (output_on_lem c (item q) us) false ≡ cond t (output_on_lem d (item q) us) false
+        go : (t : Bool) → ltb (item q) (all_outputs c) ≡ t → cond t (output_on c (item q) us) false ≡ cond t (output_on d (item q) us) false
         go true e = same_output us l (item q) (ltb-true _ _ e)
         go false e = refl
 

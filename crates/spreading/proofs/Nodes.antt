@@ -16,7 +16,7 @@ use Rattle.layered.proofs.Search.{below_or}
 use Rattle.circuit.specs.Circuit.{gates, all_inputs, all_outputs, gate_of_output, network_checked, looks_ahead, look_ahead_checked}
 use Rattle.circuit.proofs.Judged.{sizes_number, within_number}
 use Rattle.diagrams.proofs.Repeated.{Repeats, nodes_repeated}
-use Rattle.functions.specs.Functions.{signal_on, output_on_lem, nodes_to}
+use Rattle.functions.specs.Functions.{signal_on, output_on, nodes_to}
 use Rattle.source.specs.Rearranged.{rearranged, item_at}
 use Rattle.source.specs.declared.Source.{Source}
 use Rattle.source.proofs.Rearranged.{inputs_are, outputs_are, gates_are}
@@ -43,8 +43,8 @@ module _ (c : List ℕ) (n m T : ℕ) (ins outs : List ℕ) (S : Scheduled c n m
 
   -- the one for place q is an output of the network, or false
   shows : (q : ℕ) → q < m * T → (vs : List Bool) → length vs ≡ all_inputs r
-      → signal_on r (all_inputs r + gates c + q) vs ≡ cond (ltb (item q) (all_outputs c)) (output_on_lem c (item q) (picked (all_inputs c) ins vs)) false
-  unfolding output_on_lem
+      → signal_on r (all_inputs r + gates c + q) vs ≡ cond (ltb (item q) (all_outputs c)) (output_on c (item q) (picked (all_inputs c) ins vs)) false
+  unfolding output_on
   shows q h vs l =
       let P = S.spreads in
       let e : all_inputs r + gates c + q ≡ all_inputs r + gate_of_output r q = omega (arith, gates_are c s P, outputs_are c s P) in
@@ -53,11 +53,11 @@ module _ (c : List ℕ) (n m T : ℕ) (ins outs : List ℕ) (S : Scheduled c n m
 
   -- so it repeats one of the network's gates, or is false
   repeats : (q : ℕ) → q < m * T → Repeats (all_inputs r) (signal_on r) (all_inputs r + gates c + q)
-  unfolding Repeats output_on_lem
+  unfolding Repeats output_on
   repeats q h = go (ltb (item q) (all_outputs c)) refl (shows q h)
     where
       go : (t : Bool) → ltb (item q) (all_outputs c) ≡ t
-          → ((vs : List Bool) → length vs ≡ all_inputs r → signal_on r (all_inputs r + gates c + q) vs ≡ cond t (output_on_lem c (item q) (picked (all_inputs c) ins vs)) false)
+          → ((vs : List Bool) → length vs ≡ all_inputs r → signal_on r (all_inputs r + gates c + q) vs ≡ cond t (output_on c (item q) (picked (all_inputs c) ins vs)) false)
           → Repeats (all_inputs r) (signal_on r) (all_inputs r + gates c + q)
       go false e f = inl f
       go true e f =

@@ -19,7 +19,7 @@ use Rattle.circuit.specs.WellFormed.{Accepted}
 use Rattle.circuit.specs.Theorems.{Causal}
 use Rattle.circuit.proofs.Causal.{causal_of}
 use Rattle.circuit.proofs.Lists.{listed_length, listed_at}
-use Rattle.functions.specs.Functions.{output_on_lem}
+use Rattle.functions.specs.Functions.{output_on}
 use Rattle.functions.proofs.Sequences.{bits_of, bits_at, words_of}
 use Rattle.source.specs.Rearranged.{rearranged, item_at}
 use Rattle.folded.specs.Folded.{folded_bytes}
@@ -43,13 +43,13 @@ module _ (c : List ℕ) (n m T : ℕ) (ins outs : List ℕ) (S : Scheduled c n m
   place-bit words W i h = bits_at n S.spreads.sizes.inputs_from words (get_or ins i 0) (rw (words_length W) (S.spreads.places_in i h))
 
   -- each output of a sequence, by its place
-  spread_place : (words : List ℕ) → Words (2 ^ n) T words → (q : ℕ) → q < m * T → bit (get_or (output_words r words) (q / m) 0) (q % m) ≡ output_on_lem r q (bits_of n words)
+  spread_place : (words : List ℕ) → Words (2 ^ n) T words → (q : ℕ) → q < m * T → bit (get_or (output_words r words) (q / m) 0) (q % m) ≡ output_on r q (bits_of n words)
   unfolding output_words
   spread_place words W q h =
       let frame : q / m < T = (div-lt_iff_lt-mul {k = m} S.spreads.sizes.outputs_from).1 (rw (mul_comm m T) at h) in
       ap (λ w. bit w (q % m)) (listed_at (output_word r words) 0 (frames r) (q / m) (omega (arith, frames_are c n m T ins outs S)))
       ∙ spread_bit c n m T ins outs S words W (q / m) (q % m) frame (mod-lt q S.spreads.sizes.outputs_from)
-      ∙ ap (λ q. output_on_lem r q (bits_of n words)) (div-add-mod q m)
+      ∙ ap (λ q. output_on r q (bits_of n words)) (div-add-mod q m)
 
   -- that at the place of output k is the network's
   recovered : (a : ℕ) (words : List ℕ) → Words (2 ^ n) T words → Places (all_inputs c) n ins a words
@@ -63,8 +63,8 @@ module _ (c : List ℕ) (n m T : ℕ) (ins outs : List ℕ) (S : Scheduled c n m
       let at : (i : ℕ) → i < all_inputs c → get_or us i false ≡ get_or (bits_of n words) (get_or ins i 0) false = λ i l. assigned_at c H one a i l ∙ sym (P i l) ∙ sym (place-bit words W i l) in
       spread_place words W q (S.outs_in k h)
       ∙ spread_value c n m T ins outs S words W us (assigned_length c H one a) at q (S.outs_in k h)
-      ∙ ap (λ i. cond (ltb i (all_outputs c)) (output_on_lem c i us) false) (item_here (all_outputs c) outs S.outs_apart k h)
-      ∙ ap (λ t. cond t (output_on_lem c k us) false) (lt-ltb k (all_outputs c) h)
+      ∙ ap (λ i. cond (ltb i (all_outputs c)) (output_on c i us) false) (item_here (all_outputs c) outs S.outs_apart k h)
+      ∙ ap (λ t. cond t (output_on c k us) false) (lt-ltb k (all_outputs c) h)
       ∙ sym (network_bit c H one a k h)
 
   -- ---- assigned

@@ -15,7 +15,7 @@ use Rattle.circuit.specs.Circuit.{all_inputs, all_outputs, gate_of_output, uncon
 use Rattle.circuit.specs.WellFormed.{CircuitHeaded, HeadOf}
 use Rattle.circuit.proofs.Lists.{listed_length, listed_at}
 use Rattle.circuit.proofs.Unconnected.{connected_bit}
-use Rattle.functions.specs.Functions.{output_on_lem}
+use Rattle.functions.specs.Functions.{output_on}
 use Rattle.functions.proofs.Sequences.{bits_of, bits_length, bits_at}
 use Rattle.functions.proofs.Outputs.{output_on_lem}
 use Rattle.source.specs.Rearranged.{rearranged, item_at, connects_at}
@@ -49,13 +49,13 @@ module _ (c : List ℕ) (H : CircuitHeaded c) (one : frames c ≡ 1) where
       bits_at (inputs c) H.sizes.inputs_from (a ∷ []) i (rw (mul-one (inputs c)) l) ∙ ap₂ (λ q r. bit (get_or (a ∷ []) q 0) r) (div-eq_of_lt l) (mod-eq_of_lt l)
 
   -- output k on it
-  pub network_bit : (a k : ℕ) → k < all_outputs c → bit (get_or (output_words c (a ∷ [])) 0 0) k ≡ output_on_lem c k (assigned a)
+  pub network_bit : (a k : ℕ) → k < all_outputs c → bit (get_or (output_words c (a ∷ [])) 0 0) k ≡ output_on c k (assigned a)
   unfolding output_words
   network_bit a k h =
       let z : outputs c * 0 + k ≡ k = omega arith in
       ap (λ w. bit w k) (listed_at (output_word c (a ∷ [])) 0 (frames c) 0 (omega arith))
       ∙ output_on_lem c H (a ∷ []) (sym one) 0 k (omega arith) (omega (arith, outputs_one))
-      ∙ ap (λ q. output_on_lem c q (assigned a)) z
+      ∙ ap (λ q. output_on c q (assigned a)) z
 
   -- and whether it is connected
   pub network_connects : (k : ℕ) → k < all_outputs c → not (unconnected c (gate_of_output c k)) ≡ bit (connected_outputs c 0) k
@@ -100,14 +100,14 @@ module _ (c : List ℕ) (n m T : ℕ) (ins outs : List ℕ) (S : Scheduled c n m
 
   module _ (words : List ℕ) (W : Words (2 ^ n) T words) where
     -- an output on a sequence
-    pub spread_bit : (t j : ℕ) → t < T → j < m → bit (output_word r words t) j ≡ output_on_lem r (m * t + j) (bits_of n words)
+    pub spread_bit : (t j : ℕ) → t < T → j < m → bit (output_word r words t) j ≡ output_on r (m * t + j) (bits_of n words)
     spread_bit t j h l =
         output_on_lem r head words (words_length W ∙ sym frames_are) t j (omega (arith, frames_are)) (omega (arith, outputs_are))
-        ∙ ap₂ (λ m n. output_on_lem r (m * t + j) (bits_of n words)) outputs_are inputs_are
+        ∙ ap₂ (λ m n. output_on r (m * t + j) (bits_of n words)) outputs_are inputs_are
 
     -- is that of the network that stands there, on the inputs us that its places have, or false
     pub spread_value : (us : List Bool) → length us ≡ all_inputs c → ((i : ℕ) → i < all_inputs c → get_or us i false ≡ get_or (bits_of n words) (get_or ins i 0) false)
-        → (q : ℕ) → q < m * T → output_on_lem r q (bits_of n words) ≡ cond (ltb (item_at (all_outputs c) outs q) (all_outputs c)) (output_on_lem c (item_at (all_outputs c) outs q) us) false
+        → (q : ℕ) → q < m * T → output_on r q (bits_of n words) ≡ cond (ltb (item_at (all_outputs c) outs q) (all_outputs c)) (output_on c (item_at (all_outputs c) outs q) us) false
     spread_value us l at q h = output_same c s S.spreads (bits_of n words) us (bits_length n words ∙ ap (λ k. n * k) (words_length W)) l at q h
 
   -- which are connected

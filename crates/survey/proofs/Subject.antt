@@ -16,7 +16,7 @@ use Rattle.diagrams.specs.Frames.{Responds}
 use Rattle.diagrams.specs.Theorems.{Holds}
 use Rattle.diagrams.specs.Making.{no_id}
 use Rattle.diagrams.specs.Building.{Built}
-use Rattle.functions.specs.Functions.{signal_on, output_on_lem}
+use Rattle.functions.specs.Functions.{signal_on, output_on}
 use Rattle.functions.specs.Theorems.{OutputsRespond}
 use Rattle.functions.proofs.Outputs.{outputs_respond}
 use Rattle.nodes.specs.declared.Node.{Node}
@@ -63,8 +63,8 @@ module _ (b : List ℕ) (h : Head) (W : WellFormed b h) (l : Layout) (L : Layout
 
   module _ (A : Accepted b) (R : ℕ) (ns : List Node) (ws : List ℕ) (B : Built (all_inputs b) (all_inputs b + gates b) R (signal_on b) (nodes_in ns) ws) where
     -- the ids of the outputs
-    holds : Holds (all_inputs b) (all_outputs b) (output_on_lem b) (nodes_in ns) (λ o. get_or ws (output_signal b o) 0)
-    unfolding Holds Denotes output_on_lem output_signal gate_signal
+    holds : Holds (all_inputs b) (all_outputs b) (output_on b) (nodes_in ns) (λ o. get_or ws (output_signal b o) 0)
+    unfolding Holds Denotes output_on output_signal gate_signal
     holds o k =
         let s : ℕ = all_inputs b + gate_of_output b o in
         let in_all : s < all_inputs b + gates b = omega (arith, W.headed.outputs_to) in
@@ -76,8 +76,8 @@ module _ (b : List ℕ) (h : Head) (W : WellFormed b h) (l : Layout) (L : Layout
     unfolding OutputsRespond
     given = record {
       reduced = subst (λ N. Reduced N (nodes_in ns)) (sym all-inputs) B.table.reduced;
-      holds = subst (λ N. Holds N (l.outputs * l.frames) (output_on_lem b) (nodes_in ns) (λ o. get_or ws (output_signal b o) 0)) (sym all-inputs) (subst (λ M. Holds (all_inputs b) M (output_on_lem b) (nodes_in ns) (λ o. get_or ws (output_signal b o) 0)) (sym all-outputs) holds);
-      responds = subst (λ n. Responds n l.outputs l.frames (response b) (output_on_lem b)) (sym bits) (subst (λ m. Responds (inputs b) m l.frames (response b) (output_on_lem b)) (sym outputs_are) (subst (λ T. Responds (inputs b) (outputs b) T (response b) (output_on_lem b)) (sym frames_are) (outputs_respond b A)));
+      holds = subst (λ N. Holds N (l.outputs * l.frames) (output_on b) (nodes_in ns) (λ o. get_or ws (output_signal b o) 0)) (sym all-inputs) (subst (λ M. Holds (all_inputs b) M (output_on b) (nodes_in ns) (λ o. get_or ws (output_signal b o) 0)) (sym all-outputs) holds);
+      responds = subst (λ n. Responds n l.outputs l.frames (response b) (output_on b)) (sym bits) (subst (λ m. Responds (inputs b) m l.frames (response b) (output_on b)) (sym outputs_are) (subst (λ T. Responds (inputs b) (outputs b) T (response b) (output_on b)) (sym frames_are) (outputs_respond b A)));
     }
 
     pub startable : (s : List ℕ) → 2 * l.half ≤ length s → most_signals + column_count ≤ length ws → ((j : ℕ) → j < 2 * l.half → get_or s j 0 ≡ 0) → Startable l (subject_of b ns ws) s ws

@@ -8,7 +8,7 @@ use Rattle.circuit.specs.Theorems.{response}
 use Rattle.circuit.specs.declared.Head.{Head}
 use Rattle.diagrams.specs.Making.{no_id}
 use Rattle.diagrams.specs.Building.{Built, first_over}
-use Rattle.functions.specs.Functions.{signal_on, output_on_lem}
+use Rattle.functions.specs.Functions.{signal_on, output_on}
 use Rattle.nodes.specs.declared.Node.{Node}
 use Rattle.records.specs.Records.{nodes_in}
 use Rattle.conjoin.specs.declared.Shape.{Shape}
@@ -41,7 +41,7 @@ pub record LayoutOf (h : Head) (l : Layout) : Type 0 where
 
 -- what is explored of the circuit b: its response, by its outputs' diagrams, whose ids stand among those of the signals
 abbrev pub subject_of : (b : List ℕ) (ns : List Node) (ws : List ℕ) → Subject
-subject_of b ns ws = record { y = response b; F = output_on_lem b; D = nodes_in ns; root = λ o. get_or ws (output_signal b o) 0 }
+subject_of b ns ws = record { y = response b; F = output_on b; D = nodes_in ns; root = λ o. get_or ws (output_signal b o) 0 }
 
 -- what it may be asked: an accepted circuit, a scratch that is zero as far as it needs it, and a work that is all zero
 pub record Surveyable (b s ws : List ℕ) : Type 0 where

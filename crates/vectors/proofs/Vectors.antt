@@ -34,7 +34,7 @@ unfolding circuit.output_word circuit.signal_values circuit.gate_value circuit.o
 circuit_outputs b words = circuit.output_words b words
 
 abbrev circuit_checked : List ℕ → Figures
-unfolding circuit_outputs circuit.checked circuit.form_checked circuit.form_within circuit.head_checked circuit.literals_checked circuit.circuit_length circuit.admissible circuit.of_unconnected circuit.look_ahead_checked circuit.looks_ahead circuit.as_first circuit.output_on_lem circuit.output_bit circuit.later_inputs circuit.frame_of history_words every block_start sizes_checked refuse_first
+unfolding circuit_outputs circuit.checked circuit.form_checked circuit.form_within circuit.head_checked circuit.literals_checked circuit.circuit_length circuit.admissible circuit.of_unconnected circuit.look_ahead_checked circuit.looks_ahead circuit.as_first circuit.output_on circuit.output_bit circuit.later_inputs circuit.frame_of history_words every block_start sizes_checked refuse_first
 circuit_checked b = circuit.checked b
 
 abbrev circuit_quick : List ℕ → Figures

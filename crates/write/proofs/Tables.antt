@@ -25,7 +25,7 @@ use Rattle.table.proofs.Offsets.{head_length_lem}
 use Rattle.folded.specs.Folded.{folded_bytes, scratch_needed}
 use Rattle.folded.proofs.Tables.{folded_machine, folded_written}
 use Rattle.diagrams.specs.Frames.{history_bits}
-use Rattle.functions.specs.Functions.{output_on_lem}
+use Rattle.functions.specs.Functions.{output_on}
 use Rattle.functions.specs.Theorems.{ResponsesRead}
 use Rattle.functions.proofs.Outputs.{responses_read}
 use Rattle.nodes.specs.declared.Node.{Node}
@@ -103,7 +103,7 @@ module _ (b : List ℕ) (survey : Survey) (ns : List Node) (s ws r : List ℕ) (
     reads : Reads layout (subject_of b ns ws)
     unfolding Reads ResponsesRead
     reads = laid_out
-        (λ n m T _. (t h : ℕ) → t < T → response b (suc t) h ≡ packed (listed [] (λ j. output_on_lem b (m * t + j) (history_bits n (suc t) h ++ replicate (n * T - n * suc t) false)) m))
+        (λ n m T _. (t h : ℕ) → t < T → response b (suc t) h ≡ packed (listed [] (λ j. output_on b (m * t + j) (history_bits n (suc t) h ++ replicate (n * T - n * suc t) false)) m))
         (responses_read b W.headed)
 
     explored : Explored layout.bits layout.outputs layout.frames (response b) layout.half s (layout.frames - 1)

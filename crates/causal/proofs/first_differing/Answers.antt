@@ -8,7 +8,7 @@ use native.Mathlib.Omega.{arith}
 use lib.ListN.{length, get_or, length-set}
 use Rattle.layered.proofs.Search.{below_suc}
 use Rattle.circuit.specs.Lists.{block_start}
-use Rattle.circuit.specs.Circuit.{all_outputs, output_on_lem, later_inputs}
+use Rattle.circuit.specs.Circuit.{all_outputs, output_on, later_inputs}
 use Rattle.circuit.specs.WellFormed.{CircuitHeaded, HeadOf}
 use Rattle.circuit.proofs.Frames.{not_after_first, not_after_next}
 use Rattle.source.specs.Source.{head_of, sourced}
@@ -129,10 +129,10 @@ returns-then-seen-due c =
     let inside : c.loop-q.q < all_outputs (sourced c.args.source c.args.circuit.now) =
     omega (arith, c, c.requires.lane_count_value)
     in
-    let seen : Holds (get_or c.args.lanes.now (get_or c.args.shown.now c.loop-q.q 0) 0) c.args.at (output_on_lem (sourced c.args.source c.args.circuit.now) c.loop-q.q) =
+    let seen : Holds (get_or c.args.lanes.now (get_or c.args.shown.now c.loop-q.q 0) 0) c.args.at (output_on (sourced c.args.source c.args.circuit.now) c.loop-q.q) =
     c.requires.outputs c.loop-q.q inside
     in
-    let due : Holds c.first_of_blocks-due.result c.args.at (λ x. output_on_lem (sourced c.args.source c.args.circuit.now) c.loop-q.q (block_start (later_inputs (sourced c.args.source c.args.circuit.now) c.loop-q.q) x)) =
+    let due : Holds c.first_of_blocks-due.result c.args.at (λ x. output_on (sourced c.args.source c.args.circuit.now) c.loop-q.q (block_start (later_inputs (sourced c.args.source c.args.circuit.now) c.loop-q.q) x)) =
     due_holds (sourced c.args.source c.args.circuit.now) c.args.at c.loop-q.q _ _ c.first_of_blocks-due.result _
     (later_is (sourced c.args.source c.args.circuit.now) headed (head_of c.args.source) of-head c.loop-q.q inside c.output_frame-frame.result c.output_frame-frame.ensures.frame) seen
     (λ p. c.loop-q.invariant.5 p c.loop-q.q (omega arith) (omega (arith, c)))
@@ -180,10 +180,10 @@ loop-q-preserved c =
     let room : c.loop-q.q < length c.loop-q.kept =
     omega (arith, output_few (sourced c.args.source c.args.circuit.now) headed (head_of c.args.source) of-head c.loop-q.q inside, c.loop-q.invariant.2, c.requires)
     in
-    let seen : Holds (get_or c.args.lanes.now (get_or c.args.shown.now c.loop-q.q 0) 0) c.args.at (output_on_lem (sourced c.args.source c.args.circuit.now) c.loop-q.q) =
+    let seen : Holds (get_or c.args.lanes.now (get_or c.args.shown.now c.loop-q.q 0) 0) c.args.at (output_on (sourced c.args.source c.args.circuit.now) c.loop-q.q) =
     c.requires.outputs c.loop-q.q inside
     in
-    let due : Holds c.first_of_blocks-due.result c.args.at (λ x. output_on_lem (sourced c.args.source c.args.circuit.now) c.loop-q.q (block_start (later_inputs (sourced c.args.source c.args.circuit.now) c.loop-q.q) x)) =
+    let due : Holds c.first_of_blocks-due.result c.args.at (λ x. output_on (sourced c.args.source c.args.circuit.now) c.loop-q.q (block_start (later_inputs (sourced c.args.source c.args.circuit.now) c.loop-q.q) x)) =
     due_holds (sourced c.args.source c.args.circuit.now) c.args.at c.loop-q.q _ _ c.first_of_blocks-due.result _
     (later_is (sourced c.args.source c.args.circuit.now) headed (head_of c.args.source) of-head c.loop-q.q inside c.output_frame-frame.result c.output_frame-frame.ensures.frame) seen
     (λ p. c.loop-q.invariant.5 p c.loop-q.q (omega arith) (omega (arith, c)))

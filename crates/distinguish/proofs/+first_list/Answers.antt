@@ -56,8 +56,8 @@ first_list-number-requires t c =
     let more = c.if-count-eq1.false in (
       omega (arith, c.decreases, k.some),
       (
-        (k.sound, k.layout_is, c.follow_next.ensures.pair),
-        (omega (arith, k.some, more), omega (arith, k.some, k.within, c.follow_next.ensures.layer), fewer_is k more),
+        (k.sound, k.layout_is, c.follow-next.ensures.pair),
+        (omega (arith, k.some, more), omega (arith, k.some, k.within, c.follow-next.ensures.layer), fewer_is k more),
       ),
     )
 
@@ -71,13 +71,13 @@ overflow_add-result t c =
 
 pub returns-then-number-rest : goal.returns-then-number-rest
 returns-then-number-rest t c =
-    let q = c.follow_next in
+    let q = c.follow-next in
     found_answer (known _ _ _ _ _ c.requires.sound c.requires.le_count) c.if-count-eq1.false c.loop-w.w c.first_list-number.result q.result c.loop-w-test.true q.ensures.layer q.ensures.first q.ensures.second
     c.first_list-number.ensures c.if-number-rest.true c.loop-w.invariant.1
 
 pub loop-w-preserved : goal.loop-w-preserved
 loop-w-preserved t c =
-    let q = c.follow_next in (
+    let q = c.follow-next in (
       omega arith,
       none_further (known _ _ _ _ _ c.requires.sound c.requires.le_count) c.if-count-eq1.false c.loop-w.w c.first_list-number.result q.result c.loop-w-test.true q.ensures.layer q.ensures.first q.ensures.second
           c.first_list-number.ensures c.if-number-rest.false c.loop-w.invariant.1,

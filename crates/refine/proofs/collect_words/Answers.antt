@@ -138,9 +138,9 @@ loop-w-preserved c =
     elim c.if-scratch-first.branch [
       | then-scratch-first t ↦
           let p = word_path c.args.scratch.now c.args.rows c.args.from c.args.fan c.args.bits c.args.state c.loop-w.w c.requires.collectable c.requires.state_bound (omega arith) in
-          (omega arith, rw (t.scratch-is, t.next_is) (collect_new c.args.scratch.now c.loop-w.scratch c.args.rows c.args.from c.args.fan c.args.bits (k + c.loop-w.w) c.loop-w.next c.requires.collectable inside c.loop-w.invariant.1 (q ∙ t.if-scratch-first.true) _ _ p e))
+          (omega arith, rw (t.scratch-is, t.next-is) (collect_new c.args.scratch.now c.loop-w.scratch c.args.rows c.args.from c.args.fan c.args.bits (k + c.loop-w.w) c.loop-w.next c.requires.collectable inside c.loop-w.invariant.1 (q ∙ t.if-scratch-first.true) _ _ p e))
       | else-scratch-first t ↦
-          (omega arith, rw (t.scratch-is, t.next_is) (collect_old c.args.scratch.now c.loop-w.scratch c.args.rows c.args.from c.args.fan c.args.bits (k + c.loop-w.w) c.loop-w.next c.requires.collectable inside c.loop-w.invariant.1 _ (λ d. t.if-scratch-first.false (sym q ∙ d)) e))
+          (omega arith, rw (t.scratch-is, t.next-is) (collect_old c.args.scratch.now c.loop-w.scratch c.args.rows c.args.from c.args.fan c.args.bits (k + c.loop-w.w) c.loop-w.next c.requires.collectable inside c.loop-w.invariant.1 _ (λ d. t.if-scratch-first.false (sym q ∙ d)) e))
     ]
 
 pub returns : goal.returns

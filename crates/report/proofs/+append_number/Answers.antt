@@ -21,13 +21,13 @@ pub bounds-out-last : goal.bounds-out-last
 bounds-out-last t c =
     last_in c.args.out.now c.args.at c.args.number c.if-number-lt10.out c.if-number-lt10.last
     (elim c.if-number-lt10.branch [
-      | then-number-lt10 w ↦ append_only c.args.out.now c.args.at c.args.number c.requires c.if-number-lt10.out c.if-number-lt10.last w.if-number-lt10.true w.out_is w.last_is
-      | else-number-lt10 w ↦ append_last c.args.out.now c.args.at c.args.number c.requires c.if-number-lt10.out _ c.if-number-lt10.last _ w.if-number-lt10.false w.append_number-last.ensures w.out_is w.last_is
+      | then-number-lt10 w ↦ append_only c.args.out.now c.args.at c.args.number c.requires c.if-number-lt10.out c.if-number-lt10.last w.if-number-lt10.true w.out-is w.last-is
+      | else-number-lt10 w ↦ append_last c.args.out.now c.args.at c.args.number c.requires c.if-number-lt10.out _ c.if-number-lt10.last _ w.if-number-lt10.false w.append_number-last.ensures w.out-is w.last-is
     ])
 
 pub returns : goal.returns
 returns t c =
     elim c.if-number-lt10.branch [
-      | then-number-lt10 w ↦ append_only c.args.out.now c.args.at c.args.number c.requires c.if-number-lt10.out c.if-number-lt10.last w.if-number-lt10.true w.out_is w.last_is
-      | else-number-lt10 w ↦ append_last c.args.out.now c.args.at c.args.number c.requires c.if-number-lt10.out _ c.if-number-lt10.last _ w.if-number-lt10.false w.append_number-last.ensures w.out_is w.last_is
+      | then-number-lt10 w ↦ append_only c.args.out.now c.args.at c.args.number c.requires c.if-number-lt10.out c.if-number-lt10.last w.if-number-lt10.true w.out-is w.last-is
+      | else-number-lt10 w ↦ append_last c.args.out.now c.args.at c.args.number c.requires c.if-number-lt10.out _ c.if-number-lt10.last _ w.if-number-lt10.false w.append_number-last.ensures w.out-is w.last-is
     ]

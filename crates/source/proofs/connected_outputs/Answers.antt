@@ -74,8 +74,8 @@ loop-j-preserved c =
     in (
       omega arith,
       elim c.if-is_connected.branch [
-        | then-is_connected w ↦ w.word_is ∙ omega (arith, grows true w.if-is_connected.true)
-        | else-is_connected w ↦ w.word_is ∙ omega (arith, grows false w.if-is_connected.false)
+        | then-is_connected w ↦ w.word-is ∙ omega (arith, grows true w.if-is_connected.true)
+        | else-is_connected w ↦ w.word-is ∙ omega (arith, grows false w.if-is_connected.false)
       ],
     )
 
