@@ -28,7 +28,7 @@ digits-chosen-requires c =
 
 pub slice_bounds-judge-end : goal.slice_bounds-judge-end
 slice_bounds-judge-end c =
-    sym c.digits_chosen.ensures.long
+    sym c.digits-chosen.ensures.long
 
 pub slice_bounds-judge-end-in-loop-c : goal.slice_bounds-judge-end-in-loop-c
 slice_bounds-judge-end-in-loop-c c =
@@ -38,13 +38,13 @@ pub judge-answer-requires : goal.judge-answer-requires
 judge-answer-requires c =
     record {
       held = c.requires;
-      candidate = digits_chosen _ _ _ (omega (arith, c.requires.some_states)) (omega (arith, few_entries _ _ _ c.requires, c.digits_chosen.ensures.long)) c.digits_chosen.ensures.digits;
+      candidate = digits_chosen _ _ _ (omega (arith, c.requires.some_states)) (omega (arith, few_entries _ _ _ c.requires, c.digits-chosen.ensures.long)) c.digits-chosen.ensures.digits;
       seen_len = (c.loop-c.invariant.1, c.loop-c.invariant.2);
     }
 
 pub returns-then-entries-used : goal.returns-then-entries-used
 returns-then-entries-used c = record {
-  searched = ends _ c.args.sought.states c.args.sought.entries c.loop-c.c c.digits_chosen.result (omega (arith, c.requires.some_states)) (digits_same _ _ _ c.digits_chosen.result c.digits_chosen.ensures.digits)
+  searched = ends _ c.args.sought.states c.args.sought.entries c.loop-c.c c.digits-chosen.result (omega (arith, c.requires.some_states)) (digits_same _ _ _ c.digits-chosen.result c.digits-chosen.ensures.digits)
       c.judge-answer.result.used c.judge-answer.result.ones c.judge-answer.ensures.judged (omega arith) (omega (arith, c.power-total.ensures.0)) c.loop-c.invariant.0;
   long = c.judge-answer.ensures.long;
 }
@@ -54,7 +54,7 @@ passing : (c : After-judge-answer) → c.judge-answer.result.used ≤ c.args.sou
     × ((d : ℕ) → d < skipped c.args.sought.states c.args.sought.entries c.loop-c.c c.judge-answer.result.used
     → Contradicted (target_of c.args.sought.words c.args.sought.frames c.args.table.now) (digit_of c.args.sought.states c.args.sought.entries d) c.args.sought.entries)
 passing c few =
-    passed _ c.args.sought.states c.args.sought.entries c.loop-c.c c.digits_chosen.result (omega (arith, c.requires.some_states)) (digits_same _ _ _ c.digits_chosen.result c.digits_chosen.ensures.digits)
+    passed _ c.args.sought.states c.args.sought.entries c.loop-c.c c.digits-chosen.result (omega (arith, c.requires.some_states)) (digits_same _ _ _ c.digits-chosen.result c.digits-chosen.ensures.digits)
     c.judge-answer.result.used c.judge-answer.result.ones c.judge-answer.ensures.judged (λ l. omega arith) c.loop-c.invariant.0
 
 pub skip-c-requires : goal.skip-c-requires

@@ -100,7 +100,7 @@ pub returns-then-is_stray : goal.returns-then-is_stray
 unfolding entry_checked
 returns-then-is_stray c =
     let stray : bad_output c.args.table.now c.args.position.layer ((machine c.args.table.now).out c.args.position.layer c.args.position.state c.args.word) ≡ c.is_stray.result =
-    stray-is c.args.table.now c.args.layout c.requires.table_headed c.requires.layout_value c.args.position.layer c.args.position.state c.args.word c.requires.layer_bound c.entries_below-below.result c.entries_below-below.ensures.0 _ _ _ c.is_stray.ensures c.connected_of.ensures.0 (output_is c.args.table.now c.args.layout c.requires.table_headed c.requires.layout_value c.args.position.layer c.args.position.state c.args.word c.requires.layer_bound c.entries_below-below.result c.entries_below-below.ensures.0 _ c.read_output.ensures.0)
+    stray-is c.args.table.now c.args.layout c.requires.table_headed c.requires.layout_value c.args.position.layer c.args.position.state c.args.word c.requires.layer_bound c.entries_below-below.result c.entries_below-below.ensures.0 _ _ _ c.is_stray.ensures c.connected_of.ensures.0 (output_is c.args.table.now c.args.layout c.requires.table_headed c.requires.layout_value c.args.position.layer c.args.position.state c.args.word c.requires.layer_bound c.entries_below-below.result c.entries_below-below.ensures.0 _ c.read-output.ensures.0)
     in
     rw (stray ∙ c.if-is_stray.true)
     (ap (λ (p : ℕ). handed_back (answer 5 p) c.args.position.layer c.args.position.state) (output_at_lem c.args.table.now c.args.layout c.requires.table_headed c.requires.layout_value c.args.position.layer c.args.position.state c.args.word c.requires.layer_bound c.entries_below-below.result c.entries_below-below.ensures.0))
@@ -113,7 +113,7 @@ pub returns-then-states_of-next : goal.returns-then-states_of-next
 unfolding bad_next entry_checked
 returns-then-states_of-next c =
     let good : bad_output c.args.table.now c.args.position.layer ((machine c.args.table.now).out c.args.position.layer c.args.position.state c.args.word) ≡ false =
-    stray-is c.args.table.now c.args.layout c.requires.table_headed c.requires.layout_value c.args.position.layer c.args.position.state c.args.word c.requires.layer_bound c.entries_below-below.result c.entries_below-below.ensures.0 _ _ _ c.is_stray.ensures c.connected_of.ensures.0 (output_is c.args.table.now c.args.layout c.requires.table_headed c.requires.layout_value c.args.position.layer c.args.position.state c.args.word c.requires.layer_bound c.entries_below-below.result c.entries_below-below.ensures.0 _ c.read_output.ensures.0) ∙ c.if-is_stray.false
+    stray-is c.args.table.now c.args.layout c.requires.table_headed c.requires.layout_value c.args.position.layer c.args.position.state c.args.word c.requires.layer_bound c.entries_below-below.result c.entries_below-below.ensures.0 _ _ _ c.is_stray.ensures c.connected_of.ensures.0 (output_is c.args.table.now c.args.layout c.requires.table_headed c.requires.layout_value c.args.position.layer c.args.position.state c.args.word c.requires.layer_bound c.entries_below-below.result c.entries_below-below.ensures.0 _ c.read-output.ensures.0) ∙ c.if-is_stray.false
     in
     let next : c.read-next.result ≡ (machine c.args.table.now).next c.args.position.layer c.args.position.state c.args.word =
     next_is c.args.table.now c.args.layout c.requires.table_headed c.requires.layout_value c.args.position.layer c.args.position.state c.args.word c.requires.layer_bound c.entries_below-below.result c.entries_below-below.ensures.0 _ c.read-next.ensures.0
@@ -128,10 +128,10 @@ pub returns : goal.returns
 unfolding bad_next entry_checked
 returns c =
     let good : bad_output c.args.table.now c.args.position.layer ((machine c.args.table.now).out c.args.position.layer c.args.position.state c.args.word) ≡ false =
-    stray-is c.args.table.now c.args.layout c.requires.table_headed c.requires.layout_value c.args.position.layer c.args.position.state c.args.word c.requires.layer_bound c.entries_below-below.result c.entries_below-below.ensures.0 _ _ _ c.is_stray.ensures c.connected_of.ensures.0 (output_is c.args.table.now c.args.layout c.requires.table_headed c.requires.layout_value c.args.position.layer c.args.position.state c.args.word c.requires.layer_bound c.entries_below-below.result c.entries_below-below.ensures.0 _ c.read_output.ensures.0) ∙ c.if-is_stray.false
+    stray-is c.args.table.now c.args.layout c.requires.table_headed c.requires.layout_value c.args.position.layer c.args.position.state c.args.word c.requires.layer_bound c.entries_below-below.result c.entries_below-below.ensures.0 _ _ _ c.is_stray.ensures c.connected_of.ensures.0 (output_is c.args.table.now c.args.layout c.requires.table_headed c.requires.layout_value c.args.position.layer c.args.position.state c.args.word c.requires.layer_bound c.entries_below-below.result c.entries_below-below.ensures.0 _ c.read-output.ensures.0) ∙ c.if-is_stray.false
     in
-    let output : c.read_output.result ≡ (machine c.args.table.now).out c.args.position.layer c.args.position.state c.args.word =
-    output_is c.args.table.now c.args.layout c.requires.table_headed c.requires.layout_value c.args.position.layer c.args.position.state c.args.word c.requires.layer_bound c.entries_below-below.result c.entries_below-below.ensures.0 _ c.read_output.ensures.0
+    let output : c.read-output.result ≡ (machine c.args.table.now).out c.args.position.layer c.args.position.state c.args.word =
+    output_is c.args.table.now c.args.layout c.requires.table_headed c.requires.layout_value c.args.position.layer c.args.position.state c.args.word c.requires.layer_bound c.entries_below-below.result c.entries_below-below.ensures.0 _ c.read-output.ensures.0
     in
     let next : c.read-next.result ≡ (machine c.args.table.now).next c.args.position.layer c.args.position.state c.args.word =
     next_is c.args.table.now c.args.layout c.requires.table_headed c.requires.layout_value c.args.position.layer c.args.position.state c.args.word c.requires.layer_bound c.entries_below-below.result c.entries_below-below.ensures.0 _ c.read-next.ensures.0
