@@ -5,7 +5,7 @@ usage: python3 tools/respell.py    at the top of the repository, once, right beh
 
 The names and what becomes of them stand in tools/respelled.txt, a pair a line. A pair is applied to whole names alone: in .antt files, in
 the clauses of .rt files, in the edits of must-fail/, and between backticks in the documents. In comments only what no sentence can hold
-is touched: names in camel case, and a name that begins a comment's list. Rust names, strings and outputs stay.
+is touched: names between backticks, names in camel case, and a name that begins an indented comment. Rust names, strings and outputs stay.
 """
 import glob
 import os
@@ -13,79 +13,64 @@ import re
 
 HERE = os.path.dirname(os.path.abspath(__file__))
 NAME = re.compile(r"(?<![\w'-])[A-Za-z_][\w'-]*")
+CAMEL = re.compile(r"[a-z][a-z0-9]*[A-Z][\w']*")
 WITHIN_TICKS = re.compile(r"`[^`\n]*`")
-LISTED = re.compile(r"^(\s*--\s{2,}|\s*-- )([a-z][\w'-]*)(?=( |,|$))")
+FIRST_INDENTED = re.compile(r"^(\s+-- |\s*--\s{2,})([a-z][\w'-]*)(?=( |,|$))")
 
 
-def pairs():
-    with open(os.path.join(HERE, "respelled.txt"), encoding="utf-8") as f:
-        return dict(line.split() for line in f)
+def renamed(text, names):
+    return NAME.sub(lambda m: names.get(m[0], m[0]), text)
 
 
-def renamer(names):
-    return lambda m: names.get(m.group(0), m.group(0))
+def within_ticks(text, names):
+    return WITHIN_TICKS.sub(lambda m: renamed(m[0], names), text)
 
 
-def split_comment(line, mark):
-    """The line's code and its comment."""
-    m = re.search(r"(^|\s)" + mark + r"(\s|$)", line)
-    return (line[: m.start()], line[m.start() :]) if m else (line, "")
-
-
-def commented(comment, camel, names):
-    comment = WITHIN_TICKS.sub(lambda m: NAME.sub(renamer(names), m.group(0)), comment)
-    comment = LISTED.sub(lambda m: m.group(1) + (names.get(m.group(2), m.group(2)) if len(m.group(1).strip()) < len(m.group(1)) - 1 else m.group(2)), comment)
-    return NAME.sub(renamer(camel), comment)
-
-
-def antt(text, names, camel):
+def lines(text, mark, names):
+    """A text of code, line by line: its code, and of its comments what the first lines above name."""
+    camel = {a: b for a, b in names.items() if CAMEL.fullmatch(a)}
     out = []
     for line in text.split("\n"):
-        code, comment = split_comment(line, "--")
-        out.append(NAME.sub(renamer(names), code) + commented(comment, camel, names))
+        m = re.search(r"(^|\s)" + mark + r"(\s|$)", line)
+        code, comment = (line[: m.start()], line[m.start() :]) if m else (line, "")
+        comment = FIRST_INDENTED.sub(lambda m: m[1] + names.get(m[2], m[2]), within_ticks(comment, names))
+        out.append(renamed(code, names) + renamed(comment, camel))
     return "\n".join(out)
 
 
-def rt(text, names, camel):
+def antt(text, names):
+    return lines(text, "--", names)
+
+
+def rt(text, names):
     # a Rust name has no dash and no capital behind a small letter, so only clauses are met
-    clauses = {a: b for a, b in names.items() if "-" in a or a in camel}
-    out = []
-    for line in text.split("\n"):
-        code, comment = split_comment(line, "//")
-        out.append(NAME.sub(renamer(clauses), code) + commented(comment, camel, clauses))
-    return "\n".join(out)
+    return lines(text, "//", {a: b for a, b in names.items() if "-" in a or CAMEL.fullmatch(a)})
 
 
-def edit(text, names, camel):
+def edit(text, names):
     turn = rt if re.search(r"^file: *src/", text, re.M) else antt
-    out = []
-    for line in text.split("\n"):
-        m = re.match(r"(old|new):", line)
-        out.append(m.group(0) + turn(line[m.end() :], names, camel) if m else line)
-    return "\n".join(out)
+    return re.sub(r"(?m)^((?:old|new):)(.*)$", lambda m: m[1] + turn(m[2], names), text)
 
 
-def document(text, names, camel):
-    return WITHIN_TICKS.sub(lambda m: NAME.sub(renamer(names), m.group(0)), text)
+KINDS = [
+    ("crates/*/specs/**/*.antt", antt),
+    ("crates/*/proofs/**/*.antt", antt),
+    ("crates/*/src/**/*.rt", rt),
+    ("crates/*/must-fail/*.edit", edit),
+    ("docs/**/*.md", within_ticks),
+    ("README.md", within_ticks),
+    ("examples/README.md", within_ticks),
+]
 
 
 def main():
-    names = pairs()
-    camel = {a: b for a, b in names.items() if re.match(r"[a-z][a-z0-9]*[A-Z]", a) and "-" not in a}
-    kinds = [
-        ("crates/*/specs/**/*.antt", antt),
-        ("crates/*/proofs/**/*.antt", antt),
-        ("crates/*/src/**/*.rt", rt),
-        ("crates/*/must-fail/*.edit", edit),
-        ("docs/**/*.md", document),
-        ("README.md", document),
-        ("examples/README.md", document),
-    ]
-    for pattern, turn in kinds:
+    with open(os.path.join(HERE, "respelled.txt"), encoding="utf-8") as f:
+        names = dict(line.split() for line in f)
+    for pattern, turn in KINDS:
         for path in sorted(glob.glob(pattern, recursive=True)):
             with open(path, encoding="utf-8") as f:
                 old = f.read()
-            new = turn(old, names, camel)
+            new = turn(old, names)
             if new != old:
                 with open(path, "w", encoding="utf-8") as f:
                     f.write(new)
