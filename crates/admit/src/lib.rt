@@ -1,37 +1,40 @@
-// Whether a circuit that was surveyed is folded: 18, 14 by which plan is wanted, and 7.
+// Whether a circuit whose states are counted is folded: 14 by which plan is wanted, and 7.
 #![tactic(auto)]
 
 pub mod wanted;
 
+ghost use Rattle.std.specs.Prelude.{◌≡◌};
+ghost use Rattle.verdict.specs.Judgements.{figures};
+ghost use Rattle.circuit.specs.WellFormed.{Accepted};
 ghost use Rattle.source.specs.Source.{sourced, SourceOf};
-ghost use Rattle.ask.specs.Plan.{Found};
-ghost use Rattle.admit.specs.Admit.{Judges};
+ghost use Rattle.ask.specs.Plan.{Counted};
+ghost use Rattle.admit.specs.Admit.{table_checked};
 
 use ask::plan_of;
 use source::Source;
-use survey::Survey;
+use survey::Counts;
 use verdict::{Refusal, Verdict};
-use wanted::Wanted;
+use wanted::agrees;
 
-// What is judged of a circuit that was surveyed: 18, 14 and 7.
-pub fn judge_survey(
+// What is judged of a circuit whose states are counted: 14 and 7.
+#[tactic(auto, using(crate::proofs::Judged::bytes_are), unfolding(folded::specs::Folded::room_checked))]
+pub fn judge_counts(
     circuit: &[u8],
-    survey: Survey,
-    wanted: Wanted,
+    counts: Counts,
+    wanted: Option<&[u64]>,
     room: usize,
     source: Source,
 ) -> Verdict
-    requires { SourceOf circuit.now source × Found (sourced source circuit.now) survey }
-    ensures { Judges (sourced source circuit.now) survey wanted room result }
+    requires { SourceOf circuit.now source × Accepted (sourced source circuit.now) × Counted (sourced source circuit.now) counts }
+    ensures { figures result ≡ table_checked (sourced source circuit.now) wanted.entry room }
 {
-    let place = survey.place;
-    if place <= source.gates {
-        return Verdict::Refused(Refusal::Nodes(place));
+    let plan = plan_of(circuit, counts, source);
+    if !agrees(wanted, plan) {
+        return Err(Refusal::Plan(0));
     }
-    let plan = plan_of(circuit, survey, source);
     let bytes = plan.bytes;
-    let agreed = wanted.agrees(plan);
-    let planned = Verdict::refuse_if(!agreed, Refusal::Plan(0), 0);
-    let roomy = Verdict::refuse_if(room < bytes, Refusal::Room(bytes), bytes);
-    planned.and_then(roomy)
+    if room < bytes {
+        return Err(Refusal::Room(bytes));
+    }
+    Ok(bytes)
 }

@@ -4,14 +4,13 @@
 
 ghost use Rattle.std.specs.Prelude.{◌≡◌, ◌≤◌, length};
 ghost use Rattle.verdict.specs.Judgements.{figures};
-ghost use Rattle.steps.specs.Steps.{step_figures};
 ghost use Rattle.ask.specs.Plan.{ask_numbers};
 ghost use Rattle.answers.specs.Answer.{verdict_numbers, step_numbers, quiet_numbers, price_numbers, layer_numbers, filled};
 
-use ask::plan::Asked;
+use ask::plan::{Asked, plan_numbers};
 use price::PriceFigures;
-use steps::{StepFigures, Stepped};
-use verdict::Verdict;
+use steps::StepFigures;
+use verdict::{Figures, Verdict};
 use view::layers::LayerFigures;
 
 // How many numbers a call answers: number and place; a step also output, layer and state; a step of the board also the output; pricing also
@@ -33,68 +32,68 @@ impl Limits {
     pub const LAYER: usize = 4;
 }
 
-// Puts the figures of a verdict into `answer`, which has room for them.
-pub fn put(verdict: Verdict, answer: &mut [u64])
-    requires { length (verdict_numbers (figures verdict)) ≤ length answer.old }
-    ensures { answer.new ≡ filled (verdict_numbers (figures verdict)) answer.old }
+// The numbers of a verdict.
+pub fn verdict_numbers(verdict: Verdict) -> [u64; Limits::VERDICT]
+    ensures { result ≡ verdict_numbers (figures verdict) }
 {
-    let figures = verdict.figures();
-    answer[0] = figures.number as u64;
-    answer[1] = figures.place as u64;
+    let figures = Figures::from(verdict);
+    [figures.number as u64, figures.place as u64]
 }
 
-// Puts all figures of a step into `answer`, which has room for them.
-pub fn put_step(step: StepFigures, answer: &mut [u64])
-    requires { length (step_numbers step) ≤ length answer.old }
-    ensures { answer.new ≡ filled (step_numbers step) answer.old }
+// Those of a step.
+pub fn step_numbers(step: StepFigures) -> [u64; Limits::STEP]
+    ensures { result ≡ step_numbers step }
 {
-    answer[0] = step.number as u64;
-    answer[1] = step.place as u64;
-    answer[2] = step.output as u64;
-    answer[3] = step.layer as u64;
-    answer[4] = step.state as u64;
+    [
+        step.number as u64,
+        step.place as u64,
+        step.output as u64,
+        step.layer as u64,
+        step.state as u64,
+    ]
 }
 
-// Puts number, place and output of a step of the board into `answer`, which has room for them.
-pub fn put_quiet(step: Stepped, answer: &mut [u64])
-    requires { length (quiet_numbers (step_figures step)) ≤ length answer.old }
-    ensures { answer.new ≡ filled (quiet_numbers (step_figures step)) answer.old }
+// Those of a step of the board: its position is lent beside it.
+pub fn quiet_numbers(step: StepFigures) -> [u64; Limits::QUIET]
+    ensures { result ≡ quiet_numbers step }
 {
-    let heard = step.figures();
-    answer[0] = heard.number as u64;
-    answer[1] = heard.place as u64;
-    answer[2] = heard.output as u64;
+    [step.number as u64, step.place as u64, step.output as u64]
 }
 
-// Puts all figures of a price into `answer`, which has room for them.
-pub fn put_price(price: PriceFigures, answer: &mut [u64])
-    requires { length (price_numbers price) ≤ length answer.old }
-    ensures { answer.new ≡ filled (price_numbers price) answer.old }
+// Those of a price.
+pub fn price_numbers(price: PriceFigures) -> [u64; Limits::PRICE]
+    ensures { result ≡ price_numbers price }
 {
-    answer[0] = price.number as u64;
-    answer[1] = price.place as u64;
-    answer[2] = price.cents as u64;
+    [price.number as u64, price.place as u64, price.cents as u64]
 }
 
-// Puts number, place and plan of what asking answered into `answer`, which has room for them.
-pub fn put_ask(asked: Asked, answer: &mut [u64])
-    requires { length (ask_numbers asked) ≤ length answer.old }
-    ensures { answer.new ≡ filled (ask_numbers asked) answer.old }
+// Those of a layer's outputs.
+pub fn layer_numbers(layer: LayerFigures) -> [u64; Limits::LAYER]
+    ensures { result ≡ layer_numbers layer }
 {
-    put(asked.verdict(), answer);
-    let plan = asked.plan_numbers();
-    for i in 0..ask::plan::Limits::NUMBERS {
-        answer[Limits::VERDICT + i] = plan[i];
-    }
+    [
+        layer.number as u64,
+        layer.place as u64,
+        layer.offset as u64,
+        layer.length as u64,
+    ]
 }
 
-// Puts all figures of a layer's outputs into `answer`, which has room for them.
-pub fn put_layer(layer: LayerFigures, answer: &mut [u64])
-    requires { length (layer_numbers layer) ≤ length answer.old }
-    ensures { answer.new ≡ filled (layer_numbers layer) answer.old }
+// Those of what asking answers: number and place, then the plan.
+pub fn ask_numbers(asked: Asked) -> [u64; Limits::ASK]
+    ensures { result ≡ ask_numbers asked }
 {
-    answer[0] = layer.number as u64;
-    answer[1] = layer.place as u64;
-    answer[2] = layer.offset as u64;
-    answer[3] = layer.length as u64;
+    let mut numbers = [0; Limits::ASK];
+    numbers[..Limits::VERDICT].copy_from_slice(&verdict_numbers(asked.map(|_| 0)));
+    numbers[Limits::VERDICT..].copy_from_slice(&plan_numbers(asked));
+    numbers
+}
+
+// Puts numbers into `answer`, which has room for them.
+pub fn put(numbers: &[u64], answer: &mut [u64])
+    requires { length numbers.now ≤ length answer.old }
+    ensures { answer.new ≡ filled numbers.now answer.old }
+{
+    let end = numbers.len();
+    answer[..end].copy_from_slice(numbers);
 }

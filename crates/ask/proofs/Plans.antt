@@ -1,5 +1,5 @@
 -- The counts of a plan as a list, and the plan of a circuit whose states are counted. Assumes nothing.
-use mathlib.Core.Path.{◌≡◌, refl, sym, ap, ap₂, ◌∙◌}
+use mathlib.Core.Path.{◌≡◌, sym, ap, ap₂, ◌∙◌}
 use mathlib.Core.Bool.{cond}
 use mathlib.Core.Logic.{⊎_elim}
 use mathlib.Core.List.{List, [], ◌∷◌, ◌++◌}
@@ -12,7 +12,6 @@ use lib.Pow.{pow_pos, pow_mono}
 use lib.ListN.{length, get_or}
 use borrow.Author.Tests.{le-ltb, lt-ltb}
 use Rattle.sizes.specs.Sizes.{inputs, outputs, frames}
-use Rattle.layered.specs.Search.{join, tabulate}
 use Rattle.layered.proofs.Lists.{tabulated}
 use Rattle.circuit.specs.WellFormed.{CircuitHeaded, Accepted}
 use Rattle.circuit.specs.Theorems.{response}
@@ -21,18 +20,13 @@ use Rattle.layered.proofs.States.{count_last}
 use Rattle.folded.specs.Folded.{folded_bytes}
 use Rattle.folded.specs.Planned.{counts_to, folded_plan}
 use Rattle.folded.proofs.Plans.{folded_plan_lem}
-use Rattle.ask.specs.declared.plan.Counts.{Counts}
-use Rattle.ask.specs.Plan.{count_list, counts_of, Counted}
+use Rattle.ask.specs.Plan.{Counted}
 
 -- ---- counts
 
 -- how many states layer t has
 abbrev pub state_count : List ℕ → (t : ℕ) → ℕ
 state_count b t = count (2 ^ inputs b) (frames b) (response b) t
-
-counts_back : (l : List ℕ) → length l ≡ 17 → count_list (counts_of l) ≡ l
-unfolding tabulate join
-counts_back l e = sym (tabulated 17 (λ i. get_or l i 0) l e (λ i h. refl))
 
 -- the counts of a circuit's layers: of the last too, and 0 beyond it
 pub counts_are : (b counts : List ℕ) → 1 ≤ frames b → Counted b counts → (t : ℕ) → t ≤ frames b → get_or counts t 0 ≡ state_count b t
@@ -51,14 +45,14 @@ counts_to_lem b counts h C = tabulated 17 (λ k. cond (ltb (frames b) k) 0 (stat
 
 -- ---- the plan
 
-pub plan_is : (b counts : List ℕ) (cs : Counts) (n m T x : ℕ) → Accepted b → 1 ≤ frames b → Counted b counts
-    → n ≡ inputs b → m ≡ outputs b → T ≡ frames b → cs ≡ counts_of counts → x ≡ length (folded_bytes b)
-    → n ∷ m ∷ T ∷ (count_list cs ++ (x ∷ [])) ≡ folded_plan b
-plan_is b counts cs n m T x A h C en em eT ec ex =
+pub plan_is : (b counts : List ℕ) (n m T x : ℕ) → Accepted b → 1 ≤ frames b → Counted b counts
+    → n ≡ inputs b → m ≡ outputs b → T ≡ frames b → x ≡ length (folded_bytes b)
+    → n ∷ m ∷ T ∷ (counts ++ (x ∷ [])) ≡ folded_plan b
+plan_is b counts n m T x A h C en em eT ex =
     ap₂ (λ (n : ℕ) (l : List ℕ). n ∷ l) en
     (ap₂ (λ (m : ℕ) (l : List ℕ). m ∷ l) em
     (ap₂ (λ (T : ℕ) (l : List ℕ). T ∷ l) eT
-    (ap₂ (λ (c : List ℕ) (x : ℕ). c ++ (x ∷ [])) (ap count_list ec ∙ counts_back counts C.places ∙ counts_to_lem b counts h C) ex)))
+    (ap₂ (λ (c : List ℕ) (x : ℕ). c ++ (x ∷ [])) (counts_to_lem b counts h C) ex)))
     ∙ sym (folded_plan_lem b A)
 
 -- ---- sizes

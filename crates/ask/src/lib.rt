@@ -3,25 +3,23 @@
 
 pub mod plan;
 
-ghost use Rattle.std.specs.Prelude.{◌≡◌, length};
+ghost use Rattle.std.specs.Prelude.{◌≡◌, length, Ok};
 ghost use Rattle.circuit.specs.WellFormed.{Accepted};
 ghost use Rattle.source.specs.Source.{sourced, SourceOf};
 ghost use Rattle.folded.specs.Folded.{folded_bytes, scratch_after, nodes_after};
 ghost use Rattle.folded.specs.Planned.{folded_plan, asked};
 ghost use Rattle.folded.specs.Theorems.{Asking};
 ghost use Rattle.ask.specs.declared.plan.Plan.{Plan};
-ghost use Rattle.ask.specs.declared.plan.Asked.TheVariants.{Planned};
-ghost use Rattle.ask.specs.Plan.{Counted, Found, Answers, Refuses, plan_numbers, ask_numbers};
+ghost use Rattle.ask.specs.Plan.{Counted, plan_numbers, ask_numbers};
 
-use lent::{accepts, clear_needed, judge_lent};
+use lent::{clear_needed, judge_lent};
 use nodes::Node;
-use plan::{Asked, Counts, Plan};
+use plan::{Asked, Plan};
 use records::clear as empty;
 use sizes::power;
 use source::Source;
-use survey::{Survey, no_work, survey_circuit};
+use survey::{Bounds, Counts, survey_circuit};
 use table::head::head_length;
-use verdict::{Refusal, Verdict};
 
 // How many bytes the table takes.
 fn bytes_needed(circuit: &[u8], source: Source, counts: &[u16]) -> usize
@@ -38,40 +36,17 @@ fn bytes_needed(circuit: &[u8], source: Source, counts: &[u16]) -> usize
 }
 
 // The plan of an accepted circuit, or of a network by its source, whose states are counted.
-pub fn plan_of(circuit: &[u8], survey: Survey, source: Source) -> Plan
-    requires { SourceOf circuit.now source × Accepted (sourced source circuit.now) × Counted (sourced source circuit.now) survey.counts }
+pub fn plan_of(circuit: &[u8], counts: Counts, source: Source) -> Plan
+    requires { SourceOf circuit.now source × Accepted (sourced source circuit.now) × Counted (sourced source circuit.now) counts }
     ensures { plan_numbers result ≡ folded_plan (sourced source circuit.now) }
 {
-    let counts = survey.counts;
     let bytes = bytes_needed(circuit, source, &counts);
     Plan {
         inputs: source.inputs,
         outputs: source.outputs,
         frames: source.frames,
-        counts: Counts::of(counts),
+        counts,
         bytes,
-    }
-}
-
-// What asking answers of a circuit that was judged and surveyed: 18, or its plan.
-pub fn asked_of(circuit: &[u8], survey: Survey, source: Source) -> Asked
-    requires { SourceOf circuit.now source × Found (sourced source circuit.now) survey }
-    ensures { Answers (sourced source circuit.now) survey result }
-{
-    let place = survey.place;
-    if place <= source.gates {
-        return Asked::Refused(Refusal::Nodes(place));
-    }
-    Asked::Planned(plan_of(circuit, survey, source))
-}
-
-// What asking answers where a judgement refuses.
-fn refused(judged: Verdict) -> Asked
-    ensures { Refuses judged result }
-{
-    match judged {
-        Verdict::Accepted(_) => Asked::Refused(Refusal::Scratch(0)),
-        Verdict::Refused(refusal) => Asked::Refused(refusal),
     }
 }
 
@@ -80,16 +55,13 @@ pub fn ask(circuit: &[u8], scratch: &mut [u16], nodes: &mut [Node]) -> Asked
     ensures answer { ask_numbers result ≡ asked circuit.now (length scratch.old) (length nodes.old) }
     ensures scratch { scratch.new ≡ scratch_after circuit.now scratch.old }
     ensures nodes { nodes.new ≡ nodes_after circuit.now (length scratch.old) nodes.old }
-    ensures asking { (plan : Plan) → result ≡ Planned plan → Asking circuit.now (length scratch.old) (length nodes.old) (plan_numbers plan) }
+    ensures asking { (plan : Plan) → result ≡ Ok plan → Asking circuit.now (length scratch.old) (length nodes.old) (plan_numbers plan) }
 {
-    let judged = judge_lent(circuit, scratch);
-    if !accepts(judged) {
-        return refused(judged);
-    }
+    judge_lent(circuit, scratch)?;
     let source = Source::of(circuit);
-    let mut work = no_work();
+    let mut work = [0; Bounds::WORK];
     let found = survey_circuit(circuit, scratch, nodes, &mut work, source);
     empty(nodes);
     clear_needed(scratch, source);
-    asked_of(circuit, found, source)
+    Ok(plan_of(circuit, found?, source))
 }

@@ -5,6 +5,11 @@ use mathlib.Core.Logic.{⊎_elim, ◌≢◌}
 use mathlib.Core.List.{List}
 use Prim.Native.Nat.{ℕ, zero, suc, ◌+◌, ◌-◌, ◌≤◌, ◌<◌}
 use native.Mathlib.Omega.{arith}
+use Rattle.std.specs.Prelude.{Result, Ok, Err}
+use Rattle.verdict.specs.declared.Refusal.{Refusal}
+use Rattle.verdict.specs.declared.Refusal.TheVariants.{Nodes as TooManyNodes}
+use Rattle.diagrams.specs.Building.{first_over}
+use Rattle.functions.specs.Functions.{signal_on}
 use lib.Dec.{ltb}
 use lib.ListN.{length, get_or, set, replicate, length-set}
 use Rattle.circuit.specs.Limits.{most_signals}
@@ -16,7 +21,7 @@ use Rattle.layered.proofs.Search.{below_or}
 use Rattle.records.specs.Records.{none, nodes_in}
 use Rattle.records.proofs.Laws.{of_record, of_constant}
 use Rattle.conjoin.specs.declared.Shape.{Shape}
-use Rattle.build.specs.Build.{OriginOf, Makeable, Makes, Signals, Buildable, Building}
+use Rattle.build.specs.Build.{origin_of, Makeable, Makes, Signals, Buildable, Building}
 use Rattle.build.specs.declared.Origin.{Origin}
 use Rattle.build.proofs.Laws.{number_input, number_gate}
 use Rattle.build.proofs.Turn.{makeable, more_built, too_few, all_built, none_built}
@@ -35,6 +40,9 @@ module _ (ns : List Node) where
   empty_level : ns ≡ replicate (length ns) none → (f : ℕ) → 2 ≤ f → (nodes_in ns).level f ≡ 0
   unfolding nodes_in
   empty_level e f h = ap (λ x. x.level) (of_record ns f h ∙ ap (λ ns. get_or ns (f - 2) none) e ∙ none_there (length ns) (f - 2))
+
+told : (x y : Refusal) → ◌≡◌ {A = Result (Unit {0}) Refusal} (Err x) (Err y) → y ≡ x
+told x y e = cc
 
 -- ---- a turn: the first s signals are built, in lists as long as the first
 pub record Turning (b : List ℕ) (R n n' s : ℕ) (zs : List Node) (us : List ℕ) : Type 0 where
@@ -66,19 +74,16 @@ module _ (b : List ℕ) (h : Head) (ns : List Node) (ws : List ℕ) (m : Shape) 
   }
 
   module _ (s : ℕ) (zs : List Node) (us : List ℕ) (t : At s zs us) where
-    pub ends : N + gates b ≤ s → (r : ℕ) → r ≡ gates b + 1 → Building b m.room zs us r
-    ends over r e =
+    pub ends : N + gates b ≤ s → Building b m.room zs us (Ok tt)
+    ends over =
         let q : s ≡ N + gates b = omega (arith, t.most) in
-        record { place = e ∙ all_built b h P.formed m.room s zs us t.signals q; signals = λ _. subst (λ s. Signals b m.room s zs us) q t.signals }
+        record { short = λ f e. cc; whole = λ u e. (sym (all_built b h P.formed m.room s zs us t.signals q), subst (λ s. Signals b m.room s zs us) q t.signals) }
 
     module _ (less : s < N + gates b) where
       pub inside : (s + 1 < length us) × (s < 4294967296)
       inside = (omega (arith, count_few, t.signals.space), omega (arith, count_few))
 
-      pub readable : (s < N + gates b) × (most_signals ≤ length us)
-      readable = (less, omega (arith, t.signals.space))
-
-      module _ (o : Origin) (O : OriginOf b us s o) where
+      module _ (o : Origin) (O : o ≡ origin_of b us s) where
         pub can : Makeable m.inputs m.room m.cache zs us o
         can = subst (λ N. Makeable N m.room m.cache zs us o) (sym P.inputs_is) (subst (λ c. Makeable N m.room c zs us o) (sym P.cache_is) (makeable b h P.formed m.room s zs us t.signals less o O))
 
@@ -102,10 +107,12 @@ module _ (b : List ℕ) (h : Head) (ns : List Node) (ws : List ℕ) (m : Shape) 
                 work_as = length-set vs (s + 1) r ∙ vs-as;
               }
 
-          pub stops : r ≡ no_id → (k : ℕ) → k ≡ cond (ltb s m.inputs) 0 (s - m.inputs + 1) → Building b m.room es vs k
+          pub stops : r ≡ no_id → (k : ℕ) → k ≡ cond (ltb s m.inputs) 0 (s - m.inputs + 1) → Building b m.room es vs (Err (TooManyNodes k))
           stops e k d =
               let c : k ≡ cond (ltb s N) 0 (s - N + 1) = d ∙ ap (λ N. cond (ltb s N) 0 (s - N + 1)) P.inputs_is in
+              let f : k ≡ first_over N m.room (gates b) (signal_on b) = c ∙ too_few b h P.formed m.room s zs us t.signals less o O r es vs es_zs vs_us made e in
+              let few : k ≤ gates b = ⊎_elim (λ l. omega (arith, c, number_input s N l)) (λ l. omega (arith, c, number_gate s N l)) (below_or s N) in
               record {
-                place = c ∙ too_few b h P.formed m.room s zs us t.signals less o O r es vs es_zs vs_us made e;
-                signals = λ z. absurd (⊎_elim (λ l. omega (arith, c, z, number_input s N l)) (λ l. omega (arith, c, z, number_gate s N l)) (below_or s N));
+                short = λ x q. (told (TooManyNodes k) x q ∙ ap {B = Refusal} (λ k. TooManyNodes k) f, omega (arith, f, few));
+                whole = λ u q. cc;
               }

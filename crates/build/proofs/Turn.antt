@@ -1,6 +1,6 @@
 -- A turn of building, on lists: what making a signal may be asked, and what follows from what it says.
 use mathlib.Core.Path.{◌≡◌, refl, sym, ap, ◌∙◌, subst}
-use mathlib.Core.Bool.{Bool, true, false, cond}
+use mathlib.Core.Bool.{Bool, cond}
 use mathlib.Core.Logic.{◌⊎◌, inl, inr, ⊎_elim, ◌≢◌}
 use mathlib.Core.List.{List}
 use Prim.Native.Nat.{ℕ, suc, ◌+◌, ◌*◌, ◌-◌, ◌≤◌, ◌<◌}
@@ -24,15 +24,17 @@ use Rattle.functions.specs.Functions.{signal_on}
 use Rattle.functions.specs.Theorems.{SignalsFamily}
 use Rattle.functions.proofs.Signals.{signals_family}
 use Rattle.circuit.proofs.Literals.{operand_before}
-use Rattle.build.proofs.Laws.{number_input, number_gate}
+use Rattle.build.proofs.Laws.{is_input, is_and, number_input, number_gate}
+use Rattle.nodes.specs.declared.Pair.{Pair}
 use Rattle.nodes.specs.declared.Node.{Node}
 use Rattle.layered.proofs.Search.{below_or}
 use Rattle.records.specs.Records.{nodes_in}
 use Rattle.conjoin.specs.Cache.{cache_length, Cached}
 use Rattle.conjoin.proofs.Laws.{cached_kept, cached_none, cached_same}
 use Rattle.build.specs.Build
-use Rattle.build.specs.Build.{OriginOf, Makeable, Makes, Signals}
+use Rattle.build.specs.Build.{operands_in, origin_of, Makeable, Makes, Signals}
 use Rattle.build.specs.declared.Origin.{Origin}
+use Rattle.build.specs.declared.Origin.TheVariants.{Input, And}
 
 -- ---- the ids of the first signals
 
@@ -68,12 +70,14 @@ module _ (b : List ℕ) (h : Head) (W : WellFormed b h) where
     pub all_built : s ≡ N + gates b → gates b + 1 ≡ first_over N R (gates b) (signal_on b)
     all_built e = over_none N R (gates b) (signal_on b) (subst (λ s. nodes_of N s (signal_on b) ≤ R) e (built_few N s R (signal_on b) (nodes_in ns) ws S.built))
 
-    module _ (inside : s < N + gates b) (m : Origin) (O : OriginOf b ws s m) where
-      an_input : m.input ≡ true → s < N
-      an_input e = ltb→lt s N (subst T (sym e ∙ O.input_is) tt)
+    module _ (inside : s < N + gates b) (m : Origin) (O : m ≡ origin_of b ws s) where
+      an_input : (l : ℕ) → m ≡ Input l → (s < N) × (l ≡ s + 1)
+      an_input l e = let t = is_input (ltb s N) l (s + 1) (operands_in b ws (s - N)) (sym e ∙ O) in (ltb→lt s N (subst T (sym t.0) tt), t.1)
 
-      a_gate : m.input ≡ false → N ≤ s
-      a_gate e = ⊎_elim (λ l. absurd (subst T (sym O.input_is ∙ e) (lt→ltb s N l))) (λ l. l) (below_or s N)
+      a_gate : (p : Pair) → m ≡ And p → (N ≤ s) × (p ≡ operands_in b ws (s - N))
+      a_gate p e =
+          let t = is_and (ltb s N) p (operands_in b ws (s - N)) (s + 1) (sym e ∙ O) in
+          (⊎_elim (λ l. absurd (subst T t.0 (lt→ltb s N l))) (λ l. l) (below_or s N), t.1)
 
       signals_in : suc s < most_signals
       signals_in = omega (arith, few, W.headed.gates_to)
@@ -91,12 +95,12 @@ module _ (b : List ℕ) (h : Head) (W : WellFormed b h) where
       pub makeable : Makeable N R most_signals ns ws m
       makeable = record {
         kept = record { table = S.built.table; within = S.within; room = S.room };
-        level = λ e. omega (arith, O.level_is (an_input e));
-        pair = λ e.
-            let l = a_gate e in
+        level = λ l e. omega (arith, an_input l e);
+        pair = λ p e.
+            let l = (a_gate p e).0 in
             let q : s ≡ N + (s - N) = omega arith in
             let n : suc N - N ≡ 1 = omega arith in
-            let p = O.pair_is l in
+            let p = (a_gate p e).1 in
             record {
               kept = record { table = S.built.table; within = S.within; room = S.room };
               most = omega arith;
@@ -111,27 +115,27 @@ module _ (b : List ℕ) (h : Head) (W : WellFormed b h) where
 
       module _ (r : ℕ) (es : List Node) (vs : List ℕ) (es-as : length es ≡ length ns) (vs-as : length vs ≡ length ws) (M : Makes N R most_signals m (nodes_in ns) (nodes_in es) ws vs r) where
         outcome : Makes N R most_signals m (nodes_in ns) (nodes_in es) ws vs r → Outcome N R 1 (signal_on b s) (nodes_in ns) (nodes_in es) r
-        outcome (Build.an_input e J d) =
-            input_outcome N R (signal_on b) (gates b) (operand b (lefts_at b)) (operand b (rights_at b)) family (nodes_in ns) ws s (nodes_in es) r S.built S.room (an_input e)
-            (subst (λ l. Joined R (nodes_in ns) (nodes_in es) l 0 1 r) (O.level_is (an_input e)) J)
-        outcome (Build.an_and e A) =
-            let l = a_gate e in
+        outcome (Build.an_input l e J d) =
+            input_outcome N R (signal_on b) (gates b) (operand b (lefts_at b)) (operand b (rights_at b)) family (nodes_in ns) ws s (nodes_in es) r S.built S.room (an_input l e).0
+            (subst (λ l. Joined R (nodes_in ns) (nodes_in es) l 0 1 r) (an_input l e).1 J)
+        outcome (Build.an_and p e A) =
+            let l = (a_gate p e).0 in
             let q : s ≡ N + (s - N) = omega arith in
-            let p = O.pair_is l in
+            let p = (a_gate p e).1 in
             subst (λ s. Outcome N R 1 (signal_on b s) (nodes_in ns) (nodes_in es) r) (sym q)
             (gate_outcome N R (signal_on b) (gates b) (operand b (lefts_at b)) (operand b (rights_at b)) family (nodes_in ns) ws (s - N) (nodes_in es) r (subst (λ s. Built N s R (signal_on b) (nodes_in ns) ws) q S.built) (gate_in_lem (s - N) q)
             (operand b (lefts_at b) (s - N)) (operand b (rights_at b) (s - N)) refl refl (subst (λ t. operand b (lefts_at b) (s - N) < 2 * suc t) q (left_in (s - N) q)) (subst (λ t. operand b (rights_at b) (s - N) < 2 * suc t) q (right_in (s - N) q))
             (subst (λ p. Conjoined N R (suc N - N) (nodes_in ns) (nodes_in es) p.f p.a p.g p.b r) p A.and))
 
         same_before : Makes N R most_signals m (nodes_in ns) (nodes_in es) ws vs r → (i : ℕ) → i < most_signals → get_or vs i 0 ≡ get_or ws i 0
-        same_before (Build.an_input e J d) i l = ap (λ v. get_or v i 0) d
-        same_before (Build.an_and e A) i l = A.before i l
+        same_before (Build.an_input k e J d) i l = ap (λ v. get_or v i 0) d
+        same_before (Build.an_and p e A) i l = A.before i l
 
         still_cached : Makes N R most_signals m (nodes_in ns) (nodes_in es) ws vs r → r ≢ no_id → Cached N (nodes_in es) most_signals vs
-        still_cached (Build.an_input e J d) n =
-            let G = ((outcome (Build.an_input e J d)).made n).grown in
+        still_cached (Build.an_input l e J d) n =
+            let G = ((outcome (Build.an_input l e J d)).made n).grown in
             subst (Cached N (nodes_in es) most_signals) (sym d) (cached_kept N 1 (signal_on b s) (nodes_in ns) (nodes_in es) most_signals ws S.built.table.reduced G S.cached)
-        still_cached (Build.an_and e A) n = A.still n
+        still_cached (Build.an_and p e A) n = A.still n
 
         -- one signal more is built
         pub more_built : r ≢ no_id → Signals b R (suc s) es (set vs (s + 1) r)

@@ -1,5 +1,7 @@
 -- The diagrams of a circuit's signals, as they are made one after the other.
-use Rattle.std.specs.Prelude.{◌≡◌, true, false, List, ℕ, suc, ◌+◌, ◌-◌, ◌/◌, ◌%◌, ◌≤◌, ◌<◌, eqb, ltb, length, get_or, replicate}
+use Rattle.std.specs.Prelude.{◌≡◌, List, ℕ, suc, ◌+◌, ◌-◌, ◌/◌, ◌%◌, ◌≤◌, ◌<◌, eqb, ltb, length, get_or, replicate, Result, Ok, Err, cond}
+use Rattle.verdict.specs.declared.Refusal.{Refusal}
+use Rattle.verdict.specs.declared.Refusal.TheVariants.{Nodes as TooManyNodes}
 use Rattle.circuit.specs.Limits.{most_signals}
 use Rattle.circuit.specs.Circuit.{gates, lefts_at, rights_at, all_inputs, operand}
 use Rattle.circuit.specs.WellFormed.{WellFormed}
@@ -14,6 +16,7 @@ use Rattle.records.specs.Records.{none, nodes_in, Kept}
 use Rattle.conjoin.specs.Cache.{cache_length, Cached, Ready, Anded}
 use Rattle.conjoin.specs.declared.Shape.{Shape}
 use Rattle.build.specs.declared.Origin.{Origin}
+use Rattle.build.specs.declared.Origin.TheVariants.{Input, And}
 
 -- the ids and inversions of the operands of gate g, given the ids of the signals
 abbrev pub operands_in : (b ws : List ℕ) (g : ℕ) → Pair
@@ -24,22 +27,20 @@ operands_in b ws g = record {
   b = eqb (operand b (rights_at b) g % 2) 1;
 }
 
--- m is what is to be made of signal s + 1
-pub record OriginOf (b ws : List ℕ) (s : ℕ) (m : Origin) : Type 0 where
-  pub input_is : m.input ≡ ltb s (all_inputs b)
-  pub level_is : s < all_inputs b → m.level ≡ s + 1
-  pub pair_is : all_inputs b ≤ s → m.pair ≡ operands_in b ws (s - all_inputs b)
+-- what is to be made of signal s + 1
+abbrev pub origin_of : (b ws : List ℕ) (s : ℕ) → Origin
+origin_of b ws s = cond (ltb s (all_inputs b)) (Input (s + 1)) (And (operands_in b ws (s - all_inputs b)))
 
 -- what is to be made can be: an input's node has a level, and an AND is of nodes
 pub record Makeable (N R c : ℕ) (ns : List Node) (ws : List ℕ) (m : Origin) : Type 0 where
   pub kept : Kept N R ns
-  pub level : m.input ≡ true → 0 < m.level
-  pub pair : m.input ≡ false → Ready N R c ns ws m.pair N
+  pub level : (l : ℕ) → m ≡ Input l → 0 < l
+  pub pair : (p : Pair) → m ≡ And p → Ready N R c ns ws p N
 
 -- what making does: the node of an input is joined, the AND of a pair made
 pub data Makes (N R c : ℕ) (m : Origin) (D E : Nodes) (ws vs : List ℕ) (r : ℕ) : Type 0 where
-  an_input : m.input ≡ true → Joined R D E m.level 0 1 r → vs ≡ ws → Makes N R c m D E ws vs r
-  an_and : m.input ≡ false → Anded N R (suc N - N) c D E ws vs m.pair r → Makes N R c m D E ws vs r
+  an_input : (l : ℕ) → m ≡ Input l → Joined R D E l 0 1 r → vs ≡ ws → Makes N R c m D E ws vs r
+  an_and : (p : Pair) → m ≡ And p → Anded N R (suc N - N) c D E ws vs p r → Makes N R c m D E ws vs r
 
 -- the list holds the nodes of the first s signals of b, inputs first, and work their ids; the cache behind is true
 pub record Signals (b : List ℕ) (R s : ℕ) (ns : List Node) (ws : List ℕ) : Type 0 where
@@ -60,8 +61,9 @@ pub record Buildable (b : List ℕ) (h : Head) (ns : List Node) (ws : List ℕ) 
   pub zeros : (i : ℕ) → get_or ws i 0 ≡ 0
   pub space : most_signals + cache_length ≤ length ws
 
--- what building answers and leaves: the number of the first gate for whose nodes R records are too few (0: for the inputs' alone), or one more than
--- there are gates, and then all signals are built
-pub record Building (b : List ℕ) (R : ℕ) (ns : List Node) (ws : List ℕ) (r : ℕ) : Type 0 where
-  pub place : r ≡ first_over (all_inputs b) R (gates b) (signal_on b)
-  pub signals : r ≡ gates b + 1 → Signals b R (all_inputs b + gates b) ns ws
+-- what building answers and leaves: 18 with the number of the first gate for whose nodes R records are too few (0: for the inputs' alone), else all
+-- signals are built
+pub record Building (b : List ℕ) (R : ℕ) (ns : List Node) (ws : List ℕ) (r : Result (Unit {0}) Refusal) : Type 0 where
+  pub short : (refusal : Refusal) → r ≡ Err refusal
+      → (refusal ≡ TooManyNodes (first_over (all_inputs b) R (gates b) (signal_on b))) × (first_over (all_inputs b) R (gates b) (signal_on b) ≤ gates b)
+  pub whole : (u : Unit {0}) → r ≡ Ok u → (first_over (all_inputs b) R (gates b) (signal_on b) ≡ gates b + 1) × Signals b R (all_inputs b + gates b) ns ws

@@ -1,59 +1,45 @@
 // The diagrams of a circuit's signals: of its inputs, then of its gates, one after the other. The ids of the signals lie in `work`, signal by signal,
-// with the cache of the AND behind them.
+// with the cache of the AND behind them: nothing is allocated.
 #![tactic(auto)]
 
 ghost use Rattle.std.specs.Prelude.{◌≡◌, cond, ◌+◌, ◌-◌, ◌<◌, ◌≤◌, ltb, length, set};
 ghost use Rattle.circuit.specs.Circuit.{gates, all_inputs};
 ghost use Rattle.circuit.specs.Limits.{most_signals};
 ghost use Rattle.source.specs.Source.{head_of, sourced, SourceOf};
+ghost use Rattle.nodes.specs.Nodes.{id_of, Real};
 ghost use Rattle.records.specs.Records.{nodes_in};
-ghost use Rattle.build.specs.Build.{OriginOf, Makeable, Makes, Buildable, Building};
+ghost use Rattle.build.specs.Build.{origin_of, Makeable, Makes, Buildable, Building};
 
 use conjoin::{Shape, conjoin};
-use nodes::{NONE, Node, Pair};
+use nodes::{Node, Pair};
 use records::join;
 use source::{Source, gate_of};
+use verdict::Refusal;
 
 // What is to be made of a signal: the node of an input, at its level, or the AND of a pair.
 #[derive(Clone, Copy)]
-pub struct Origin {
-    pub input: bool,
-    pub level: u32,
-    pub pair: Pair,
+pub enum Origin {
+    Input(u32),
+    And(Pair),
 }
 
 // What is to be made of signal s + 1, given the ids of the signals before it.
 fn origin_of(circuit: &[u8], source: Source, work: &[u32], s: usize) -> Origin
     requires source_of { SourceOf circuit.now source }
     requires s_bound { (s < all_inputs (sourced source circuit.now) + gates (sourced source circuit.now)) × (most_signals ≤ length work.now) }
-    ensures { OriginOf (sourced source circuit.now) work.now s result }
+    ensures { result ≡ origin_of (sourced source circuit.now) work.now s }
 {
     let base = source.base;
     if s + 1 < base {
-        return Origin {
-            input: true,
-            level: s as u32 + 1,
-            pair: Pair {
-                f: 0,
-                a: false,
-                g: 0,
-                b: false,
-            },
-        };
+        return Origin::Input(s as u32 + 1);
     }
     let gate = gate_of(circuit, source, s + 1 - base);
-    let left = gate.left;
-    let right = gate.right;
-    Origin {
-        input: false,
-        level: 0,
-        pair: Pair {
-            f: work[left / 2],
-            a: left % 2 == 1,
-            g: work[right / 2],
-            b: right % 2 == 1,
-        },
-    }
+    Origin::And(Pair {
+        f: work[gate.left / 2],
+        a: gate.left % 2 == 1,
+        g: work[gate.right / 2],
+        b: gate.right % 2 == 1,
+    })
 }
 
 // Stores the id of signal s + 1.
@@ -75,39 +61,37 @@ fn gate_number(inputs: u32, s: usize) -> usize
     s - inputs as usize + 1
 }
 
-// Makes the id of a signal: the node of an input, or the AND of a pair. No id where the list has too few records.
-fn make(nodes: &mut [Node], work: &mut [u32], shape: Shape, origin: Origin) -> u32
+// Makes the id of a signal: the node of an input, or the AND of a pair. None where the list has too few records.
+fn make(nodes: &mut [Node], work: &mut [u32], shape: Shape, origin: Origin) -> Option<u32>
     requires { Makeable shape.inputs shape.room shape.cache nodes.old work.old origin }
-    ensures { Makes shape.inputs shape.room shape.cache origin (nodes_in nodes.old) (nodes_in nodes.new) work.old work.new result }
+    ensures is { Makes shape.inputs shape.room shape.cache origin (nodes_in nodes.old) (nodes_in nodes.new) work.old work.new (id_of result) }
+    ensures real { Real result }
 {
-    if origin.input {
-        return join(nodes, shape.room, origin.level, 0, 1);
+    match origin {
+        Origin::Input(level) => join(nodes, shape.room, level, 0, 1),
+        Origin::And(pair) => conjoin(nodes, work, shape, pair, shape.inputs),
     }
-    conjoin(nodes, work, shape, origin.pair, shape.inputs)
 }
 
-// The diagrams of a circuit's signals, in an empty list, and their ids in `work`, which is all zero. Answers the number of the first gate for whose
-// nodes there is no room (0: for the inputs' alone), or one more than there are gates.
+// The diagrams of a circuit's signals, in an empty list, and their ids in `work`, which is all zero. Number 18, with that of
+// the first gate for whose nodes there is no room (0: for the inputs' alone).
 pub fn build(
     circuit: &[u8],
     source: Source,
     nodes: &mut [Node],
     work: &mut [u32],
     shape: Shape,
-) -> usize
+) -> Result<(), Refusal>
     requires { SourceOf circuit.now source × Buildable (sourced source circuit.now) (head_of source) nodes.old work.old shape }
     ensures { Building (sourced source circuit.now) shape.room nodes.new work.new result }
 {
     let count = source.base - 1 + source.gates;
-    let mut s = 0;
-    while s < count {
+    for s in 0..count {
         let origin = origin_of(circuit, source, work, s);
-        let id = make(nodes, work, shape, origin);
-        if id == NONE {
-            return gate_number(shape.inputs, s);
-        }
+        let Some(id) = make(nodes, work, shape, origin) else {
+            return Err(Refusal::Nodes(gate_number(shape.inputs, s)));
+        };
         set_id(work, s, id);
-        s += 1;
     }
-    source.gates + 1
+    Ok(())
 }

@@ -1,20 +1,21 @@
 -- An ascending pass over the sequences: which outputs were seen to look ahead; and number 4. Assumes nothing.
-use mathlib.Core.Path.{◌≡◌, refl, sym, subst}
-use mathlib.Core.Bool.{Bool, true, false, cond}
+use mathlib.Core.Path.{◌≡◌, sym, ap, subst, ◌∙◌}
+use mathlib.Core.Bool.{true, false}
 use mathlib.Core.Logic.{⊎_elim}
 use mathlib.Core.List.{List}
 use Prim.Native.Nat.{ℕ, ◌+◌, ◌-◌, ◌^◌, ◌≤◌, ◌<◌}
 use native.Mathlib.Nat.{eq-or-lt_of_le}
 use native.Mathlib.Decide.{dec_lt}
 use native.Mathlib.Omega.{arith}
-use lib.Dec.{ltb}
-use borrow.Author.Tests.{ltb-true, ltb-false}
-use Rattle.verdict.specs.Judgements.{answer, refuse_first}
+use Rattle.std.specs.Prelude.{Some, None}
+use Rattle.verdict.specs.Judgements.{answer}
 use Rattle.verdict.proofs.Laws.{first_is, finds_none}
 use Rattle.layered.specs.Search.{least}
 use Rattle.layered.proofs.Search.{every_each, every_fails, least_le, least_tells, least_is}
 use Rattle.circuit.specs.Circuit.{all_inputs, all_outputs, as_first, looks_ahead, look_ahead_checked}
+use Rattle.circuit.specs.Found.{found}
 use Rattle.circuit.specs.WellFormed.{CircuitHeaded, LegalGates}
+use Rattle.circuit.proofs.Found.{found_here, found_nowhere, is_found, none_is}
 use Rattle.circuit.proofs.Ahead.{ahead_seen, ahead_unseen}
 use Rattle.lanes.specs.Limits.{lane_count}
 use Rattle.latest.specs.Latest.{reaches_later}
@@ -53,43 +54,57 @@ module _ (b : List ℕ) (H : CircuitHeaded b) (from : ℕ) where
 
   module _ (none : (q : ℕ) → q < from → looks_ahead b q ≡ false) where
     -- after all sequences
-    pub pass_end : (found at count : ℕ) → count ≡ 2 ^ all_inputs b → count ≤ at → Pass b from found at → found ≡ least (all_outputs b) (looks_ahead b)
-    pass_end found at count e h P = sym (least_is (all_outputs b) found (looks_ahead b) P.high (λ q l. go q l (dec_lt q from)) P.there)
+    pass_least : (found at count : ℕ) → count ≡ 2 ^ all_inputs b → count ≤ at → Pass b from found at → found ≡ least (all_outputs b) (looks_ahead b)
+    pass_least found at count e h P = sym (least_is (all_outputs b) found (looks_ahead b) P.high (λ q l. go q l (dec_lt q from)) P.there)
       where
         go : (q : ℕ) → q < found → Dec (q < from) → looks_ahead b q ≡ false
         go q l (yes m) = none q m
         go q l (no m) = ahead_unseen b H q (omega (arith, P.high)) (λ x k. P.before q x (omega arith) l (omega arith))
 
+    pub pass_some : (r at count : ℕ) → count ≡ 2 ^ all_inputs b → count ≤ at → Pass b from r at → r < all_outputs b → Some r ≡ found (all_outputs b) (least (all_outputs b) (looks_ahead b))
+    pass_some r at count e h P l = found_here _ _ l ∙ ap (found (all_outputs b)) (pass_least r at count e h P)
+
+    pub pass_none : (r at count : ℕ) → count ≡ 2 ^ all_inputs b → count ≤ at → Pass b from r at → all_outputs b ≤ r → None ≡ found (all_outputs b) (least (all_outputs b) (looks_ahead b))
+    pass_none r at count e h P l = found_nowhere _ _ l ∙ ap (found (all_outputs b)) (pass_least r at count e h P)
+
     -- nothing before `from` looks ahead: once it is seen to do so, it is the first
-    pub pass_early : (found at : ℕ) → found ≡ from → Pass b from found at → found ≡ least (all_outputs b) (looks_ahead b)
-    pass_early found at e P = sym (least_is (all_outputs b) found (looks_ahead b) P.high (λ q l. none q (omega arith)) P.there)
+    pub pass_early : (r at : ℕ) → r ≡ from → from < all_outputs b → Pass b from r at → Some r ≡ found (all_outputs b) (least (all_outputs b) (looks_ahead b))
+    pass_early r at e l P =
+        found_here _ _ (omega arith) ∙ ap (found (all_outputs b)) (sym (least_is (all_outputs b) r (looks_ahead b) P.high (λ q l. none q (omega arith)) P.there))
 
 -- ---- the verdict
 
 module _ (b : List ℕ) (H : CircuitHeaded b) where
   -- of the first output that looks ahead
-  pub judged : (r total : ℕ) → total ≡ all_outputs b → r ≡ least (all_outputs b) (looks_ahead b) → cond (ltb r total) (answer 4 r) (answer 0 0) ≡ look_ahead_checked b
+  pub judged_at : (q : ℕ) → Some q ≡ found (all_outputs b) (least (all_outputs b) (looks_ahead b)) → answer 4 q ≡ look_ahead_checked b
   unfolding look_ahead_checked
-  judged r total et er = go (ltb r total) refl
-    where
-      tells : ((i : ℕ) → i < r → looks_ahead b i ≡ false) × (r < all_outputs b → looks_ahead b r ≡ true)
-      tells = rw er (least_tells (all_outputs b) (looks_ahead b))
+  judged_at q e =
+      let f = is_found (all_outputs b) _ q e in
+      let t = least_tells (all_outputs b) (looks_ahead b) in
+      rw (f.0, first_is (looks_ahead b) 4 (λ q. q) (answer 0 0) _ (all_outputs b) f.1 t.0 (t.1 f.1))
 
-      go : (t : Bool) → ltb r total ≡ t → cond t (answer 4 r) (answer 0 0) ≡ refuse_first (looks_ahead b) 4 (λ q. q) (answer 0 0) 0 (all_outputs b)
-      go true e =
-          let l : r < all_outputs b = omega (arith, ltb-true r total e) in
-          sym (first_is (looks_ahead b) 4 (λ q. q) (answer 0 0) r (all_outputs b) l tells.0 (tells.1 l))
-      go false e = sym (finds_none (looks_ahead b) 4 (λ q. q) (answer 0 0) 0 (all_outputs b) (λ q lo hi. tells.0 q (omega (arith, ltb-false r total e))))
+  pub judged_none : None ≡ found (all_outputs b) (least (all_outputs b) (looks_ahead b)) → answer 0 0 ≡ look_ahead_checked b
+  unfolding look_ahead_checked
+  judged_none e =
+      let n = none_is (all_outputs b) _ e in
+      sym (finds_none (looks_ahead b) 4 (λ q. q) (answer 0 0) 0 (all_outputs b) (λ q lo hi. (least_tells (all_outputs b) (looks_ahead b)).0 q (omega (arith, n))))
 
-  module _ (L : LegalGates b) (r : ℕ) (er : r ≡ least (all_outputs b) (reaches_later b)) where
-    pub reaching_to : r ≤ all_outputs b
-    reaching_to = rw er (least_le (all_outputs b) (reaches_later b))
+  module _ (L : LegalGates b) where
+    none_before_least : (q : ℕ) → q < least (all_outputs b) (reaches_later b) → looks_ahead b q ≡ false
+    none_before_least q h =
+        unreached b H L q (omega (arith, least_le (all_outputs b) (reaches_later b))) ((least_tells (all_outputs b) (reaches_later b)).0 q (omega arith))
 
-    -- no output before the first that reaches a later input looks ahead
-    pub none_before : (q : ℕ) → q < r → looks_ahead b q ≡ false
-    none_before q h = unreached b H L q (omega (arith, reaching_to)) ((least_tells (all_outputs b) (reaches_later b)).0 q (omega arith))
+    -- the first output that reaches a later input: none before it looks ahead
+    module _ (from : ℕ) (e : Some from ≡ found (all_outputs b) (least (all_outputs b) (reaches_later b))) where
+      pub reaching_to : from < all_outputs b
+      reaching_to = omega (arith, is_found (all_outputs b) _ from e)
+
+      pub none_before : (q : ℕ) → q < from → looks_ahead b q ≡ false
+      none_before q h = none_before_least q (omega (arith, is_found (all_outputs b) _ from e))
 
     -- where there is none, nothing is played
-    pub none_reaching : (total : ℕ) → total ≡ all_outputs b → r ≡ total → answer 0 0 ≡ look_ahead_checked b
+    pub none_reaching : None ≡ found (all_outputs b) (least (all_outputs b) (reaches_later b)) → answer 0 0 ≡ look_ahead_checked b
     unfolding look_ahead_checked
-    none_reaching total et e = sym (finds_none (looks_ahead b) 4 (λ q. q) (answer 0 0) 0 (all_outputs b) (λ q lo hi. none_before q (omega arith)))
+    none_reaching e =
+        let n = none_is (all_outputs b) _ e in
+        sym (finds_none (looks_ahead b) 4 (λ q. q) (answer 0 0) 0 (all_outputs b) (λ q lo hi. none_before_least q (omega (arith, n))))

@@ -1,13 +1,11 @@
 -- The bits of a sequence's number that are the inputs of a source, case by case. Assumes nothing.
 use mathlib.Core.Path.{◌≡◌, ap, ap₂}
 use mathlib.Core.Bool.{true, false}
-use mathlib.Core.Logic.{⊎_elim}
 use mathlib.Core.List.{List}
 use Prim.Native.Nat.{ℕ, suc, ◌+◌, ◌*◌, ◌-◌, ◌/◌, ◌%◌, ◌≤◌, ◌<◌}
-use native.Mathlib.Nat.{mul_comm, mul-suc, mul-le-mul_right, div-lt_iff_lt-mul, div-add-mod', mod-lt, eq-or-lt_of_le}
+use native.Mathlib.Nat.{mul_comm, mul-suc, mul-le-mul_right, div-lt_iff_lt-mul, div-add-mod', mod-lt}
 use native.Mathlib.Omega.{arith}
-use lib.ListN.{length, get_or, set}
-use lib.Seq.{get_or-set_same, get_or-set_other}
+use lib.ListN.{get_or}
 use borrow.Author.Tests.{lt-ltb, le-ltb}
 use Rattle.circuit.specs.Circuit.{frame_of}
 use Rattle.source.specs.declared.Source.{Source}
@@ -58,12 +56,3 @@ module _ (s : Source) (i : ℕ) where
     pub own_place : i + 1 < s.own.base → own_bit s i ≡ place_bit s.inputs s.frames (get_or s.places i 0)
     unfolding own_bit
     own_place h = rw (e, lt-ltb (i + 1) s.own.base h)
-
--- ---- a list of numbers, stored one by one
-
-pub stored_more : (f : ℕ → ℕ) (most : ℕ) (v : List ℕ) (k x : ℕ) → k < length v → ((i : ℕ) → i < k → (get_or v i 0 ≡ f i) × (get_or v i 0 < most)) → (x ≡ f k) × (x < most)
-    → (i : ℕ) → i < k + 1 → (get_or (set v k x) i 0 ≡ f i) × (get_or (set v k x) i 0 < most)
-stored_more f most v k x room S X i h = ⊎_elim
-    (λ (e : i ≡ k). rw (e, get_or-set_same v k x 0 room) X)
-    (λ (l : i < k). rw (get_or-set_other v k i x 0 (λ e. omega arith)) (S i l))
-    (eq-or-lt_of_le {n = i} {m = k} (omega arith))

@@ -2,10 +2,11 @@
 // sequences are played, many side by side.
 #![tactic(auto)]
 
-ghost use Rattle.std.specs.Prelude.{◌≡◌, false, ℕ, ◌+◌, ◌-◌, ◌%◌, ◌≤◌, ◌<◌, length, replicate};
+ghost use Rattle.std.specs.Prelude.{◌≡◌, false, ℕ, ◌+◌, ◌-◌, ◌%◌, ◌≤◌, ◌<◌, length};
 ghost use Rattle.verdict.specs.Judgements.{figures};
 ghost use Rattle.sizes.specs.Limits.{most_outputs, most_bits};
 ghost use Rattle.layered.specs.Search.{least};
+ghost use Rattle.circuit.specs.Found.{found};
 ghost use Rattle.circuit.specs.Limits.{most_signals};
 ghost use Rattle.circuit.specs.Circuit.{all_outputs, looks_ahead, look_ahead_checked, checked};
 ghost use Rattle.circuit.specs.Theorems.{FirstAhead, JudgedAlike, AcceptedCausal};
@@ -20,6 +21,7 @@ use lanes::{first_uses, neighbours, room, store_signals};
 use latest::{first_reaching, output_frame};
 use sizes::power;
 use source::{Source, shown_signal};
+use std::array;
 use verdict::{Refusal, Verdict};
 
 // The most outputs over all frames.
@@ -28,13 +30,6 @@ pub struct Limits;
 
 impl Limits {
     pub const OUTPUTS: usize = sizes::Limits::OUTPUTS * sizes::Limits::FRAMES;
-}
-
-// Room for the lanes of all outputs.
-fn output_room() -> [u32; Limits::OUTPUTS]
-    ensures { result ≡ replicate most_all_outputs 0 }
-{
-    [0; Limits::OUTPUTS]
 }
 
 // The bit of a sequence's number that input i of the circuit or network is: of a circuit as it stands, the bit that it is of its own.
@@ -59,11 +54,7 @@ fn own_bits(source: Source) -> [usize; sizes::Limits::BITS]
     requires { source.whole ≡ false → Placed source }
     ensures { OwnBits source result }
 {
-    let mut bits = [0; sizes::Limits::BITS];
-    for i in 0..sizes::Limits::BITS {
-        bits[i] = own_bit(source, i);
-    }
-    bits
+    array::from_fn(|i| own_bit(source, i))
 }
 
 // The signals that all places of outputs show.
@@ -71,15 +62,12 @@ fn shown_signals(source: Source) -> [usize; Limits::OUTPUTS]
     requires { (source.whole ≡ false → source.own.total ≤ most_outputs) × (source.own.base + source.own.gates ≤ most_signals) × (source.own.total ≤ source.own.gates) }
     ensures { ShownSignals source result }
 {
-    let mut shown = [0; Limits::OUTPUTS];
-    for q in 0..Limits::OUTPUTS {
-        shown[q] = shown_signal(source, q);
-    }
-    shown
+    array::from_fn(|q| shown_signal(source, q))
 }
 
 // Compares the outputs from `from` to before `found` on the sequences of the part from `at` on, each with its value on the first sequence that
-// agrees up to its frame: the first output that differs, or `found`. `kept` has the lanes of these values, of the part before and then of this one.
+// agrees up to its frame: the first output that differs, or `found`. The answer is the bound of the next part, and so no Option. `kept` has the lanes of
+// these values, of the part before and then of this one.
 fn first_differing(
     circuit: &[u8],
     source: Source,
@@ -112,13 +100,12 @@ fn first_differing(
     found
 }
 
-// The first output that looks ahead, of which there is none before `from`; the number of outputs where there is none. The circuit or network is played
-// by its own inputs and signals.
-fn first_ahead(circuit: &[u8], source: Source, from: usize) -> usize
+// The first output that looks ahead, of which there is none before `from`. The circuit or network is played by its own inputs and signals.
+fn first_ahead(circuit: &[u8], source: Source, from: usize) -> Option<usize>
     requires source_of { SourceOf circuit.now source }
-    requires from_bound { from ≤ all_outputs (sourced source circuit.now) }
+    requires from_bound { from < all_outputs (sourced source circuit.now) }
     requires by_index { (q : ℕ) → q < from → looks_ahead (sourced source circuit.now) q ≡ false }
-    ensures { result ≡ least (all_outputs (sourced source circuit.now)) (looks_ahead (sourced source circuit.now)) }
+    ensures { result ≡ found (all_outputs (sourced source circuit.now)) (least (all_outputs (sourced source circuit.now)) (looks_ahead (sourced source circuit.now))) }
 {
     let count = power(source.base - 1);
     let own = source.own;
@@ -127,19 +114,24 @@ fn first_ahead(circuit: &[u8], source: Source, from: usize) -> usize
     let shown = shown_signals(source);
     let firsts = first_uses(circuit, own);
     let mut lanes = room();
-    let mut kept = output_room();
+    let mut kept = [0; Limits::OUTPUTS];
     let mut found = source.total;
     let mut at = 0;
+    // not `step_by`: its loop also ends before a step past `count`, and what follows would be proved once for each end
     while at < count {
         let numbers = neighbours(at, &bits);
         store_signals(circuit, own, frames, &numbers, &firsts, &mut lanes);
         found = first_differing(circuit, source, &lanes, &shown, at, &mut kept, from, found);
         if found == from {
-            return found;
+            return Some(found);
         }
         at += lanes::Limits::LANES;
     }
-    found
+    if found < source.total {
+        Some(found)
+    } else {
+        None
+    }
 }
 
 // Number 4.
@@ -147,13 +139,13 @@ pub fn check_look_ahead(circuit: &[u8], source: Source) -> Verdict
     requires { SourceOf circuit.now source }
     ensures { figures result ≡ look_ahead_checked (sourced source circuit.now) }
 {
-    let total = source.total;
-    let from = first_reaching(circuit, source);
-    if from == total {
-        return Verdict::Accepted(0);
+    let Some(from) = first_reaching(circuit, source) else {
+        return Ok(0);
+    };
+    match first_ahead(circuit, source, from) {
+        Some(found) => Err(Refusal::LookAhead(found)),
+        None => Ok(0),
     }
-    let found = first_ahead(circuit, source, from);
-    Verdict::refuse_if(found < total, Refusal::LookAhead(found), 0)
 }
 
 // The verdict on a circuit.
@@ -163,9 +155,6 @@ pub fn check(circuit: &[u8]) -> Verdict
     ensures alike { JudgedAlike circuit.now }
     ensures causal { AcceptedCausal circuit.now }
 {
-    let judged = check_form(circuit, sizes::Limits::INPUTS, sizes::Limits::FRAMES);
-    let Verdict::Accepted(_) = judged else {
-        return judged;
-    };
+    check_form(circuit, sizes::Limits::INPUTS, sizes::Limits::FRAMES)?;
     check_look_ahead(circuit, Source::of(circuit))
 }

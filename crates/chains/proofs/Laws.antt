@@ -6,7 +6,7 @@ use native.Mathlib.Nat.{mul-le-mul, mul-le-mul_right, suc-mul, le_trans, le_of_l
 use native.Mathlib.Omega.{arith}
 use mathlib.Core.List.{List}
 use lib.Dec.{lit≤}
-use lib.Pow.{pow_pos, pow_mono}
+use lib.Pow.{pow_mono}
 use lib.ListN.{length, get_or}
 use Rattle.circuit.specs.Lists.{bit}
 use Rattle.unfolded.specs.Unfolded.{input_literal, matching}
@@ -33,10 +33,7 @@ inverted_input n t w i e = input_is n t w i false e
 
 -- ---- matches and edges
 
--- a frame has at most 256 words, and at least one
-pub words_from : (n w : ℕ) → w ≡ 2 ^ n → 1 ≤ w
-words_from n w e = rw e (pow_pos n)
-
+-- a frame has at most 256 words
 pub words_to : (n w : ℕ) → w ≡ 2 ^ n → n ≤ 8 → w ≤ 256
 words_to n w e h = rw e (pow_mono {j = 8} h)
 

@@ -3,6 +3,7 @@ pub mod Bits
 pub mod Literals
 pub mod Laws
 pub mod Lists
+pub mod Found
 pub mod Frames
 pub mod Accepted
 pub mod Stages

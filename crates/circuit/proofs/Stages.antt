@@ -9,11 +9,11 @@ use lib.ListN.{length}
 use borrow.Author.Tests.{lt-ltb, le-ltb, eq-eqb, ne_eqb}
 use Rattle.circuit.specs.Limits.{most_gates, circuit_head}
 use Rattle.words.specs.Words.{word_at}
-use Rattle.verdict.specs.Judgements.{answer, figures}
-use Rattle.verdict.specs.declared.Verdict.{Verdict}
-use Rattle.verdict.specs.declared.Verdict.TheVariants.{Accepted, Refused}
+use Rattle.verdict.specs.Judgements.{Verdict, answer, refusal_figures, figures}
+use Rattle.verdict.specs.declared.Figures.{Figures}
+use Rattle.std.specs.Prelude.{IsErrAnd}
 use Rattle.verdict.specs.declared.Refusal.{Refusal}
-use Rattle.verdict.proofs.Laws.{stop, go_on, accepts}
+use Rattle.verdict.proofs.Laws.{stop, go_on}
 use Rattle.sizes.specs.Sizes.{inputs, outputs, frames, outside, sizes_checked}
 use Rattle.sizes.specs.Sized.{sizes_of}
 use Rattle.sizes.specs.declared.Sizes.{Sizes}
@@ -35,25 +35,26 @@ module _ (most long : ℕ) (b : List ℕ) where
   unfolding head_checked
   head_short h = simp (lt-ltb _ _ h)
 
-  module _ (h : circuit_head ≤ length b) (s : Sizes) (es : s ≡ sizes_of b) (x : Verdict) (ex : figures x ≡ sizes_checked most s.inputs s.outputs s.frames) where
-    of_b : figures x ≡ sizes_checked most (inputs b) (outputs b) (frames b)
-    of_b = ex ∙ ap (λ (s : Sizes). sizes_checked most s.inputs s.outputs s.frames) es
+  module _ (h : circuit_head ≤ length b) (s : Sizes) (es : s ≡ sizes_of b) where
+    of_b : (f : Figures) → f ≡ sizes_checked most s.inputs s.outputs s.frames → f ≡ sizes_checked most (inputs b) (outputs b) (frames b)
+    of_b f e = e ∙ ap (λ (s : Sizes). sizes_checked most s.inputs s.outputs s.frames) es
 
-    pub head_sizes : (r : Refusal) → x ≡ Refused r → figures x ≡ head_checked most long b
+    pub head_sizes : (x : Verdict) (r : Refusal) → IsErrAnd x (λ y. y ≡ r) → refusal_figures r ≡ sizes_checked most s.inputs s.outputs s.frames
+        → figures x ≡ head_checked most long b
     unfolding head_checked
-    head_sizes r q = rw (le-ltb _ _ h) (stop x _ _ r of_b q)
+    head_sizes x r i e = rw (le-ltb _ _ h) (stop x r _ _ i (of_b _ e))
 
-    module _ (p : ℕ) (q : x ≡ Accepted p) where
+    module _ (p : ℕ) (q : answer 0 p ≡ sizes_checked most s.inputs s.outputs s.frames) where
       -- the number of outputs fits
       pub product_small : s.outputs * s.frames ≤ 256
       product_small =
-          let z = sized most s.inputs s.outputs s.frames p (accepts x _ p ex q) in
+          let z = sized most s.inputs s.outputs s.frames p (sym q) in
           mul-le-mul z.outputs_to z.frames_to
 
       -- too many frames
       pub head_long : long < s.frames → answer 2 4 ≡ head_checked most long b
       unfolding head_checked
-      head_long l = rw (le-ltb _ _ h) (go_on x _ _ _ p of_b q (rw (lt-ltb long (frames b) (subst (λ (s : Sizes). long < s.frames) es l))))
+      head_long l = rw (le-ltb _ _ h) (go_on _ _ _ p (of_b _ q) (rw (lt-ltb long (frames b) (subst (λ (s : Sizes). long < s.frames) es l))))
 
       module _ (k : s.frames ≤ long) (g : ℕ) (eg : g ≡ word_at b 6) where
         few : ltb long (frames b) ≡ false
@@ -65,13 +66,13 @@ module _ (most long : ℕ) (b : List ℕ) where
 
         pub head_gates : outside (s.outputs * s.frames) most_gates g ≡ true → answer 2 6 ≡ head_checked most long b
         unfolding head_checked
-        head_gates t = rw (le-ltb _ _ h) (go_on x _ _ _ p of_b q (rw (few, sym asked ∙ t)))
+        head_gates t = rw (le-ltb _ _ h) (go_on _ _ _ p (of_b _ q) (rw (few, sym asked ∙ t)))
 
         module _ (t : outside (s.outputs * s.frames) most_gates g ≡ false) where
           pub head_length_lem : ¬ (length b ≡ circuit_head + 4 * g) → answer 1 (length b) ≡ head_checked most long b
           unfolding head_checked circuit_length gates
-          head_length_lem n = rw (le-ltb _ _ h) (go_on x _ _ _ p of_b q (rw (few, sym asked ∙ t, ne_eqb (length b) (circuit_head + 4 * word_at b 6) (λ e. n (e ∙ ap (λ (g : ℕ). circuit_head + 4 * g) (sym eg))))))
+          head_length_lem n = rw (le-ltb _ _ h) (go_on _ _ _ p (of_b _ q) (rw (few, sym asked ∙ t, ne_eqb (length b) (circuit_head + 4 * word_at b 6) (λ e. n (e ∙ ap (λ (g : ℕ). circuit_head + 4 * g) (sym eg))))))
 
           pub head_whole : length b ≡ circuit_head + 4 * g → answer 0 0 ≡ head_checked most long b
           unfolding head_checked circuit_length gates
-          head_whole e = rw (le-ltb _ _ h) (go_on x _ _ _ p of_b q (rw (few, sym asked ∙ t, eq-eqb (length b) (circuit_head + 4 * word_at b 6) (e ∙ ap (λ (g : ℕ). circuit_head + 4 * g) eg))))
+          head_whole e = rw (le-ltb _ _ h) (go_on _ _ _ p (of_b _ q) (rw (few, sym asked ∙ t, eq-eqb (length b) (circuit_head + 4 * word_at b 6) (e ∙ ap (λ (g : ℕ). circuit_head + 4 * g) eg))))

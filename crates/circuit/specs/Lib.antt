@@ -1,5 +1,6 @@
 -- What a reader of `circuit` must believe, in the order of reading.
 pub mod Lists
+pub mod Found
 pub mod Limits
 pub mod Circuit
 pub mod Frames

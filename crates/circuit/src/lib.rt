@@ -1,7 +1,7 @@
 // Circuits over frames ("charts" in document 01): the format, and every check but that of number 4.
 #![tactic(auto)]
 
-ghost use Rattle.std.specs.Prelude.{◌≡◌, false, ℕ, ◌+◌, ◌*◌, ◌-◌, ◌≤◌, ◌<◌, length};
+ghost use Rattle.std.specs.Prelude.{◌≡◌, false, ℕ, ◌+◌, ◌*◌, ◌-◌, ◌≤◌, ◌<◌, length, IfOk};
 ghost use Rattle.verdict.specs.Judgements.{figures};
 ghost use Rattle.sizes.specs.Limits.{most_outputs, most_bits};
 ghost use Rattle.layered.specs.Search.{least};
@@ -69,28 +69,26 @@ pub struct Gate {
 // Numbers 1 (head), 2 and 1 of document 01. `most` is the largest n, and `long` the largest T.
 pub fn check_head(circuit: &[u8], most: usize, long: usize) -> Verdict
     requires { most ≤ most_bits }
-    ensures { figures result ≡ head_checked most long circuit.now }
+    ensures verdict { figures result ≡ head_checked most long circuit.now }
+    ensures headed { IfOk result (λ _. CircuitHeaded circuit.now) }
 {
     let length = circuit.len();
     if length < Limits::HEAD {
-        return Verdict::Refused(Refusal::Length(length));
+        return Err(Refusal::Length(length));
     }
     let sizes = Sizes::read(circuit);
-    let sized = sizes.check(most);
-    let Verdict::Accepted(_) = sized else {
-        return sized;
-    };
+    sizes.check(most)?;
     if long < sizes.frames {
-        return Verdict::Refused(Refusal::Size(4));
+        return Err(Refusal::Size(4));
     }
     let gates = read(circuit, 6);
     if is_outside(sizes.outputs * sizes.frames, Limits::GATES, gates) {
-        return Verdict::Refused(Refusal::Size(6));
+        return Err(Refusal::Size(6));
     }
     if length != Limits::HEAD + 4 * gates {
-        return Verdict::Refused(Refusal::Length(length));
+        return Err(Refusal::Length(length));
     }
-    Verdict::Accepted(0)
+    Ok(0)
 }
 
 // The two literals of gate g, as they stand.
@@ -162,10 +160,10 @@ fn check_first(circuit: &[u8], head: Head, start: usize, count: usize) -> Verdic
     for g in 0..count {
         let at = start + 2 * g;
         if 2 * (base + g) <= read(circuit, at) {
-            return Verdict::Refused(Refusal::Literal(at));
+            return Err(Refusal::Literal(at));
         }
     }
-    Verdict::Accepted(0)
+    Ok(0)
 }
 
 // Number 3, of the literals there of the outputs from gate `first` on.
@@ -180,10 +178,10 @@ fn check_rest(circuit: &[u8], head: Head, start: usize, first: usize) -> Verdict
     for g in first..count {
         let at = start + 2 * g;
         if !is_admissible(circuit, head, g, read(circuit, at)) {
-            return Verdict::Refused(Refusal::Literal(at));
+            return Err(Refusal::Literal(at));
         }
     }
-    Verdict::Accepted(0)
+    Ok(0)
 }
 
 // Number 3, of all literals there. Up to the first unconnected output none has to be looked at for what it names.
@@ -194,10 +192,7 @@ fn check_literals(circuit: &[u8], head: Head, start: usize, first: usize) -> Ver
     requires first_value { first ≡ least (gates circuit.now) (unconnected circuit.now) }
     ensures { figures result ≡ literals_checked circuit.now start }
 {
-    let before = check_first(circuit, head, start, first);
-    let Verdict::Accepted(_) = before else {
-        return before;
-    };
+    check_first(circuit, head, start, first)?;
     check_rest(circuit, head, start, first)
 }
 
@@ -219,16 +214,10 @@ pub fn check_form(circuit: &[u8], most: usize, long: usize) -> Verdict
     requires { most ≤ most_bits }
     ensures { figures result ≡ form_within most long circuit.now }
 {
-    let judged = check_head(circuit, most, long);
-    let Verdict::Accepted(_) = judged else {
-        return judged;
-    };
+    check_head(circuit, most, long)?;
     let head = Head::read(circuit);
     let first = first_unconnected(circuit, head);
-    let lefts = check_literals(circuit, head, Limits::HEAD, first);
-    let Verdict::Accepted(_) = lefts else {
-        return lefts;
-    };
+    check_literals(circuit, head, Limits::HEAD, first)?;
     let rights_at = Limits::HEAD + 2 * head.gates;
     check_literals(circuit, head, rights_at, first)
 }

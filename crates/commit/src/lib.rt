@@ -8,9 +8,7 @@ ghost use Rattle.folded.specs.Planned.{commit_checked, commit_result};
 ghost use Rattle.folded.specs.Theorems.{Committing};
 ghost use Rattle.ask.specs.Plan.{plan_numbers};
 ghost use Rattle.fold.specs.Fold.{Promised};
-ghost use Rattle.admit.specs.Admit.{WantedOf};
 
-use admit::wanted::Wanted;
 use ask::plan::Plan;
 use fold::fold_wanted;
 use nodes::Node;
@@ -31,15 +29,7 @@ pub fn commit_numbers(
     ensures promised { Promised circuit.now (figures result) res.new }
     ensures committing { Committing circuit.now numbers.now scratch.old (length nodes.old) res.old }
 {
-    fold_wanted(circuit, Wanted::of(numbers), scratch, nodes, res)
-}
-
-// What a plan wants.
-fn wanted(plan: Plan) -> Wanted
-    ensures { WantedOf (plan_numbers plan) result }
-{
-    let numbers = plan.numbers();
-    Wanted::of(&numbers)
+    fold_wanted(circuit, Some(numbers), scratch, nodes, res)
 }
 
 // Commits to a plan: refuses what asking refuses, then any plan but the circuit's (14), and then does what folding does.
@@ -57,5 +47,6 @@ pub fn commit(
     ensures promised { Promised circuit.now (figures result) res.new }
     ensures committing { Committing circuit.now (plan_numbers plan) scratch.old (length nodes.old) res.old }
 {
-    fold_wanted(circuit, wanted(plan), scratch, nodes, res)
+    let numbers = plan.numbers();
+    fold_wanted(circuit, Some(&numbers), scratch, nodes, res)
 }

@@ -3,13 +3,12 @@ use mathlib.Core.Path.{◌≡◌, refl, sym, ap, ◌∙◌, subst}
 use mathlib.Core.Bool.{Bool, false}
 use mathlib.Core.Logic.{◌⊎◌, inl, inr, ◌≢◌}
 use mathlib.Core.List.{List}
-use Prim.Native.Nat.{ℕ, ◌+◌, ◌*◌, ◌%◌, ◌≤◌, ◌<◌}
-use native.Mathlib.Nat.{mod-lt}
+use Prim.Native.Nat.{ℕ, ◌+◌, ◌*◌, ◌≤◌, ◌<◌}
 use native.Mathlib.Omega.{arith}
-use lib.ListN.{length, get_or, set, length-set}
-use lib.Seq.{get_or-set_same, get_or-set_other}
+use lib.ListN.{get_or}
+use Rattle.std.specs.Prelude.{Some}
+use Rattle.std.proofs.lemmas.Option.{same_Some}
 use Rattle.diagrams.specs.Diagrams.{Nodes, Reduced, Grown}
-use Rattle.diagrams.specs.Making.{no_id}
 use Rattle.diagrams.specs.Caching.{AndIs, flags_of}
 use Rattle.diagrams.proofs.Growth.{decide}
 use Rattle.diagrams.proofs.Caching.{flags_apart, and_kept, and_none}
@@ -17,77 +16,35 @@ use Rattle.nodes.specs.declared.Pair.{Pair}
 use Rattle.conjoin.specs.Cache
 use Rattle.conjoin.specs.Cache.{Cached, Slot, Looked, KeptIn}
 
--- the number of two inversions
-pub flags_are : (a b x y : Bool) (n : ℕ) → a ≡ x → b ≡ y → n ≡ flags_of x y → n < 4 → (n ≡ flags_of a b) × (n < 4)
-flags_are a b x y n e d q l = (q ∙ ap (λ x. flags_of x y) (sym e) ∙ ap (flags_of a) (sym d), l)
-
--- a place of the cache
-pub slot_at : (c x : ℕ) → Slot c (c + 4 * (x % 4096))
-slot_at c x = record { entry = x % 4096; small = mod-lt x (omega arith); is = refl }
-
--- four numbers are stored one behind the other
-pub kept_in : (ws : List ℕ) (s : ℕ) (p : Pair) (w r : ℕ) → s + 4 ≤ length ws → w ≡ flags_of p.a p.b
-    → KeptIn ws (set (set (set (set ws s p.f) (s + 1) p.g) (s + 2) w) (s + 3) r) s p r
-kept_in ws s p w r h e = record {
-  first = λ _. other 3 (s) (omega arith) ∙ get_or-set_other w₂ (s + 2) s w 0 (λ d. omega arith) ∙ get_or-set_other w₁ (s + 1) s p.g 0 (λ d. omega arith) ∙ get_or-set_same ws s p.f 0 (omega arith);
-  second = λ _. other 3 (s + 1) (omega arith) ∙ get_or-set_other w₂ (s + 2) (s + 1) w 0 (λ d. omega arith) ∙ get_or-set_same w₁ (s + 1) p.g 0 (omega (arith, l₁));
-  flags = λ _. other 3 (s + 2) (omega arith) ∙ get_or-set_same w₂ (s + 2) w 0 (omega (arith, l₂)) ∙ e;
-  result = λ _. get_or-set_same w₃ (s + 3) r 0 (omega (arith, l₃));
-  else_is = λ i n.
-      get_or-set_other w₃ (s + 3) i r 0 (λ d. omega (arith, n (omega arith))) ∙ get_or-set_other w₂ (s + 2) i w 0 (λ d. omega (arith, n (omega arith)))
-      ∙ get_or-set_other w₁ (s + 1) i p.g 0 (λ d. omega (arith, n (omega arith))) ∙ get_or-set_other ws s i p.f 0 (λ d. omega (arith, n (omega arith)));
-}
-  where
-    w₁ : List ℕ
-    w₁ = set ws s p.f
-
-    w₂ : List ℕ
-    w₂ = set w₁ (s + 1) p.g
-
-    w₃ : List ℕ
-    w₃ = set w₂ (s + 2) w
-
-    l₁ : length w₁ ≡ length ws
-    l₁ = length-set ws s p.f
-
-    l₂ : length w₂ ≡ length ws
-    l₂ = length-set w₁ (s + 1) p.g ∙ l₁
-
-    l₃ : length w₃ ≡ length ws
-    l₃ = length-set w₂ (s + 2) w ∙ l₂
-
-    other : (k i : ℕ) → i < s + 3 → get_or (set w₃ (s + 3) r) i 0 ≡ get_or w₃ i 0
-    other k i l = get_or-set_other w₃ (s + 3) i r 0 (λ d. omega arith)
-
 -- true entries stay true when the list grows
 pub cached_kept : (N k : ℕ) (H : List Bool → Bool) (D E : Nodes) (c : ℕ) (ws : List ℕ) → Reduced N D → Grown N k H D E → Cached N D c ws → Cached N E c ws
 unfolding Cached
 cached_kept N k H D E c ws red G C i h a b e = and_kept N k H D E red G _ a _ b _ (C i h a b e)
 
 -- what is found is the AND
-pub looked_and : (N : ℕ) (D : Nodes) (c : ℕ) (ws : List ℕ) (s : ℕ) (p : Pair) (r : ℕ) → Cached N D c ws → Slot c s → Looked ws s p r → r ≢ no_id → AndIs N D p.f p.a p.g p.b r
+pub looked_and : (N : ℕ) (D : Nodes) (c : ℕ) (ws : List ℕ) (s : ℕ) (p : Pair) (r : ℕ) → Cached N D c ws → Slot c s → Looked ws s p (Some r) → AndIs N D p.f p.a p.g p.b r
 unfolding Cached
-looked_and N D c ws s p r C S (Cache.hit x y z q) n =
+looked_and N D c ws s p r C S (Cache.hit x y z q) =
     let at : (j : ℕ) → get_or ws (s + j) 0 ≡ get_or ws (c + 4 * S.entry + j) 0 = λ j. ap (λ s. get_or ws (s + j) 0) S.is in
     let at₀ : get_or ws s 0 ≡ get_or ws (c + 4 * S.entry) 0 = ap (λ s. get_or ws s 0) S.is in
-    subst (λ r. AndIs N D p.f p.a p.g p.b r) (sym (q ∙ at 3))
+    subst (λ r. AndIs N D p.f p.a p.g p.b r) (sym (same_Some _ _ q ∙ at 3))
     (subst (λ f. AndIs N D f p.a p.g p.b (get_or ws (c + 4 * S.entry + 3) 0)) (sym at₀ ∙ x)
     (subst (λ g. AndIs N D (get_or ws (c + 4 * S.entry) 0) p.a g p.b (get_or ws (c + 4 * S.entry + 3) 0)) (sym (at 1) ∙ y) (C S.entry S.small p.a p.b (sym (at 2) ∙ z))))
-looked_and N D c ws s p r C S (Cache.missed q) n = absurd (n q)
+looked_and N D c ws s p r C S (Cache.missed q) = cc
 
 -- an AND may be kept at any place
-pub cached_set : (N : ℕ) (D : Nodes) (c : ℕ) (ws vs : List ℕ) (s : ℕ) (p : Pair) (r : ℕ) → Cached N D c ws → Slot c s → KeptIn ws vs s p r → r ≢ no_id → AndIs N D p.f p.a p.g p.b r → Cached N D c vs
+pub cached_set : (N : ℕ) (D : Nodes) (c : ℕ) (ws vs : List ℕ) (s : ℕ) (p : Pair) (r : ℕ) → Cached N D c ws → Slot c s → KeptIn ws vs s p r → AndIs N D p.f p.a p.g p.b r → Cached N D c vs
 unfolding Cached
-cached_set N D c ws vs s p r C S K n A j l x y q = go (decide j S.entry)
+cached_set N D c ws vs s p r C S K A j l x y q = go (decide j S.entry)
   where
     go : (j ≡ S.entry) ⊎ (j ≢ S.entry) → AndIs N D (get_or vs (c + 4 * j) 0) x (get_or vs (c + 4 * j + 1) 0) y (get_or vs (c + 4 * j + 3) 0)
     go (inl z) =
         let at : c + 4 * j ≡ s = omega (arith, S.is) in
         let to : (i : ℕ) → get_or vs (c + 4 * j + i) 0 ≡ get_or vs (s + i) 0 = λ i. ap (λ s. get_or vs (s + i) 0) at in
-        let t = flags_apart p.a p.b x y (sym (K.flags n) ∙ sym (to 2) ∙ q) in
-        subst (λ f. AndIs N D f x (get_or vs (c + 4 * j + 1) 0) y (get_or vs (c + 4 * j + 3) 0)) (sym (ap (λ s. get_or vs s 0) at ∙ K.first n))
-        (subst (λ g. AndIs N D p.f x g y (get_or vs (c + 4 * j + 3) 0)) (sym (to 1 ∙ K.second n))
-        (subst (λ r. AndIs N D p.f x p.g y r) (sym (to 3 ∙ K.result n))
+        let t = flags_apart p.a p.b x y (sym (K.flags) ∙ sym (to 2) ∙ q) in
+        subst (λ f. AndIs N D f x (get_or vs (c + 4 * j + 1) 0) y (get_or vs (c + 4 * j + 3) 0)) (sym (ap (λ s. get_or vs s 0) at ∙ K.first))
+        (subst (λ g. AndIs N D p.f x g y (get_or vs (c + 4 * j + 3) 0)) (sym (to 1 ∙ K.second))
+        (subst (λ r. AndIs N D p.f x p.g y r) (sym (to 3 ∙ K.result))
         (subst (λ x. AndIs N D p.f x p.g y r) t.0 (subst (λ y. AndIs N D p.f p.a p.g y r) t.1 A))))
     go (inr d) =
         let e : (i : ℕ) → i < 4 → get_or vs (c + 4 * j + i) 0 ≡ get_or ws (c + 4 * j + i) 0 = λ i h. K.else_is (c + 4 * j + i) (λ m. omega (arith, S.is, d, m)) in

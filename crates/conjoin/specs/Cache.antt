@@ -1,5 +1,5 @@
 -- A cache of ANDs in a list of numbers: entries of two ids, their inversions as one number, and the id of the AND.
-use Rattle.std.specs.Prelude.{◌≡◌, Bool, ◌≢◌, List, ℕ, suc, ◌+◌, ◌*◌, ◌-◌, ◌≤◌, ◌<◌, length, get_or}
+use Rattle.std.specs.Prelude.{◌≡◌, Bool, ◌≢◌, List, ℕ, suc, ◌+◌, ◌*◌, ◌-◌, ◌≤◌, ◌<◌, length, get_or, Option, None, Some}
 use Rattle.diagrams.specs.Diagrams.{Nodes}
 use Rattle.diagrams.specs.Making.{Conjoined, no_id}
 use Rattle.diagrams.specs.Caching.{AndIs, flags_of}
@@ -26,16 +26,16 @@ pub record Slot (c s : ℕ) : Type 0 where
   pub is : s ≡ c + 4 * entry
 
 -- what is found of a pair at s
-pub data Looked (ws : List ℕ) (s : ℕ) (p : Pair) (r : ℕ) : Type 0 where
-  hit : get_or ws s 0 ≡ p.f → get_or ws (s + 1) 0 ≡ p.g → get_or ws (s + 2) 0 ≡ flags_of p.a p.b → r ≡ get_or ws (s + 3) 0 → Looked ws s p r
-  missed : r ≡ no_id → Looked ws s p r
+pub data Looked (ws : List ℕ) (s : ℕ) (p : Pair) (r : Option ℕ) : Type 0 where
+  hit : get_or ws s 0 ≡ p.f → get_or ws (s + 1) 0 ≡ p.g → get_or ws (s + 2) 0 ≡ flags_of p.a p.b → r ≡ Some (get_or ws (s + 3) 0) → Looked ws s p r
+  missed : r ≡ None → Looked ws s p r
 
--- vs is ws with the AND r of a pair kept at s, if it is an id
+-- vs is ws with the AND r of a pair kept at s
 pub record KeptIn (ws vs : List ℕ) (s : ℕ) (p : Pair) (r : ℕ) : Type 0 where
-  pub first : r ≢ no_id → get_or vs s 0 ≡ p.f
-  pub second : r ≢ no_id → get_or vs (s + 1) 0 ≡ p.g
-  pub flags : r ≢ no_id → get_or vs (s + 2) 0 ≡ flags_of p.a p.b
-  pub result : r ≢ no_id → get_or vs (s + 3) 0 ≡ r
+  pub first : get_or vs s 0 ≡ p.f
+  pub second : get_or vs (s + 1) 0 ≡ p.g
+  pub flags : get_or vs (s + 2) 0 ≡ flags_of p.a p.b
+  pub result : get_or vs (s + 3) 0 ≡ r
   pub else_is : (i : ℕ) → (s ≤ i → s + 4 ≤ i) → get_or vs i 0 ≡ get_or ws i 0
 
 -- a pair of nodes of a level that so many levels are left from, in a list of R records, with a true cache at c

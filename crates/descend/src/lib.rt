@@ -93,6 +93,7 @@ fn begin(work: &mut [u32], f: u32, spread: Spread) -> Cursor
     }
 }
 
+#[tactic(auto, unfolding(crate::specs::Descend::next_cursor))]
 fn next_cursor(spread: Spread, cursor: Cursor) -> Cursor
     requires { CursorFits spread cursor }
     ensures { result ≡ next_cursor spread cursor }
@@ -137,6 +138,7 @@ pub fn expand(nodes: &[Node], work: &mut [u32], f: u32, spread: Spread)
     ensures { Expanded nodes.now work.old f spread work.new }
 {
     let mut c = begin(work, f, spread);
+    // not `for`: four places move on together, as the cursor says
     while c.count < spread.size {
         let id = id_at(work, c.low);
         let next = split(work, node_of(nodes, id), id, spread, c);
@@ -162,10 +164,8 @@ pub fn trace(nodes: &[Node], work: &mut [u32], job: Job)
     requires { Traceable nodes.now work.old job }
     ensures { Traced nodes.now work.old job work.new }
 {
-    let mut i = 0;
-    while i < job.count {
+    for i in 0..job.count {
         let f = follow(nodes, id_at(work, job.from + i), job.path, job.top);
         expand(nodes, work, f, spread_of(job, i));
-        i = i + 1;
     }
 }

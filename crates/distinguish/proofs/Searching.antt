@@ -3,10 +3,12 @@ use mathlib.Core.Path.{◌≡◌, sym, ap, ap₂, ◌∙◌, subst}
 use mathlib.Core.Bool.{false, not}
 use mathlib.Core.List.{List}
 use Prim.Native.Nat.{ℕ, suc, ◌+◌, ◌-◌, ◌*◌, ◌/◌, ◌^◌, ◌≤◌, ◌<◌}
-use native.Mathlib.Nat.{mul_comm, mul-le-mul_left, pow-suc, mul-div_cancel}
+use native.Mathlib.Nat.{mul_comm, mul-le-mul_left, pow-zero, pow-suc, mul-div_cancel}
 use native.Mathlib.Numerals.{add-one}
 use native.Mathlib.Omega.{arith}
+use lib.Arith.{digits_lt}
 use lib.Dec.{eqb}
+use Rattle.std.specs.Prelude.{Option, Some, None}
 use lib.Pow.{pow_mono, pow_pos}
 use Rattle.words.specs.Words.{word_at}
 use Rattle.sizes.specs.Sizes.{inputs, frames}
@@ -18,9 +20,10 @@ use Rattle.table.specs.Table.{states, entry_count, machine}
 use Rattle.table.specs.Sound.{Sound, layout_of}
 use Rattle.table.specs.declared.Layout.{Layout}
 use Rattle.table.proofs.Offsets.{Laid, laid}
-use Rattle.distinguish.specs.Distinguish.{separates, first_list}
+use Rattle.distinguish.specs.Distinguish.{separates, below, first_list}
 use Rattle.distinguish.specs.Pairs.{PairOf}
 use Rattle.distinguish.specs.declared.Pair.{Pair}
+use Rattle.distinguish.proofs.Below.{is_below, not_below, below_some, below_none}
 use Rattle.distinguish.proofs.Separating.{first-same, first_one, none_more, found_with, found_none}
 use Rattle.distinguish.proofs.Entries.{row_at, row_in, output_at_lem}
 
@@ -68,8 +71,11 @@ module _ {b : List ℕ} {l : Layout} {p : Pair} {count rest : ℕ} (S : Seeking 
   pub words_some : 0 < l.words
   words_some = omega (arith, words_is, pow_pos (inputs b))
 
-  abbrev pub Answer : ℕ → Type 0
-  Answer x = x ≡ first_list K (machine b) p.layer p.first p.second count
+  abbrev found : ℕ
+  found = first_list K (machine b) p.layer p.first p.second count
+
+  abbrev pub Answer : Option ℕ → Type 0
+  Answer x = x ≡ below (K ^ count) found
 
   pub all_are : l.words * rest ≡ K ^ count
   all_are = all_lists K count l.words rest S.some words_is S.rest_is
@@ -78,20 +84,24 @@ module _ {b : List ℕ} {l : Layout} {p : Pair} {count rest : ℕ} (S : Seeking 
   all_few = omega (arith, all_are, lists_few b S.sound count (omega (arith, S.within)))
 
   -- equal states
-  pub same_answer : p.first ≡ p.second → Answer (l.words * rest)
-  same_answer q = all_are ∙ sym (first-same (machine b) K p.layer p.second count) ∙ ap (λ s. first_list K (machine b) p.layer s p.second count) (sym q)
+  pub same_answer : p.first ≡ p.second → Answer None
+  same_answer q =
+      let e : found ≡ K ^ count = ap (λ s. first_list K (machine b) p.layer s p.second count) q ∙ first-same (machine b) K p.layer p.second count in
+      not_below (K ^ count) found (omega arith)
 
   -- one word
-  pub one_answer : (x f g : ℕ) → count ≡ 1 → f ≡ row_of l.outputs p.first → g ≡ row_of l.outputs p.second
-      → x ≡ least l.words (λ w. not (eqb (word_at b (f + 2 * w)) (word_at b (g + 2 * w)))) → Answer x
+  pub one_answer : (x : Option ℕ) (f g : ℕ) → count ≡ 1 → f ≡ row_of l.outputs p.first → g ≡ row_of l.outputs p.second
+      → x ≡ below l.words (least l.words (λ w. not (eqb (word_at b (f + 2 * w)) (word_at b (g + 2 * w))))) → Answer x
   one_answer x f g one i j a =
+      let k : l.words ≡ K ^ count = words_is ∙ sym (ap (λ n. K ^ n) one ∙ pow-suc K 0 ∙ ap (λ x. x * K) (pow-zero K) ∙ omega arith) in
       a
-      ∙ ap (λ n. least n (λ w. not (eqb (word_at b (f + 2 * w)) (word_at b (g + 2 * w))))) words_is
+      ∙ ap₂ below k
+      (ap (λ n. least n (λ w. not (eqb (word_at b (f + 2 * w)) (word_at b (g + 2 * w))))) words_is
       ∙ least_cong K _ _ (λ w _. ap₂ (λ x y. not (eqb x y))
       (ap (λ n. word_at b (n + 2 * w)) i ∙ output_at_lem b l p S.sound S.layout_is S.pair_is in_frames p.first S.pair_is.first_to w)
       (ap (λ n. word_at b (n + 2 * w)) j ∙ output_at_lem b l p S.sound S.layout_is S.pair_is in_frames p.second S.pair_is.second_to w))
       ∙ sym (first_one (machine b) K p.layer p.first p.second)
-      ∙ ap (first_list K (machine b) p.layer p.first p.second) (sym one)
+      ∙ ap (first_list K (machine b) p.layer p.first p.second) (sym one))
 
   -- ---- more words
 
@@ -122,30 +132,44 @@ module _ {b : List ℕ} {l : Layout} {p : Pair} {count rest : ℕ} (S : Seeking 
         (f h (omega (arith, g, ap (λ r. w * r) S.rest_is)))
 
     -- a turn: the states that follow by the word w, and the first list that separates them
-    module _ (w n : ℕ) (q : Pair) (h : w < l.words) (layer_is : q.layer ≡ p.layer + 1) (first_is : q.first ≡ (machine b).next p.layer p.first w)
-        (second_is : q.second ≡ (machine b).next p.layer p.second w)
-        (n-is : n ≡ first_list K (machine b) q.layer q.first q.second (count - 1)) where
-      then_is : n ≡ first_list K (machine b) (suc p.layer) ((machine b).next p.layer p.first w) ((machine b).next p.layer p.second w) (count - 1)
+    module _ (w : ℕ) (q : Pair) (h : w < l.words) (layer_is : q.layer ≡ p.layer + 1) (first_is : q.first ≡ (machine b).next p.layer p.first w)
+        (second_is : q.second ≡ (machine b).next p.layer p.second w) where
+      abbrev then : ℕ
+      then = first_list K (machine b) q.layer q.first q.second (count - 1)
+
+      then_is : then ≡ first_list K (machine b) (suc p.layer) ((machine b).next p.layer p.first w) ((machine b).next p.layer p.second w) (count - 1)
       then_is =
-          n-is
-          ∙ ap (λ t. first_list K (machine b) t q.first q.second (count - 1)) (layer_is ∙ add-one p.layer)
+          ap (λ t. first_list K (machine b) t q.first q.second (count - 1)) (layer_is ∙ add-one p.layer)
           ∙ ap₂ (λ r s. first_list K (machine b) (suc p.layer) r s (count - 1)) first_is second_is
 
-      pub found_answer : n < rest → NoneTo w → Answer (w * rest + n)
-      found_answer b' f =
-          ap (λ r. w * r + n) S.rest_is
-          ∙ found_with (machine b) K p.layer p.first p.second (count - 1) rest_from w n (omega (arith, words_is)) then_is (omega (arith, S.rest_is)) (back w f)
-          ∙ ap (first_list K (machine b) p.layer p.first p.second) count_is
+      pub number_few : (n : ℕ) → Some n ≡ below (K ^ (count - 1)) then → w * rest + n < l.words * rest
+      number_few n e =
+          let t = below_some (K ^ (count - 1)) then n e in
+          let m : n < rest = omega (arith, t, S.rest_is) in
+          digits_lt h m
 
-      pub none_further : rest ≤ n → NoneTo w → NoneTo (w + 1)
-      none_further b' f g i =
+      pub found_answer : (n : ℕ) → Some n ≡ below (K ^ (count - 1)) then → NoneTo w → Answer (Some (w * rest + n))
+      found_answer n e f =
+          let t = below_some (K ^ (count - 1)) then n e in
+          let a : w * rest + n ≡ found =
+          ap (λ r. w * r + n) S.rest_is
+          ∙ found_with (machine b) K p.layer p.first p.second (count - 1) rest_from w n (omega (arith, words_is)) (t.0 ∙ then_is) (omega (arith, t)) (back w f)
+          ∙ ap (first_list K (machine b) p.layer p.first p.second) count_is
+          in
+          is_below (K ^ count) (w * rest + n) (omega (arith, number_few n e, all_are)) ∙ ap (below (K ^ count)) a
+
+      pub none_further : None ≡ below (K ^ (count - 1)) then → NoneTo w → NoneTo (w + 1)
+      none_further e f g i =
           there w g
-          (none_more (machine b) K p.layer p.first p.second (count - 1) rest_from w n (omega (arith, words_is)) then_is (omega (arith, S.rest_is)) (back w f) g
+          (none_more (machine b) K p.layer p.first p.second (count - 1) rest_from w then (omega (arith, words_is)) then_is (below_none (K ^ (count - 1)) then e) (back w f) g
           (omega (arith, i, ap (λ r. (w + 1) * r) S.rest_is)))
 
-    pub none_answer : NoneTo l.words → Answer (l.words * rest)
+    pub none_answer : NoneTo l.words → Answer None
     none_answer f =
+        let a : l.words * rest ≡ found =
         ap₂ ◌*◌ words_is S.rest_is
         ∙ found_none (machine b) K p.layer p.first p.second (count - 1) rest_from
         (λ h g. back l.words f h (omega (arith, g, ap (λ k. k * K ^ (count - 1)) words_is)))
         ∙ ap (first_list K (machine b) p.layer p.first p.second) count_is
+        in
+        not_below (K ^ count) found (omega (arith, a, all_are))

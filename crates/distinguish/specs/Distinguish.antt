@@ -1,6 +1,6 @@
 -- The words that tell two states of a layer apart (document 02, Point 12), known as a distinguishing sequence: the shortest, and of the shortest
 -- the first in word order. The machine M is fed words below K; r and s are states of its layer t.
-use Rattle.std.specs.Prelude.{ℕ, suc, ◌-◌, ◌^◌, Bool, not, cond, List, [], ltb, eqb, length, get_or}
+use Rattle.std.specs.Prelude.{ℕ, suc, ◌-◌, ◌^◌, Bool, not, cond, Option, Some, None, List, [], ltb, eqb, length, get_or}
 use Rattle.verdict.specs.Judgements.{answer, refuse, and_then, result_after}
 use Rattle.verdict.specs.declared.Figures.{Figures}
 use Rattle.sizes.specs.Sizes.{inputs, frames}
@@ -23,6 +23,10 @@ separates M t r s c = not (eqb (last_output M t r c) (last_output M t s c))
 unfoldable pub first_list : (K : ℕ) → Machine → (t r s k : ℕ) → ℕ
 unfolding separates
 first_list K M t r s k = least (K ^ k) (λ h. separates M t r s (history_words K k h))
+
+-- a number, if it is below n: none where it is n, as with the first of n that a search did not find
+abbrev pub below : (n x : ℕ) → Option ℕ
+below n x = cond (ltb x n) (Some x) None
 
 -- whether some list of k words separates them
 unfoldable pub separable : (K : ℕ) → Machine → (t r s k : ℕ) → Bool

@@ -10,7 +10,7 @@ ghost use Rattle.layered.specs.Search.{least};
 ghost use Rattle.layered.specs.Histories.{history_words};
 ghost use Rattle.table.specs.Table.{machine};
 ghost use Rattle.table.specs.Sound.{TableHeaded, Sound, layout_of};
-ghost use Rattle.distinguish.specs.Distinguish.{first_list, distinguishing, pair_checked, distinguish_checked, distinguish_result};
+ghost use Rattle.distinguish.specs.Distinguish.{below, first_list, distinguishing, pair_checked, distinguish_checked, distinguish_result};
 ghost use Rattle.distinguish.specs.Theorems.{Distinguishes, FoldedDistinguishes};
 ghost use Rattle.distinguish.specs.Pairs.{PairOf};
 
@@ -37,27 +37,27 @@ struct Sequence {
 }
 
 // Number 11, of both states.
+#[tactic(auto, unfolding(crate::specs::Distinguish::pair_checked))]
 fn check_pair(table: &[u8], layout: Layout, layer: usize, first: usize, second: usize) -> Verdict
     requires { TableHeaded table.now × (layout ≡ layout_of table.now) }
     ensures { figures result ≡ pair_checked table.now layer first second }
 {
-    let placed = check_place(
+    check_place(
         table,
         layout,
         Position {
             layer,
             state: first,
         },
-    );
-    let other = check_place(
+    )?;
+    check_place(
         table,
         layout,
         Position {
             layer,
             state: second,
         },
-    );
-    placed.and_then(other)
+    )
 }
 
 // Where the entries of a state stand, in the array at `start`, with so many entries below its layer.
@@ -68,17 +68,17 @@ fn row(start: usize, below: usize, words: usize, state: usize) -> usize
     start + 2 * (below + state * words)
 }
 
-// The first word for which two rows of outputs differ, which stand at these byte offsets; as many as there are words where none does.
-fn first_word(table: &[u8], words: usize, first: usize, second: usize) -> usize
+// The first word for which two rows of outputs differ, which stand at these byte offsets.
+fn first_word(table: &[u8], words: usize, first: usize, second: usize) -> Option<usize>
     requires { (first + 2 * words ≤ length table.now) × (second + 2 * words ≤ length table.now) }
-    ensures { result ≡ least words (λ w. not (eqb (word_at table.now (first + 2 * w)) (word_at table.now (second + 2 * w)))) }
+    ensures { result ≡ below words (least words (λ w. not (eqb (word_at table.now (first + 2 * w)) (word_at table.now (second + 2 * w))))) }
 {
     for word in 0..words {
         if read(table, first + 2 * word) != read(table, second + 2 * word) {
-            return word;
+            return Some(word);
         }
     }
-    words
+    None
 }
 
 // The states that follow two states by the word w.
@@ -100,16 +100,16 @@ fn follow(table: &[u8], layout: Layout, pair: Pair, w: usize) -> Pair
     }
 }
 
-// The first list of so many words that separates two states, by its number; as many as there are lists where none does. `rest` lists begin with the
-// same word. From equal states nothing differs.
-fn first_list(table: &[u8], layout: Layout, pair: Pair, count: usize, rest: usize) -> usize
+// The first list of so many words that separates two states, by its number. `rest` lists begin with the same word. From equal states nothing
+// differs.
+fn first_list(table: &[u8], layout: Layout, pair: Pair, count: usize, rest: usize) -> Option<usize>
     requires sound { Sound table.now × (layout ≡ layout_of table.now) × PairOf table.now pair }
     requires le_count { (1 ≤ count) × (pair.layer + count ≤ frames table.now) × (rest ≡ (2 ^ inputs table.now) ^ (count - 1)) }
-    ensures { result ≡ first_list (2 ^ inputs table.now) (machine table.now) pair.layer pair.first pair.second count }
+    ensures { result ≡ below ((2 ^ inputs table.now) ^ count) (first_list (2 ^ inputs table.now) (machine table.now) pair.layer pair.first pair.second count) }
 {
     let words = layout.words;
     if pair.first == pair.second {
-        return words * rest;
+        return None;
     }
     if count == 1 {
         let first = row(layout.outputs, pair.below, words, pair.first);
@@ -119,15 +119,14 @@ fn first_list(table: &[u8], layout: Layout, pair: Pair, count: usize, rest: usiz
     let fewer = rest / words;
     for w in 0..words {
         let next = follow(table, layout, pair, w);
-        let number = first_list(table, layout, next, count - 1, fewer);
-        if number < rest {
-            return w * rest + number;
+        if let Some(number) = first_list(table, layout, next, count - 1, fewer) {
+            return Some(w * rest + number);
         }
     }
-    words * rest
+    None
 }
 
-// The shortest list that separates two states, and the first of its length; an empty one where there is none.
+// The shortest list that separates two states, and the first of its length; an empty one where there is none, as the call answers it (`distinguishing`).
 fn shortest_list(table: &[u8], layout: Layout, pair: Pair) -> Sequence
     requires { Sound table.now × (layout ≡ layout_of table.now) × PairOf table.now pair }
     ensures words { history_words (2 ^ inputs table.now) result.length result.number ≡ distinguishing table.now pair.layer pair.first pair.second }
@@ -138,11 +137,10 @@ fn shortest_list(table: &[u8], layout: Layout, pair: Pair) -> Sequence
     let mut rest = 1;
     for k in 0..left {
         let length = k + 1;
-        let number = first_list(table, layout, pair, length, rest);
-        rest *= words;
-        if number < rest {
+        if let Some(number) = first_list(table, layout, pair, length, rest) {
             return Sequence { length, number };
         }
+        rest *= words;
     }
     Sequence {
         length: 0,
@@ -155,10 +153,8 @@ fn store_words(words: usize, list: Sequence, res: &mut [u16])
     requires { (1 ≤ words) × (words ≤ 65536) × (list.length ≤ length res.old) }
     ensures { res.new ≡ history_words words list.length list.number ++ drop list.length res.old }
 {
-    let mut left = list.length;
     let mut number = list.number;
-    while 0 < left {
-        left -= 1;
+    for left in (0..list.length).rev() {
         res[left] = (number % words) as u16;
         number /= words;
     }
@@ -166,6 +162,7 @@ fn store_words(words: usize, list: Sequence, res: &mut [u16])
 
 // The shortest list of words after which the outputs of two states of a layer differ, the first of its length, at the front of the result. The place is
 // how many words it has: 0 where every continuation gives both states the same outputs.
+#[tactic(auto, using(crate::proofs::Theorems::distinguishes, crate::proofs::Theorems::folded_distinguishes))]
 pub fn distinguish(
     table: &[u8],
     layer: usize,
@@ -178,18 +175,12 @@ pub fn distinguish(
     ensures distinguishes { Distinguishes table.now layer first second (length res.old) }
     ensures folded { FoldedDistinguishes table.now layer first second }
 {
-    let judged = check(table);
-    let Verdict::Accepted(_) = judged else {
-        return judged;
-    };
+    check(table)?;
     let layout = Layout::read(table);
-    let placed = check_pair(table, layout, layer, first, second);
-    let Verdict::Accepted(_) = placed else {
-        return placed;
-    };
+    check_pair(table, layout, layer, first, second)?;
     let left = layout.frames - layer;
     if res.len() < left {
-        return Verdict::Refused(Refusal::Room(left));
+        return Err(Refusal::Room(left));
     }
     let pair = Pair {
         layer,
@@ -199,5 +190,5 @@ pub fn distinguish(
     };
     let list = shortest_list(table, layout, pair);
     store_words(layout.words, list, res);
-    Verdict::Accepted(list.length)
+    Ok(list.length)
 }

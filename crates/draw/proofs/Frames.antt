@@ -64,9 +64,6 @@ module _ (b : List ℕ) (H : TableHeaded b) where
   pub nexts_stand : nexts_at b + 2 * entry_count b ≤ length b
   nexts_stand = omega (arith, H.whole, arrays_stand b)
 
-pub next_is_not_output : NextState ≡ OutputBit → ⊥
-next_is_not_output e = let z : ◌≡◌ {A = ℕ} 0 1 = cc in omega arith
-
 module _ (b : List ℕ) (H : TableHeaded b) (t : ℕ) (h : t < frames b) where
   abbrev E : ℕ
   E = states b t * 2 ^ inputs b
@@ -211,7 +208,7 @@ module _ (b : List ℕ) where
   unfolding drawing with_frame
   frame_ends t = length-append (drawing b t).gates _
 
-  pub gates_mono : (t u : ℕ) → t ≤ u → length (drawing b t).gates ≤ length (drawing b u).gates
+  gates_mono : (t u : ℕ) → t ≤ u → length (drawing b t).gates ≤ length (drawing b u).gates
   gates_mono t u h = le_ind (λ u. length (drawing b t).gates ≤ length (drawing b u).gates) (le_refl _) (λ u _ p. omega (arith, frame_ends u)) u h
 
   -- the gates of a frame are among all
@@ -250,10 +247,6 @@ module _ (b : List ℕ) where
 
 -- ---- all frames
 
--- a part that is lent, and the list when it is back
-pub part_size : (v : List ℕ) (a k : ℕ) → a + k ≤ length v → length (take (a + k - a) (drop a v)) ≡ k
-part_size v a k h = length-take-le (a + k - a) (drop a v) (simp length-drop (omega arith)) ∙ omega arith
-
 pub part_back : (v w : List ℕ) (a k n : ℕ) → length w ≡ k → a + k ≤ length v → length v ≡ n → length (take a v ++ (w ++ drop (a + k - a) (drop a v))) ≡ n
 part_back v w a k n e h l = simp (length-append, length-drop) (omega (arith, length-take-le a v (omega arith)))
 
@@ -271,13 +264,6 @@ module _ (b : List ℕ) where
   pub states_left : (v w : List ℕ) (t k : ℕ) → w ≡ (drawing b (suc t)).states → k ≡ length w → k ≤ length v → length v ≡ most_drawn_states → StatesKept b (suc t) (w ++ drop k v)
   states_left v w t k ew ek h l =
       record { long = simp (length-append, length-drop) (omega arith); kept = ap (λ (u : List ℕ). take (length u) (w ++ drop k v)) (sym ew) ∙ take-append_seam w (drop k v) ∙ ew }
-
-  -- a source that was read at t is that of its own frame
-  pub source_again : (t k : ℕ) (p : Source) → p ≡ source_of b t k → k ≡ length (drawing b t).gates → p ≡ source_of b p.frame (length (drawing b p.frame).gates)
-  source_again t k p e ek =
-      let f : t ≡ p.frame = sym (ap (λ (p : Source). p.frame) e) in
-      let g : k ≡ length (drawing b p.frame).gates = ek ∙ ap (λ (t : ℕ). length (drawing b t).gates) f in
-      e ∙ (λ i. source_of b (f i) (g i))
 
   -- the literals of a frame's outputs stand behind those of earlier frames in the list v
   pub outputs_left : (v w rest : List ℕ) (t m : ℕ) → m ≡ outputs b → take (m * t) v ≡ (drawing b t).outputs → m * t ≤ length v → w ≡ listed [] (out_literal (table_frame b t (drawing b t))) m

@@ -1,8 +1,8 @@
 -- The gates of outputs, as the code finds them. Assumes nothing.
 use mathlib.Core.Path.{◌≡◌, sym, ap, ap₂, ◌∙◌}
-use mathlib.Core.Bool.{Bool, true, false}
+use mathlib.Core.Bool.{Bool}
 use mathlib.Core.List.{List, [], ◌++◌}
-use Prim.Native.Nat.{ℕ, ◌+◌, ◌*◌, ◌≤◌, ◌<◌}
+use Prim.Native.Nat.{ℕ, ◌+◌, ◌*◌, ◌≤◌}
 use native.Mathlib.Nat.{mul-suc}
 use native.Mathlib.Numerals.{add-one}
 use native.Mathlib.Omega.{arith}
@@ -26,10 +26,6 @@ gate_by t literal = record { left = (output_gate t literal).0; right = (output_g
 -- its two literals
 pub gate_pair : (t : Bool) (literal : ℕ) (r : Gate) → r ≡ gate_by t literal → ◌≡◌ {A = ℕ × ℕ} (r.left, r.right) (output_gate t literal)
 gate_pair t literal r e = ap (λ (r : Gate). (r.left, r.right)) e
-
-pub gate_fits : (t : Bool) (literal : ℕ) (r : Gate) → r ≡ gate_by t literal → literal < 65536 → (r.left < 65536) × (r.right < 65536)
-gate_fits true literal r e h = rw e (h, omega arith)
-gate_fits false literal r e h = rw e (omega arith, omega arith)
 
 -- ---- the outputs of a frame, behind those before it
 

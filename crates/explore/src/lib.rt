@@ -50,8 +50,7 @@ fn group_size(left: usize, count: usize) -> usize
     requires { 0 < count }
     ensures { result ≡ min left (column_count / count) }
 {
-    let most = Limits::COLUMNS / count;
-    if left < most { left } else { most }
+    left.min(Limits::COLUMNS / count)
 }
 
 // The group from the cursor's first output on, at the layer's first state.
@@ -187,6 +186,7 @@ pub fn explore(nodes: &[Node], scratch: &mut [u16], work: &mut [u32], layout: La
     ensures { Ends layout nodes.now scratch.old scratch.new work.old work.new result }
 {
     let mut cursor = start(layout);
+    // not `for`: a layer takes as many turns as it has groups and states, which the turns before find
     while cursor.layer + 1 < layout.frames {
         let job = job_of(scratch, layout, cursor);
         trace(nodes, work, job);

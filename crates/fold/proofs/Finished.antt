@@ -1,15 +1,18 @@
 -- What a call leaves, stage by stage. Assumes nothing.
 use mathlib.Core.Path.{◌≡◌, sym, ap, ◌∙◌, subst}
-use mathlib.Core.Bool.{Bool, false, not}
+use mathlib.Core.Bool.{false}
 use mathlib.Core.List.{List}
 use Prim.Native.Nat.{ℕ, ◌+◌, ◌*◌, ◌^◌, ◌≤◌, min}
 use native.Mathlib.Omega.{arith}
 use lib.ListN.{length, get_or, replicate}
-use lib.Dec.{T, eqb}
-use Rattle.verdict.specs.Judgements.{answer, figures, and_then}
+use lib.Dec.{eqb}
+use Rattle.verdict.specs.Judgements.{Verdict, answer, figures, refusal_figures, and_then}
+use Rattle.std.specs.Prelude.{IsErrAnd}
 use Rattle.verdict.specs.declared.Figures.{Figures}
-use Rattle.verdict.specs.declared.Verdict.{Verdict}
-use Rattle.circuit.specs.Circuit.{gates, all_inputs}
+use Rattle.verdict.specs.declared.Refusal.{Refusal}
+use Rattle.verdict.specs.declared.Refusal.TheVariants.{Nodes}
+use Rattle.verdict.proofs.Laws.{told, refusal_number}
+use Rattle.circuit.specs.Circuit.{gates}
 use Rattle.circuit.specs.WellFormed.{HeadOf, Formed, Accepted}
 use Rattle.circuit.proofs.Accepted.{accepted as accepted_circuit}
 use Rattle.source.specs.Source.{head_of, sourced, WholeOf, SourceOf}
@@ -18,17 +21,13 @@ use Rattle.source.proofs.Sources.{sourced_whole, whole_source}
 use Rattle.lent.proofs.Needed.{needed_is, bits_fit}
 use Rattle.nodes.specs.declared.Node.{Node}
 use Rattle.records.specs.Records.{none}
-use Rattle.diagrams.specs.Building.{first_over}
-use Rattle.functions.specs.Functions.{signal_on}
-use Rattle.survey.specs.Survey.{work_length, most_records, Known, Surveyable, Surveyed}
-use Rattle.survey.specs.declared.Survey.{Survey}
+use Rattle.survey.specs.Survey.{Survey, work_length, most_records, first_short, Known, Surveyable, Surveyed}
 use Rattle.folded.specs.Folded.{scratch_needed, scratch_checked, nodes_checked, ask_checked, cleared_to, cleared, scratch_after}
 use Rattle.folded.proofs.Asked.{scratch_tells, scratch_passed, used, records_unused, records_used}
 use Rattle.ask.proofs.Answered.{zeros_length, zeros_at, needed_as, cleared_zero, cleared_beyond, cleared_same}
-use Rattle.admit.specs.declared.wanted.Wanted.{Wanted}
-use Rattle.admit.specs.Admit.{table_checked}
+use Rattle.admit.specs.Admit.{Wanted, table_checked}
 use Rattle.fold.specs.Fold.{wanted_checked, Findings, Ends, Clean, Finishes, Folds}
-use Rattle.fold.proofs.Judged.{is_true, not-true, wanted_kept, passed_figures, passed_result}
+use Rattle.fold.proofs.Judged.{no_acceptance, wanted_kept, passed_figures, passed_result}
 
 -- ---- after the judgement: s is clean
 
@@ -52,8 +51,8 @@ module _ (b : List ℕ) (w : Wanted) (s : List ℕ) (ys : List Node) (r : List �
     findings = record {
       accepted = C.accepted;
       enough = omega (arith, C.enough);
-      place_is = S.place_is ∙ ap (λ n. first_over (all_inputs b) (min n most_records) (gates b) (signal_on b)) (sym l);
-      known = λ e. subst (λ n. Known b (min n most_records) ns s₂ ws found.counts) (sym l) (S.known e);
+      short = λ f e. subst (λ n. (f ≡ Nodes (first_short b n)) × (first_short b n ≤ gates b)) (sym l) (S.short f e);
+      whole = λ cs e. subst (λ n. (first_short b n ≡ gates b + 1) × Known b (min n most_records) ns s₂ ws cs) (sym l) (S.whole cs e);
       space = omega arith;
     }
 
@@ -77,26 +76,23 @@ stops : (b : List ℕ) (w : Wanted) (room nodes x : ℕ) (f : Figures) → f ≡
 unfolding wanted_checked ask_checked
 stops b w room nodes x f e z = keeps f _ z ∙ ap (λ (h : Figures). and_then h (table_checked b w x)) (keeps f (nodes_checked b nodes) z ∙ ap (λ (h : Figures). and_then h (nodes_checked b nodes)) e)
 
--- ---- the whole: v is what is judged of circuit and scratch, t whether that accepts, s₁ the scratch after it
+-- ---- the whole: s₁ is the scratch after the circuit and the scratch were judged
 
-module _ (b : List ℕ) (w : Wanted) (s : List ℕ) (ys : List Node) (r : List ℕ) (v : Verdict) (J : figures v ≡ scratch_checked b (length s)) (s₁ : List ℕ) (l₁ : length s₁ ≡ length s) (L : s₁ ≡ scratch_after b s) (t : Bool) (q : t ≡ eqb (figures v).number 0) where
-  pub folds_refused : T (not t) → Folds b w s s₁ ys ys r r v
-  folds_refused n = record {
-    answered = refused;
-    written = wanted_kept b w (length s) (length ys) r (figures v) refused no;
-    scratch_left = L;
-    nodes_left = sym (records_unused b (length s) ys _ _ (sym J) no);
-  }
-    where
-      no : eqb (figures v).number 0 ≡ false
-      no = sym q ∙ not-true t n
+module _ (b : List ℕ) (w : Wanted) (s : List ℕ) (ys : List Node) (r : List ℕ) (s₁ : List ℕ) (l₁ : length s₁ ≡ length s) (L : s₁ ≡ scratch_after b s) where
+  pub folds_refused : (f : Refusal) → refusal_figures f ≡ scratch_checked b (length s) → (v : Verdict) → IsErrAnd v (λ y. y ≡ f) → Folds b w s s₁ ys ys r r v
+  folds_refused f J v i =
+      let no : eqb (figures v).number 0 ≡ false = no_acceptance v f i in
+      let refused : figures v ≡ wanted_checked b w (length s) (length ys) (length r) = stops b w (length s) (length ys) (length r) (figures v) (told v f _ i J) no in
+      record {
+        answered = refused;
+        written = wanted_kept b w (length s) (length ys) r (figures v) refused no;
+        scratch_left = L;
+        nodes_left = sym (records_unused b (length s) ys _ _ (sym J) (refusal_number f));
+      }
 
-      refused : figures v ≡ wanted_checked b w (length s) (length ys) (length r)
-      refused = stops b w (length s) (length ys) (length r) (figures v) J no
-
-  module _ (y : T t) where
+  module _ (p : ℕ) (J : answer 0 p ≡ scratch_checked b (length s)) where
     passed : scratch_checked b (length s) ≡ answer 0 0
-    passed = scratch_passed b (length s) (ap (λ (f : Figures). eqb f.number 0) (sym J) ∙ (sym q ∙ is_true t y))
+    passed = scratch_passed b (length s) (ap (λ (f : Figures). eqb f.number 0) (sym J))
 
     accepted : Accepted b
     accepted = accepted_circuit b _ (scratch_tells b (length s) passed).0

@@ -1,62 +1,38 @@
 -- What folding and committing answer and leave of a circuit that was judged behind its survey. Assumes nothing.
 use mathlib.Core.Path.{◌≡◌, refl, sym, ap, ◌∙◌}
-use mathlib.Core.Bool.{Bool, true, false, not}
+use mathlib.Core.Bool.{false, not}
 use mathlib.Core.List.{List, ◌++◌}
 use Prim.Native.Nat.{ℕ, ◌+◌, ◌≤◌, min}
-use native.Mathlib.Omega.{arith}
-use native.Mathlib.Nat.{eq-or-lt_of_le}
-use mathlib.Core.Logic.{⊎_elim}
-use borrow.Author.Tests.{eqb-true, ltb-false}
-use lib.Dec.{T, eqb, ltb}
+use borrow.Author.Tests.{ltb-false}
+use lib.Dec.{eqb, ltb}
 use lib.ListN.{length, drop}
-use Rattle.verdict.specs.Judgements.{answer, figures, refuse, and_then, result_after}
+use Rattle.verdict.specs.Judgements.{Verdict, answer, figures, refusal_figures, and_then, result_after}
+use Rattle.std.specs.Prelude.{None, Some, Ok, Err, IsErrAnd}
+use Rattle.std.specs.Borrow.{Bor}
 use Rattle.verdict.specs.declared.Figures.{Figures}
-use Rattle.verdict.specs.declared.Verdict.{Verdict}
-use Rattle.verdict.proofs.Laws.{both_accept, passed, left}
+use Rattle.verdict.specs.declared.Refusal.{Refusal}
+use Rattle.verdict.proofs.Laws.{both_accept, passed, left, told, stop, go_on, refusal_number}
 use Rattle.sizes.specs.Sizes.{inputs, outputs, frames}
 use Rattle.circuit.specs.Circuit.{gates, all_inputs, all_outputs}
-use Rattle.circuit.specs.WellFormed.{HeadOf}
+use Rattle.circuit.specs.WellFormed.{HeadOf, WellFormed, Accepted}
 use Rattle.circuit.specs.declared.Head.{Head}
 use Rattle.circuit.proofs.Accepted.{well_formed}
 use Rattle.nodes.specs.declared.Node.{Node}
-use Rattle.diagrams.specs.Building.{first_over}
-use Rattle.functions.specs.Functions.{signal_on}
-use Rattle.survey.specs.Survey.{most_records}
-use Rattle.survey.specs.declared.Survey.{Survey}
+use Rattle.survey.specs.Survey.{Survey, most_records}
 use Rattle.folded.specs.Folded.{folded_bytes, scratch_checked, nodes_checked, ask_checked, room_checked, fold_checked, fold_result}
 use Rattle.folded.specs.Planned.{folded_plan, commit_checked, commit_result}
 use Rattle.folded.specs.Theorems.{Foldings}
-use Rattle.folded.proofs.Asked.{plan_length_lem, ask_counts}
-use Rattle.folded.proofs.Counting.{first_most}
+use Rattle.folded.proofs.Asked.{ask_counts}
 use Rattle.folded.proofs.Theorems.{foldings}
-use Rattle.ask.proofs.Answered.{counted_refused}
-use Rattle.ask.specs.Plan.{Found}
-use Rattle.admit.specs.declared.wanted.Wanted.{Wanted}
-use Rattle.admit.specs.Admit.{agreed_on, WantedOf, table_checked, Judges}
+use Rattle.ask.proofs.Answered.{counted_refused, counted_passed}
+use Rattle.ask.specs.Plan.{Counted}
+use Rattle.admit.specs.Admit.{Wanted, agreed_on, table_checked}
 use Rattle.write.specs.Write.{Tabled}
 use Rattle.fold.specs.Fold.{Findings, Ends, survey_checked, survey_result, wanted_checked, wanted_result, Promised}
-
-pub is_true : (t : Bool) → T t → t ≡ true
-is_true true y = refl
-is_true false y = absurd y
-
-pub not-true : (t : Bool) → T (not t) → t ≡ false
-not-true true y = absurd y
-not-true false y = refl
-
-pub twice_not : (t : Bool) → T (not (not t)) → T t
-twice_not true y = y
-twice_not false y = y
 
 -- ---- what is answered, and what the result holds, once the circuit is accepted
 
 module _ (b : List ℕ) (w : Wanted) (nodes : ℕ) (r : List ℕ) where
-  -- where the circuit was surveyed
-  judged_is : (survey : Survey) (v : Verdict) → Judges b survey w (length r) v → survey.place ≡ first_over (all_inputs b) (min nodes most_records) (gates b) (signal_on b)
-      → figures v ≡ survey_checked b w nodes (length r)
-  unfolding survey_checked Judges
-  judged_is survey v J at = J nodes at
-
   -- a refusal leaves the result
   result_kept : (f : Figures) → f ≡ survey_checked b w nodes (length r) → eqb f.number 0 ≡ false → r ≡ survey_result b w nodes r
   unfolding survey_result
@@ -116,23 +92,25 @@ module _ (b : List ℕ) (w : Wanted) (room nodes : ℕ) (r : List ℕ) where
   unfolding Promised Foldings
   promised f r' ef er p e = let a = sym ef ∙ e in rw (er ∙ same_result p a) (foldings b r room nodes p (fold_accepts p a))
 
+module _ (b : List ℕ) (room nodes : ℕ) (r : List ℕ) where
   -- any plan: folding
-  pub any_figures : w.any ≡ true → wanted_checked b w room nodes (length r) ≡ fold_checked b room nodes (length r)
+  pub any_figures : wanted_checked b None room nodes (length r) ≡ fold_checked b room nodes (length r)
   unfolding wanted_checked fold_checked agreed_on
-  any_figures a = rw a
+  any_figures = refl
 
-  pub any_result : w.any ≡ true → wanted_result b w room nodes r ≡ fold_result b room nodes r
+  pub any_result : wanted_result b None room nodes r ≡ fold_result b room nodes r
   unfolding wanted_result fold_result
-  any_result a = ap (λ (f : Figures). result_after f (folded_bytes b) r) (any_figures a)
+  any_result = ap (λ (f : Figures). result_after f (folded_bytes b) r) any_figures
 
   -- the plan with these numbers: committing
-  pub numbers_figures : (numbers : List ℕ) → WantedOf numbers w → wanted_checked b w room nodes (length r) ≡ commit_checked b numbers room nodes (length r)
-  unfolding wanted_checked commit_checked WantedOf
-  numbers_figures numbers W = ap (λ (t : Bool). and_then (ask_checked b room nodes) (refuse (not t) 14 0 (room_checked b (length r)))) (W (folded_plan b) (plan_length_lem b))
+  module _ (numbers : Bor (List ℕ)) where
+    pub numbers_figures : wanted_checked b (Some numbers) room nodes (length r) ≡ commit_checked b numbers.now room nodes (length r)
+    unfolding wanted_checked commit_checked agreed_on
+    numbers_figures = refl
 
-  pub numbers_result : (numbers : List ℕ) → WantedOf numbers w → wanted_result b w room nodes r ≡ commit_result b numbers room nodes r
-  unfolding wanted_result commit_result
-  numbers_result numbers W = ap (λ (f : Figures). result_after f (folded_bytes b) r) (numbers_figures numbers W)
+    pub numbers_result : wanted_result b (Some numbers) room nodes r ≡ commit_result b numbers.now room nodes r
+    unfolding wanted_result commit_result
+    numbers_result = ap (λ (f : Figures). result_after f (folded_bytes b) r) numbers_figures
 
 -- a circuit has a head
 headed : List ℕ → Head
@@ -142,48 +120,56 @@ head_of : (b : List ℕ) → HeadOf b (headed b)
 unfolding headed
 head_of b = record { inputs_is = refl; outputs_is = refl; frames_is = refl; gates_is = refl; base_is = refl; total_is = refl }
 
--- ---- a circuit that was surveyed: r is the result, v what is judged, t whether that accepts
+-- ---- a circuit that was surveyed: r is the result
+
+-- what the exit of a `?` returns is no acceptance
+pub no_acceptance : (v : Verdict) (f : Refusal) → IsErrAnd v (λ y. y ≡ f) → eqb (figures v).number 0 ≡ false
+no_acceptance v f i = ap (λ (f : Figures). eqb f.number 0) (told v f (refusal_figures f) i refl) ∙ refusal_number f
 
 module _ (b : List ℕ) (survey : Survey) (w : Wanted) (ns : List Node) (s ws r : List ℕ) (F : Findings b survey ns s ws) where
-  pub found : Found b survey
-  found = record {
-    accepted = F.accepted;
-    most = omega (arith, F.place_is, first_most b (min (length ns) most_records));
-    counted = λ e. (F.known e).counted;
-  }
+  W : WellFormed b (headed b)
+  W = well_formed F.accepted.form (head_of b)
 
-  module _ (v : Verdict) (J : Judges b survey w (length r) v) (t : Bool) (q : t ≡ eqb (figures v).number 0) where
-    answers : figures v ≡ survey_checked b w (length ns) (length r)
-    answers = judged_is b w (length ns) r survey v J F.place_is
+  -- what is refused is not written
+  kept : (v : Verdict) (f : Refusal) → IsErrAnd v (λ y. y ≡ f) → figures v ≡ survey_checked b w (length ns) (length r) → Ends b w (length ns) r r v
+  kept v f i e = record { answered = e; written = result_kept b w (length ns) r (figures v) e (no_acceptance v f i) }
 
-    -- what is refused is not written
-    pub ends_refused : T (not t) → Ends b w (length ns) r r v
-    ends_refused n = record { answered = answers; written = result_kept b w (length ns) r (figures v) answers (sym q ∙ not-true t n) }
+  -- the records are too few
+  pub short : (f : Refusal) → survey ≡ Err f → (v : Verdict) → IsErrAnd v (λ y. y ≡ f) → Ends b w (length ns) r r v
+  unfolding survey_checked
+  short f e v i =
+      let t = F.short f e in
+      let counted : refusal_figures f ≡ nodes_checked b (length ns) = ap refusal_figures t.0 ∙ sym (counted_refused b (headed b) W (length ns) t.1) in
+      kept v f i (stop v f (nodes_checked b (length ns)) (table_checked b w (length r)) i counted)
 
-    module _ (y : T t) where
-      accepts_at : survey_checked b w (length ns) (length r) ≡ answer 0 (figures v).place
-      accepts_at = sym answers ∙ ap (λ n. answer n (figures v).place) (eqb-true (figures v).number 0 (sym q ∙ is_true t y))
+  -- they are enough
+  module _ (counts : List ℕ) (e : survey ≡ Ok counts) where
+    enough : answer 0 0 ≡ nodes_checked b (length ns)
+    enough = sym (counted_passed b (headed b) W (length ns) (F.whole counts e).0)
 
-      all_counted : survey.place ≡ gates b + 1
-      all_counted =
-          let h = well_formed F.accepted.form (head_of b) in
-          let (p, e) = nodes_enough b w (length ns) r (figures v).place accepts_at in
-          ⊎_elim (λ x. x) (λ l. absurd (refused_not p (sym (counted_refused b _ h survey (length ns) F.place_is (omega arith)) ∙ e)))
-          (eq-or-lt_of_le found.most)
-        where
-          refused_not : (p : ℕ) → answer 18 survey.place ≡ answer 0 p → ⊥
-          refused_not p e = omega (arith, ap (λ (f : Figures). f.number) e)
+    pub countable : Accepted b × Counted b counts
+    countable = (F.accepted, (F.whole counts e).1.counted)
+
+    -- 14 and 7
+    pub refused : (f : Refusal) → refusal_figures f ≡ table_checked b w (length r) → (v : Verdict) → IsErrAnd v (λ y. y ≡ f) → Ends b w (length ns) r r v
+    unfolding survey_checked
+    refused f J v i = kept v f i (go_on (nodes_checked b (length ns)) (table_checked b w (length r)) (figures v) 0 enough (told v f _ i J))
+
+    module _ (p : ℕ) (J : answer 0 p ≡ table_checked b w (length r)) where
+      passes : survey_checked b w (length ns) (length r) ≡ answer 0 p
+      unfolding survey_checked
+      passes = sym (go_on (nodes_checked b (length ns)) (table_checked b w (length r)) (answer 0 p) 0 enough J)
 
       -- what is accepted can be written
-      pub tabled : Tabled b survey ns s ws r
+      pub tabled : Tabled b counts ns s ws r
       tabled = record {
         accepted = F.accepted;
         records = min (length ns) most_records;
-        known = F.known all_counted;
+        known = (F.whole counts e).1;
         enough = F.enough;
         space = F.space;
-        room = (roomy b w (length ns) r (figures v).place accepts_at).0;
+        room = (roomy b w (length ns) r p passes).0;
       }
 
-      pub ends_written : (r' : List ℕ) → r' ≡ folded_bytes b ++ drop (length (folded_bytes b)) r → Ends b w (length ns) r r' v
-      ends_written r' e = record { answered = answers; written = result_written b w (length ns) r (figures v).place accepts_at r' e }
+      pub ends_written : (r' : List ℕ) → r' ≡ folded_bytes b ++ drop (length (folded_bytes b)) r → Ends b w (length ns) r r' (Ok p)
+      ends_written r' e = record { answered = sym passes; written = result_written b w (length ns) r p passes r' e }

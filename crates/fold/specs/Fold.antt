@@ -1,21 +1,18 @@
 -- What folding and committing answer and leave in common, and what is proved of the bytes.
-use Rattle.std.specs.Prelude.{ℕ, ◌+◌, ◌^◌, ◌≤◌, ◌<◌, min, ◌≡◌, List, length, get_or, take, replicate}
-use Rattle.verdict.specs.Judgements.{answer, figures, and_then, result_after}
+use Rattle.std.specs.Prelude.{ℕ, ◌+◌, ◌^◌, ◌≤◌, ◌<◌, min, ◌≡◌, List, length, get_or, take, replicate, Ok, Err}
+use Rattle.verdict.specs.Judgements.{Verdict, answer, figures, and_then, result_after}
 use Rattle.verdict.specs.declared.Figures.{Figures}
-use Rattle.verdict.specs.declared.Verdict.{Verdict}
+use Rattle.verdict.specs.declared.Refusal.{Refusal}
+use Rattle.verdict.specs.declared.Refusal.TheVariants.{Nodes}
 use Rattle.sizes.specs.Sizes.{inputs, outputs, frames}
-use Rattle.circuit.specs.Circuit.{gates, all_inputs}
+use Rattle.circuit.specs.Circuit.{gates}
 use Rattle.circuit.specs.WellFormed.{Accepted}
-use Rattle.diagrams.specs.Building.{first_over}
-use Rattle.functions.specs.Functions.{signal_on}
 use Rattle.nodes.specs.declared.Node.{Node}
 use Rattle.records.specs.Records.{none}
-use Rattle.survey.specs.Survey.{work_length, most_records, Known}
-use Rattle.survey.specs.declared.Survey.{Survey}
+use Rattle.survey.specs.Survey.{Survey, work_length, most_records, first_short, Known}
 use Rattle.folded.specs.Folded.{folded_bytes, scratch_needed, nodes_checked, ask_checked, cleared, scratch_after, nodes_after}
 use Rattle.folded.specs.Theorems.{Folding, Canonical}
-use Rattle.admit.specs.declared.wanted.Wanted.{Wanted}
-use Rattle.admit.specs.Admit.{table_checked}
+use Rattle.admit.specs.Admit.{Wanted, table_checked}
 
 -- what is answered, and what the result holds
 unfoldable pub wanted_checked : (b : List ℕ) → Wanted → (scratch_room node_room result_room : ℕ) → Figures
@@ -43,8 +40,8 @@ survey_result b w node_room before = result_after (survey_checked b w node_room 
 pub record Findings (b : List ℕ) (survey : Survey) (ns : List Node) (s ws : List ℕ) : Type 0 where
   pub accepted : Accepted b
   pub enough : scratch_needed b ≤ length s
-  pub place_is : survey.place ≡ first_over (all_inputs b) (min (length ns) most_records) (gates b) (signal_on b)
-  pub known : survey.place ≡ gates b + 1 → Known b (min (length ns) most_records) ns s ws survey.counts
+  pub short : (refusal : Refusal) → survey ≡ Err refusal → (refusal ≡ Nodes (first_short b (length ns))) × (first_short b (length ns) ≤ gates b)
+  pub whole : (counts : List ℕ) → survey ≡ Ok counts → (first_short b (length ns) ≡ gates b + 1) × Known b (min (length ns) most_records) ns s ws counts
   pub space : work_length ≤ length ws
 
 -- what is answered, and the result r as it is left

@@ -7,13 +7,12 @@ ghost use Rattle.source.specs.Source.{sourced, SourceOf};
 ghost use Rattle.folded.specs.Folded.{fold_checked, fold_result, scratch_after, nodes_after};
 ghost use Rattle.fold.specs.Fold.{Findings, Ends, Clean, Finishes, Folds, Promised};
 
-use admit::judge_survey;
-use admit::wanted::Wanted;
-use lent::{accepts, clear_needed, judge_lent};
+use admit::judge_counts;
+use lent::{clear_needed, judge_lent};
 use nodes::Node;
 use records::clear as empty;
 use source::Source;
-use survey::{Survey, no_work, survey_circuit};
+use survey::{Bounds, Survey, survey_circuit};
 use verdict::Verdict;
 use write::write_table;
 
@@ -21,7 +20,7 @@ use write::write_table;
 fn write_found(
     circuit: &[u8],
     found: Survey,
-    wanted: Wanted,
+    wanted: Option<&[u64]>,
     nodes: &[Node],
     scratch: &[u16],
     work: &mut [u32],
@@ -29,30 +28,28 @@ fn write_found(
     source: Source,
 ) -> Verdict
     requires { SourceOf circuit.now source × Findings (sourced source circuit.now) found nodes.now scratch.now work.old }
-    ensures { Ends (sourced source circuit.now) wanted (length nodes.now) res.old res.new result }
+    ensures { Ends (sourced source circuit.now) wanted.entry (length nodes.now) res.old res.new result }
 {
-    let verdict = judge_survey(circuit, found, wanted, res.len(), source);
-    if !accepts(verdict) {
-        return verdict;
-    }
-    write_table(circuit, found, nodes, scratch, work, res, source);
-    verdict
+    let counts = found?;
+    let bytes = judge_counts(circuit, counts, wanted, res.len(), source)?;
+    write_table(circuit, counts, nodes, scratch, work, res, source);
+    Ok(bytes)
 }
 
 // Surveys a circuit, or a network by its source, that is accepted, with the scratch that was cleared, and writes its table where 18, 14 and 7 are passed. The
 // records, and what is needed of the scratch, end zero.
 pub fn fold_judged(
     circuit: &[u8],
-    wanted: Wanted,
+    wanted: Option<&[u64]>,
     scratch: &mut [u16],
     nodes: &mut [Node],
     res: &mut [u8],
     source: Source,
 ) -> Verdict
     requires { SourceOf circuit.now source × Clean (sourced source circuit.now) scratch.old }
-    ensures { Finishes (sourced source circuit.now) wanted scratch.old scratch.new nodes.old nodes.new res.old res.new result }
+    ensures { Finishes (sourced source circuit.now) wanted.entry scratch.old scratch.new nodes.old nodes.new res.old res.new result }
 {
-    let mut work = no_work();
+    let mut work = [0; Bounds::WORK];
     let found = survey_circuit(circuit, scratch, nodes, &mut work, source);
     let verdict = write_found(
         circuit, found, wanted, nodes, scratch, &mut work, res, source,
@@ -65,17 +62,14 @@ pub fn fold_judged(
 // Folds a circuit, where its plan is the one that is wanted.
 pub fn fold_wanted(
     circuit: &[u8],
-    wanted: Wanted,
+    wanted: Option<&[u64]>,
     scratch: &mut [u16],
     nodes: &mut [Node],
     res: &mut [u8],
 ) -> Verdict
-    ensures { Folds circuit.now wanted scratch.old scratch.new nodes.old nodes.new res.old res.new result }
+    ensures { Folds circuit.now wanted.entry scratch.old scratch.new nodes.old nodes.new res.old res.new result }
 {
-    let judged = judge_lent(circuit, scratch);
-    if !accepts(judged) {
-        return judged;
-    }
+    judge_lent(circuit, scratch)?;
     let source = Source::of(circuit);
     fold_judged(circuit, wanted, scratch, nodes, res, source)
 }
@@ -88,5 +82,5 @@ pub fn fold(circuit: &[u8], scratch: &mut [u16], nodes: &mut [Node], res: &mut [
     ensures nodes { nodes.new ≡ nodes_after circuit.now (length scratch.old) nodes.old }
     ensures promised { Promised circuit.now (figures result) res.new }
 {
-    fold_wanted(circuit, Wanted::any(), scratch, nodes, res)
+    fold_wanted(circuit, None, scratch, nodes, res)
 }

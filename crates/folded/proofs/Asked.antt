@@ -8,12 +8,10 @@ use native.Mathlib.Omega.{arith}
 use lib.Dec.{ltb, eqb, lit<}
 use lib.ListN.{length, get_or, drop, replicate, length-append}
 use borrow.Author.Tests.{lt-ltb, le-ltb, ltb-false, eqb-true, eqb-false, ne_eqb}
-use Rattle.verdict.specs.Judgements.{answer, figures, refusal_figures, refuse, result_after}
+use Rattle.verdict.specs.Judgements.{answer, refusal_figures, refuse, result_after}
 use Rattle.verdict.specs.declared.Figures.{Figures}
-use Rattle.verdict.specs.declared.Verdict.{Verdict}
-use Rattle.verdict.specs.declared.Verdict.TheVariants.{Refused}
 use Rattle.verdict.specs.declared.Refusal.{Refusal}
-use Rattle.verdict.proofs.Laws.{refusal_number, stop, both_accept, passed, under_refuse, under_then}
+use Rattle.verdict.proofs.Laws.{refusal_number, both_accept, passed, under_refuse, under_then}
 use Rattle.sizes.specs.Sizes.{frames}
 use Rattle.layered.proofs.Search.{equal_true, equal_false}
 use Rattle.layered.proofs.Lists.{tabulate_length}
@@ -41,11 +39,7 @@ plan_length_lem b =
 -- ---- asking
 
 module _ (b : List ℕ) (room : ℕ) where
-  -- what is judged: the circuit is refused, the scratch is too short, or neither
-  pub circuit_refused : (x : Verdict) (r : Refusal) → figures x ≡ checked b → x ≡ Refused r → scratch_checked b room ≡ refusal_figures r
-  unfolding scratch_checked
-  circuit_refused x r e q = sym (stop x (checked b) (refuse (ltb room (scratch_needed b)) 6 (scratch_needed b) (answer 0 0)) r e q) ∙ ap figures q
-
+  -- what is judged: the scratch is too short, or not
   pub scratch_refused : (p : ℕ) → checked b ≡ answer 0 p → room < scratch_needed b → scratch_checked b room ≡ answer 6 (scratch_needed b)
   unfolding scratch_checked
   scratch_refused p c l = rw (c, lt-ltb room (scratch_needed b) l)
@@ -132,10 +126,6 @@ module _ (b : List ℕ) (room nodes : ℕ) where
 -- ---- what was lent
 
 module _ (b before : List ℕ) where
-  pub unused : (n p : ℕ) → scratch_checked b (length before) ≡ answer n p → eqb n 0 ≡ false → scratch_after b before ≡ before
-  unfolding scratch_after
-  unused n p e z = rw (e, z)
-
   pub used : scratch_checked b (length before) ≡ answer 0 0 → scratch_after b before ≡ cleared b before
   unfolding scratch_after
   used e = rw e

@@ -12,7 +12,7 @@ use chains::gates::{chain_end, put_gate};
 use circuit::is_set;
 use words::read;
 
-// By what an edge belongs to gather chain i: its next state is i, or bit i of its output is 1.
+// By what an edge belongs to gather chain i: its next state is i, or bit i of its output is 1. No closure: `chosen` in specs/ tells the two apart.
 #[derive(Clone, Copy)]
 pub enum Key {
     NextState,

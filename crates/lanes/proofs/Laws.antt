@@ -59,20 +59,6 @@ digit_is v i j = sym (digit (get_or v i 0 / 2 ^ j)) ∙ ap (λ y. cond y 1 0) (s
 
 -- ---- numbers in lanes
 
--- of the bits before bit k
-abbrev pub PlacesTo : (v : List ℕ) (k : ℕ) (h : ℕ → ℕ) → Type 0
-PlacesTo v k h = (j p : ℕ) → j < lane_count → p < k → bit (get_or v p 0) j ≡ bit (h j) p
-
--- one bit more
-pub places_more : (v : List ℕ) (k x : ℕ) (h : ℕ → ℕ) → k < length v → PlacesTo v k h → ((j : ℕ) → j < lane_count → bit x j ≡ bit (h j) k) → PlacesTo (set v k x) (k + 1) h
-places_more v k x h room P X j p lj lp = go (dec_lt p k)
-  where
-    go : Dec (p < k) → bit (get_or (set v k x) p 0) j ≡ bit (h j) p
-    go (yes l) = rw (get_or-set_other v k p x 0 (λ e. omega arith)) (P j p lj l)
-    go (no n) =
-        let e : p ≡ k = omega arith in
-        rw (e, get_or-set_same v k x 0 room) (X j lj)
-
 -- bit p of the numbers, one to a lane
 pub gathered : (hs : List ℕ) (x p j : ℕ) → x ≡ packed (lane p hs) → bit x j ≡ bit (get_or hs j 0) p
 gathered hs x p j e = ap (λ y. bit y j) e ∙ bit_packed (lane p hs) j ∙ lane_at hs p j

@@ -12,6 +12,7 @@ ghost use Rattle.lanes.specs.Limits.{lane_count};
 ghost use Rattle.lanes.specs.Lanes.{lane, literal_lanes, sequence, NumberLanes, picked, InputLanes, FrameLanes, Settled, Ready, FirstUses, SignalLanes};
 
 use circuit::{Head, is_set, read_gate};
+use std::array;
 
 // How many sequences are simulated side by side, a lane each: the bits of a number; and the bits of a lane's number.
 #[derive(Drop)]
@@ -51,11 +52,7 @@ pub fn neighbours(at: usize, bits: &[usize]) -> [u32; sizes::Limits::BITS]
     requires { (at % lane_count ≡ 0) × (most_bits ≤ length bits.now) × ((p : ℕ) → p < most_bits → get_or bits.now p 0 < most_bits) }
     ensures { NumberLanes result (λ j. picked bits.now (at + j)) }
 {
-    let mut numbers = [0; sizes::Limits::BITS];
-    for place in 0..sizes::Limits::BITS {
-        numbers[place] = counting_lanes(at, bits[place]);
-    }
-    numbers
+    array::from_fn(|place| counting_lanes(at, bits[place]))
 }
 
 // The lanes of bit `place` of the histories.
@@ -64,9 +61,7 @@ fn gathered_lanes(histories: &[u16], place: usize) -> u32
     ensures { result ≡ packed (lane place histories.now) }
 {
     let mut lanes: u32 = 0;
-    let mut j = histories.len();
-    while 0 < j {
-        j -= 1;
+    for j in (0..histories.len()).rev() {
         lanes = 2 * lanes + ((histories[j] >> place) % 2) as u32;
     }
     lanes
@@ -77,11 +72,7 @@ pub fn gather(histories: &[u16]) -> [u32; sizes::Limits::BITS]
     requires { length histories.now ≤ lane_count }
     ensures { NumberLanes result (λ j. get_or histories.now j 0) }
 {
-    let mut numbers = [0; sizes::Limits::BITS];
-    for place in 0..sizes::Limits::BITS {
-        numbers[place] = gathered_lanes(histories, place);
-    }
-    numbers
+    array::from_fn(|place| gathered_lanes(histories, place))
 }
 
 // The lanes of input k, from 0, of a frame on histories of t words, which zero words follow.
@@ -112,10 +103,9 @@ pub fn first_uses(circuit: &[u8], head: Head) -> [usize; 1 + sizes::Limits::BITS
     ensures { FirstUses circuit.now 0 result }
 {
     let base = head.base;
-    let mut g = head.gates;
-    let mut firsts = [g; 1 + sizes::Limits::BITS];
-    while 0 < g {
-        g -= 1;
+    let gates = head.gates;
+    let mut firsts = [gates; 1 + sizes::Limits::BITS];
+    for g in (0..gates).rev() {
         let gate = read_gate(circuit, head, g);
         note_use(&mut firsts, base, gate.left, g);
         note_use(&mut firsts, base, gate.right, g);
@@ -129,9 +119,10 @@ fn restart(start: usize, before: u32, after: u32, first: usize) -> usize
     ensures { result ≡ cond (eqb before after) start (min start first) }
 {
     if before == after {
-        return start;
+        start
+    } else {
+        start.min(first)
     }
-    if start < first { start } else { first }
 }
 
 // Stores the lanes of the inputs of a frame, behind those of the frames before it. Answers the first gate whose lanes may no longer be right, if it
@@ -221,9 +212,7 @@ fn pack_lane(lanes: &[u32], at: usize, count: usize, j: usize) -> u16
     ensures { result ≡ packed (take count (drop at (lane j lanes.now))) }
 {
     let mut word: u16 = 0;
-    let mut k = count;
-    while 0 < k {
-        k -= 1;
+    for k in (0..count).rev() {
         word = 2 * word + ((lanes[at + k] >> j) % 2) as u16;
     }
     word

@@ -1,9 +1,10 @@
 // The latest frames that the signals of a circuit, or of a network by its source, depend on by their gates, and the first output whose gates reach a later frame than its own.
 #![tactic(auto)]
 
-ghost use Rattle.std.specs.Prelude.{◌≡◌, List, ℕ, ◌+◌, ◌*◌, ◌≤◌, ◌<◌, max, length, get_or, take, replicate};
+ghost use Rattle.std.specs.Prelude.{◌≡◌, List, ℕ, ◌+◌, ◌*◌, ◌≤◌, ◌<◌, length, get_or, take};
 ghost use Rattle.sizes.specs.Limits.{most_outputs, most_bits};
 ghost use Rattle.layered.specs.Search.{least};
+ghost use Rattle.circuit.specs.Found.{found};
 ghost use Rattle.circuit.specs.Limits.{most_wired, most_signals};
 ghost use Rattle.circuit.specs.Circuit.{gates, gate_signal, all_outputs, frame_of};
 ghost use Rattle.circuit.specs.Frames.{NotAfter, OnlyInputOf, OnlyOutputOf};
@@ -27,30 +28,14 @@ pub fn output_frame(outputs: usize, from: usize, q: usize) -> usize
     t
 }
 
-// The later of two frames.
-fn later(a: u8, b: u8) -> u8
-    ensures { result ≡ max a b }
-{
-    if a < b { b } else { a }
-}
-
-// Room for the latest frames of all signals.
-fn room() -> [u8; Limits::SIGNALS]
-    ensures { result ≡ replicate most_signals 0 }
-{
-    [0; Limits::SIGNALS]
-}
-
 // Stores the latest frames of input k, from 0, of each frame: frame by frame.
 fn store_input(inputs: usize, frames: usize, k: usize, latest: &mut [u8])
     requires k_lt_inputs { (k < inputs) × (inputs ≤ most_bits) × (frames * inputs ≤ most_bits) × (frames * inputs < length latest.old) }
     requires inputs_to { InputsTo inputs frames k latest.old }
     ensures { InputsTo inputs frames (k + 1) latest.new }
 {
-    let mut s = 1 + k;
     for t in 0..frames {
-        latest[s] = (t + 1) as u8;
-        s += inputs;
+        latest[1 + (t * inputs + k)] = (t + 1) as u8;
     }
 }
 
@@ -97,25 +82,25 @@ fn store_signals(circuit: &[u8], source: Source, latest: &mut [u8])
         let gate = read_gate(circuit, own, g);
         let left = gate.left / 2;
         let right = gate.right / 2;
-        latest[base + g] = later(latest[left], latest[right]);
+        latest[base + g] = latest[left].max(latest[right]);
     }
 }
 
-// The first output whose gates reach an input of a later frame; the number of outputs where there is none. A place of an output has the latest frame of the
+// The first output whose gates reach an input of a later frame. A place of an output has the latest frame of the
 // signal that it shows.
-pub fn first_reaching(circuit: &[u8], source: Source) -> usize
+pub fn first_reaching(circuit: &[u8], source: Source) -> Option<usize>
     requires { SourceOf circuit.now source }
-    ensures { result ≡ least (all_outputs (sourced source circuit.now)) (reaches_later (sourced source circuit.now)) }
+    ensures { result ≡ found (all_outputs (sourced source circuit.now)) (least (all_outputs (sourced source circuit.now)) (reaches_later (sourced source circuit.now))) }
 {
-    let mut latest = room();
+    let mut latest = [0; Limits::SIGNALS];
     store_signals(circuit, source, &mut latest);
     let total = source.total;
     let mut frame = 1;
     for q in 0..total {
         frame = output_frame(source.outputs, frame, q);
         if (frame as u8) < latest[shown_signal(source, q)] {
-            return q;
+            return Some(q);
         }
     }
-    total
+    None
 }

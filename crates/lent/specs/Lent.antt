@@ -1,7 +1,6 @@
 -- What is judged and taken of the scratch.
 use Rattle.std.specs.Prelude.{ℕ, ◌≡◌, cond, List, ltb, length}
-use Rattle.verdict.specs.Judgements.{figures}
-use Rattle.verdict.specs.declared.Verdict.{Verdict}
+use Rattle.verdict.specs.Judgements.{Verdict, figures}
 use Rattle.folded.specs.Folded.{six_checked, cleared_to}
 
 -- 6 is judged, and the needed numbers of the scratch s are zero where it is enough

@@ -1,7 +1,7 @@
 // The circuit and the scratch, judged before anything that is lent is used, and what is needed of the scratch cleared.
 #![tactic(auto)]
 
-ghost use Rattle.std.specs.Prelude.{◌≡◌, ◌*◌, ◌^◌, ◌≤◌, eqb, length, replicate};
+ghost use Rattle.std.specs.Prelude.{◌≡◌, ◌*◌, ◌^◌, ◌≤◌, length};
 ghost use Rattle.verdict.specs.Judgements.{figures};
 ghost use Rattle.sizes.specs.Limits.{most_bits};
 ghost use Rattle.folded.specs.Folded.{scratch_checked, cleared_to, scratch_after};
@@ -12,34 +12,12 @@ use sizes::power;
 use source::Source;
 use verdict::{Refusal, Verdict};
 
-// Whether a judgement accepts.
-pub fn accepts(judged: Verdict) -> bool
-    ensures { result ≡ eqb (figures judged).number 0 }
-{
-    if let Verdict::Accepted(_) = judged {
-        true
-    } else {
-        false
-    }
-}
-
 // How many scratch numbers a source needs.
 fn scratch_needed(source: Source) -> usize
     requires { source.inputs * source.frames ≤ most_bits }
     ensures { result ≡ 2 * 2 ^ (source.inputs * source.frames) }
 {
     2 * power(source.inputs * source.frames)
-}
-
-// Sets all numbers to zero.
-fn clear(scratch: &mut [u16])
-    ensures { scratch.new ≡ replicate (length scratch.old) 0 }
-{
-    let mut i = 0;
-    while i < scratch.len() {
-        scratch[i] = 0;
-        i += 1;
-    }
 }
 
 // Number 6; what a source needs of the scratch is cleared where it is enough.
@@ -49,10 +27,10 @@ pub fn judge_scratch(scratch: &mut [u16], source: Source) -> Verdict
 {
     let needed = scratch_needed(source);
     if scratch.len() < needed {
-        return Verdict::Refused(Refusal::Scratch(needed));
+        return Err(Refusal::Scratch(needed));
     }
-    clear(&mut scratch[..needed]);
-    Verdict::Accepted(0)
+    clear_needed(scratch, source);
+    Ok(0)
 }
 
 // Judges the circuit and the scratch, before anything that is lent is used; what is needed of the scratch is cleared where it accepts.
@@ -60,10 +38,7 @@ pub fn judge_lent(circuit: &[u8], scratch: &mut [u16]) -> Verdict
     ensures verdict { figures result ≡ scratch_checked circuit.now (length scratch.old) }
     ensures scratch { scratch.new ≡ scratch_after circuit.now scratch.old }
 {
-    let judged = check(circuit);
-    if let Verdict::Refused(_) = judged {
-        return judged;
-    }
+    check(circuit)?;
     let source = Source::of(circuit);
     judge_scratch(scratch, source)
 }
@@ -74,5 +49,5 @@ pub fn clear_needed(scratch: &mut [u16], source: Source)
     ensures { scratch.new ≡ cleared_to (2 * 2 ^ (source.inputs * source.frames)) scratch.old }
 {
     let needed = scratch_needed(source);
-    clear(&mut scratch[..needed]);
+    scratch[..needed].fill(0);
 }

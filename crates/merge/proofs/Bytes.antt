@@ -17,7 +17,7 @@ use Rattle.layered.proofs.Lists.{tabulate_length, tabulate_at, tabulated, below_
 use Rattle.table.specs.Sound.{Sound}
 use Rattle.merged.specs.Merged.{Merged, Proper, Same, entries_of, most_merged, first_machine}
 use Rattle.merge.specs.Merge.{target, machine_words, merge_bytes}
-use Rattle.merge.specs.Found.{FewestOf, found_words}
+use Rattle.merge.specs.Found.{FewestIs, found_words}
 use Rattle.merge.specs.declared.Fewest.{Fewest}
 
 module _ (b : List ℕ) (G : Merged) where
@@ -78,7 +78,7 @@ module _ (b : List ℕ) (G : Merged) where
         ∙ tabulate_at L e G.next l
 
 -- what the code holds are these words
-module _ (b : List ℕ) (r : Fewest) (F : FewestOf b r) (few : r.states ≤ most_merged) where
+module _ (b : List ℕ) (r : Fewest) (F : FewestIs b r) where
   abbrev E : ℕ
   E = entries_of (target b) r.states
 
@@ -92,7 +92,7 @@ module _ (b : List ℕ) (r : Fewest) (F : FewestOf b r) (few : r.states ≤ most
       let G = first_machine (target b) in
       ap₂ (λ (s : Sizes) (n : ℕ). s.inputs ∷ s.outputs ∷ r.states ∷ take n r.outs ++ take n r.nexts) es ee
       ∙ ap₂ (λ x y. inputs b ∷ outputs b ∷ r.states ∷ x ++ y)
-      (taken r.outs G.out (omega (arith, ee, F.outs_long)) (F.outs_are few)) (taken r.nexts G.next (omega (arith, ee, F.nexts_long)) (F.nexts_are few))
+      (taken r.outs G.out (omega (arith, ee, F.outs_long)) F.outs_are) (taken r.nexts G.next (omega (arith, ee, F.nexts_long)) F.nexts_are)
       ∙ ap (λ k. inputs b ∷ outputs b ∷ k ∷ tabulate (entries_of (target b) k) G.out ++ tabulate (entries_of (target b) k) G.next) F.states_are
 
 -- stored at the front of a buffer they are the bytes

@@ -26,8 +26,10 @@ use Rattle.trial.specs.Tried.{target_of, Held}
 use Rattle.trial.specs.declared.Sought.{Sought}
 use Rattle.refute.specs.Searched.{Digits, Searched}
 use Rattle.refute.specs.Searched as told
+use Rattle.refute.specs.declared.Found.{Found}
+use Rattle.std.specs.Prelude.{Option, None, Some}
 use Rattle.merge.specs.Merge.{target}
-use Rattle.merge.specs.Found.{StartsOf, FewestOf}
+use Rattle.merge.specs.Found.{StartsOf, FewestIs, FewestOf}
 use Rattle.merge.specs.declared.Fewest.{Fewest}
 
 -- what the search is asked for, of a machine of k states
@@ -77,9 +79,9 @@ module _ (b : List ℕ) (Z : Sound b) (layout : Layout) (el : layout ≡ layout_
   -- ---- one state count
 
   module _ (k : ℕ) (pos : 0 < k) where
-    pub unmatched : (number : ℕ) (ones : List ℕ) → Searched B k (entries_of B k) number ones → k ^ entries_of B k ≤ number → first_match B k ≡ machine_count B k
-    unmatched number ones (told.Searched.found l _ _ _) m = absurd (omega arith)
-    unmatched number ones (told.Searched.none e R) m = all_refuted B k pos (λ d l. R d (omega arith))
+    pub unmatched : (r : Option Found) → Searched B k (entries_of B k) r → r ≡ None → first_match B k ≡ machine_count B k
+    unmatched r (told.Searched.found f e _ _ _ _ _) q = absurd (cc)
+    unmatched r (told.Searched.none e R) q = all_refuted B k pos R
 
     -- the machine that is found is the first
     module _ (number : ℕ) (ones nexts : List ℕ) (l : number < k ^ entries_of B k) (before : (d : ℕ) → d < number → Contradicted B (digit_of k (entries_of B k) d) (entries_of B k))
@@ -126,54 +128,61 @@ module _ (b : List ℕ) (Z : Sound b) (layout : Layout) (el : layout ≡ layout_
   fewer_none j l = absurd (omega arith)
 
   -- the search for k + 1 states, as the code numbers them
-  module _ (k number : ℕ) (ones : List ℕ) (F : Fewer k) (S : Searched (target_of layout.words layout.frames b) (k + 1) ((k + 1) * layout.words) number ones) where
+  module _ (k : ℕ) (f : Option Found) (F : Fewer k) (S : Searched (target_of layout.words layout.frames b) (k + 1) ((k + 1) * layout.words) f) where
     entries_next : (k + 1) * layout.words ≡ entries_of B (suc k)
     entries_next = ap (λ j. j * layout.words) (add-one k) ∙ entries_are (suc k)
 
-    count_next : (k + 1) ^ ((k + 1) * layout.words) ≡ suc k ^ entries_of B (suc k)
-    count_next = ap₂ (λ j L. j ^ L) (add-one k) entries_next
-
-    searched : Searched B (suc k) (entries_of B (suc k)) number ones
+    searched : Searched B (suc k) (entries_of B (suc k)) f
     searched =
-        subst (λ C. Searched C (suc k) (entries_of B (suc k)) number ones) target_is
-        (subst (λ L. Searched (target_of layout.words layout.frames b) (suc k) L number ones) entries_next
-        (subst (λ j. Searched (target_of layout.words layout.frames b) j ((k + 1) * layout.words) number ones) (add-one k) S))
+        subst (λ C. Searched C (suc k) (entries_of B (suc k)) f) target_is
+        (subst (λ L. Searched (target_of layout.words layout.frames b) (suc k) L f) entries_next
+        (subst (λ j. Searched (target_of layout.words layout.frames b) j ((k + 1) * layout.words) f) (add-one k) S))
 
-    pub fewer_more : (k + 1) ^ ((k + 1) * layout.words) ≤ number → Fewer (k + 1)
+    pub fewer_more : f ≡ None → Fewer (k + 1)
     unfolding Fewer
-    fewer_more m j l = ⊎_elim (λ e. ap (λ j. first_match B (suc j)) e ∙ unmatched (suc k) (omega arith) number ones searched (omega (arith, count_next)) ∙ ap (λ j. machine_count B (suc j)) (sym e)) (F j) (eq-or-lt_of_le {n = j} {m = k} (omega arith))
+    fewer_more q j l = ⊎_elim (λ e. ap (λ j. first_match B (suc j)) e ∙ unmatched (suc k) (omega arith) f searched q ∙ ap (λ j. machine_count B (suc j)) (sym e)) (F j) (eq-or-lt_of_le {n = j} {m = k} (omega arith))
 
-    pub found_fewest : (r : Fewest) → k < most_merged → number < (k + 1) ^ ((k + 1) * layout.words) → r.states ≡ k + 1 → r.outs ≡ ones → Digits (k + 1) ((k + 1) * layout.words) number r.nexts
-        → length r.outs ≡ 12 → length r.nexts ≡ 12 → FewestOf b r
-    found_fewest r few l e eo D lo ln = go searched
+    pub found_fewest : (g : Found) (nexts : List ℕ) → f ≡ Some g → k < most_merged → Digits (k + 1) ((k + 1) * layout.words) g.number nexts → length nexts ≡ 12
+        → FewestOf b (Some (record { states = k + 1; outs = g.ones; nexts = nexts }))
+    found_fewest g nexts q few D ln = go searched
       where
-        is_suc : r.states ≡ suc k
-        is_suc = e ∙ add-one k
+        r : Fewest
+        r = record { states = k + 1; outs = g.ones; nexts = nexts }
 
-        D' : Digits (suc k) (entries_of B (suc k)) number r.nexts
-        D' = subst (λ L. Digits (suc k) L number r.nexts) entries_next (subst (λ j. Digits j ((k + 1) * layout.words) number r.nexts) (add-one k) D)
+        D' : Digits (suc k) (entries_of B (suc k)) g.number nexts
+        D' = subst (λ L. Digits (suc k) L g.number nexts) entries_next (subst (λ j. Digits j ((k + 1) * layout.words) g.number nexts) (add-one k) D)
 
-        go : Searched B (suc k) (entries_of B (suc k)) number ones → FewestOf b r
-        go (told.Searched.none q R) = absurd (omega (arith, count_next))
-        go (told.Searched.found h before O free) =
-            let fewest : fewest_states B ≡ suc k = fewest_is k (omega arith) F (λ _. is_below (suc k) (omega arith) number ones r.nexts h before O free D') in
+        is : length g.ones ≡ 12 → g.number < suc k ^ entries_of B (suc k) → ((d : ℕ) → d < g.number → Contradicted B (digit_of (suc k) (entries_of B (suc k)) d) (entries_of B (suc k)))
+            → Ones B (digit_of (suc k) (entries_of B (suc k)) g.number) (entries_of B (suc k)) (λ e. get_or g.ones e 0) → (Contradicted B (digit_of (suc k) (entries_of B (suc k)) g.number) (entries_of B (suc k)) → ⊥)
+            → FewestIs b r
+        is lo h before O free =
+            let fewest : fewest_states B ≡ suc k = fewest_is k (omega arith) F (λ _. is_below (suc k) (omega arith) g.number g.ones nexts h before O free D') in
             record {
-              states_are = is_suc ∙ sym fewest;
-              outs_are = λ _. subst (λ j. Same (entries_of B j) (λ e. get_or r.outs e 0) (first_machine B).out) (sym is_suc)
-                  (subst (λ j. Same (entries_of B (suc k)) (λ e. get_or r.outs e 0) (numbered B j (first_match B j)).out) (sym fewest)
-                  (subst (λ o. Same (entries_of B (suc k)) (λ e. get_or o e 0) (numbered B (suc k) (first_match B (suc k))).out) (sym eo) (outs_found (suc k) (omega arith) number ones r.nexts h before O free D')));
-              nexts_are = λ _. subst (λ j. Same (entries_of B j) (λ e. get_or r.nexts e 0) (first_machine B).next) (sym is_suc)
-                  (subst (λ j. Same (entries_of B (suc k)) (λ e. get_or r.nexts e 0) (numbered B j (first_match B j)).next) (sym fewest)
-                  (nexts_found (suc k) (omega arith) number ones r.nexts h before O free D'));
+              few = omega arith;
+              states_are = add-one k ∙ sym fewest;
+              outs_are = subst (λ j. Same (entries_of B j) (λ e. get_or g.ones e 0) (first_machine B).out) (sym (add-one k))
+                  (subst (λ j. Same (entries_of B (suc k)) (λ e. get_or g.ones e 0) (numbered B j (first_match B j)).out) (sym fewest)
+                  (outs_found (suc k) (omega arith) g.number g.ones nexts h before O free D'));
+              nexts_are = subst (λ j. Same (entries_of B j) (λ e. get_or nexts e 0) (first_machine B).next) (sym (add-one k))
+                  (subst (λ j. Same (entries_of B (suc k)) (λ e. get_or nexts e 0) (numbered B j (first_match B j)).next) (sym fewest)
+                  (nexts_found (suc k) (omega arith) g.number g.ones nexts h before O free D'));
               outs_long = lo;
               nexts_long = ln;
             }
 
-  pub none_fewest : (r : Fewest) → Fewer most_merged → r.states ≡ 4 → length r.outs ≡ 12 → length r.nexts ≡ 12 → FewestOf b r
-  none_fewest r F e lo ln = record {
-    states_are = e ∙ sym (fewest_is most_merged (le_refl _) F (λ h. absurd (omega arith)));
-    outs_are = λ h. absurd (omega arith);
-    nexts_are = λ h. absurd (omega arith);
-    outs_long = lo;
-    nexts_long = ln;
+        go : Searched B (suc k) (entries_of B (suc k)) f → FewestOf b (Some r)
+        go (told.Searched.none e R) = absurd (cc)
+        go (told.Searched.found h e lo l before O free) =
+            let s : h ≡ g = cc in
+            record { one = λ x ex. let z : r ≡ x = cc in subst (FewestIs b) z (is' h s lo l before O free); none = λ ex. absurd (cc) }
+          where
+            is' : (h : Found) → h ≡ g → length h.ones ≡ 12 → h.number < suc k ^ entries_of B (suc k) → ((d : ℕ) → d < h.number → Contradicted B (digit_of (suc k) (entries_of B (suc k)) d) (entries_of B (suc k)))
+                → Ones B (digit_of (suc k) (entries_of B (suc k)) h.number) (entries_of B (suc k)) (λ e. get_or h.ones e 0) → (Contradicted B (digit_of (suc k) (entries_of B (suc k)) h.number) (entries_of B (suc k)) → ⊥)
+                → FewestIs b r
+            is' h s = rw s is
+
+  pub none_fewest : Fewer most_merged → FewestOf b None
+  none_fewest F = record {
+    one = λ f e. absurd (cc);
+    none = omega (arith, fewest_is most_merged (le_refl _) F (λ h. absurd (omega arith)));
   }

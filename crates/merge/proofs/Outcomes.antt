@@ -6,13 +6,12 @@ use native.Mathlib.Omega.{arith}
 use lib.Dec.{ltb}
 use lib.ListN.{length, drop}
 use borrow.Author.Tests.{ltb-false, lt-ltb, le-ltb}
-use Rattle.verdict.specs.Judgements.{answer, figures, refuse}
+use Rattle.verdict.specs.Judgements.{Verdict, answer, refusal_figures, figures, refuse}
 use Rattle.verdict.specs.declared.Figures.{Figures}
-use Rattle.verdict.specs.declared.Verdict.{Verdict}
-use Rattle.verdict.specs.declared.Verdict.TheVariants.{Accepted, Refused}
+use Rattle.std.specs.Prelude.{Err, IsErrAnd}
 use Rattle.verdict.specs.declared.Refusal.{Refusal}
 use Rattle.verdict.specs.declared.Refusal.TheVariants.{Unmatched, Room}
-use Rattle.verdict.proofs.Laws.{stop, go_on, kept, left, passed}
+use Rattle.verdict.proofs.Laws.{told, stop, go_on, kept, left, passed}
 use Rattle.sizes.specs.Sizes.{inputs}
 use Rattle.table.specs.Table.{checked}
 use Rattle.merged.specs.Merged.{most_merged, fewest_states}
@@ -34,29 +33,29 @@ Promised b before f after = (f ≡ merge_checked b (length before)) × ((after �
 
 module _ (b before : List ℕ) where
   -- a refusal leaves the result as it was
-  refused : (x : Verdict) (r : Refusal) → figures x ≡ merge_checked b (length before) → x ≡ Refused r → Promised b before (figures x) before
+  refused : (x : Verdict) (r : Refusal) → figures x ≡ refusal_figures r → refusal_figures r ≡ merge_checked b (length before) → Promised b before (figures x) before
   unfolding merge_result
-  refused x r e q = (e, (kept _ r (merge_bytes b) before (sym (ap figures q) ∙ e), (merges b (length before), merges_alike b)))
+  refused x r h e = rw h (e, (kept _ r (merge_bytes b) before e, (merges b (length before), merges_alike b)))
 
-  pub narrow_refused : (x : Verdict) (r : Refusal) → figures x ≡ narrow_checked b → x ≡ Refused r → Promised b before (figures x) before
+  pub narrow_refused : (x : Verdict) (r : Refusal) → IsErrAnd x (λ y. y ≡ r) → refusal_figures r ≡ narrow_checked b → Promised b before (figures x) before
   unfolding merge_checked
-  narrow_refused x r e q = refused x r (stop x (narrow_checked b) _ r e q) q
+  narrow_refused x r h e = refused x r (told x r _ h refl) (stop (Err r) r (narrow_checked b) _ refl e)
 
-  module _ (x : Verdict) (p : ℕ) (ex : figures x ≡ narrow_checked b) (qx : x ≡ Accepted p) where
-    pub table_refused : (y : Verdict) (r : Refusal) → figures y ≡ checked b → y ≡ Refused r → Promised b before (figures y) before
+  module _ (p : ℕ) (ep : answer 0 p ≡ narrow_checked b) where
+    pub table_refused : (x : Verdict) (r : Refusal) → IsErrAnd x (λ y. y ≡ r) → refusal_figures r ≡ checked b → Promised b before (figures x) before
     unfolding merge_checked
-    table_refused y r e q = refused y r (go_on x (narrow_checked b) _ _ p ex qx (stop y (checked b) _ r e q)) q
+    table_refused x r h e = refused x r (told x r _ h refl) (go_on (narrow_checked b) _ _ p ep (stop (Err r) r (checked b) _ refl e))
 
-    module _ (y : Verdict) (p' : ℕ) (ey : figures y ≡ checked b) (qy : y ≡ Accepted p') where
+    module _ (q : ℕ) (eq : answer 0 q ≡ checked b) where
       passed_on : (f : Figures) → f ≡ machine_checked b (length before) → f ≡ merge_checked b (length before)
       unfolding merge_checked
-      passed_on f e = go_on x (narrow_checked b) _ f p ex qx (go_on y (checked b) _ f p' ey qy e)
+      passed_on f e = go_on (narrow_checked b) _ f p ep (go_on (checked b) _ f q eq e)
 
       pub unmatched : most_merged < fewest_states (target b) → Promised b before (answer 21 0) before
       unfolding machine_checked
       unmatched l =
-          refused (Refused (Unmatched 0)) (Unmatched 0)
-          (passed_on (answer 21 0) (sym (ap (λ t. refuse t 21 0 (refuse (ltb (length before) (length (merge_bytes b))) 7 (length (merge_bytes b)) (answer 0 (length (merge_bytes b))))) (lt-ltb most_merged (fewest_states (target b)) l)))) refl
+          refused (Err (Unmatched 0)) (Unmatched 0) refl
+          (passed_on (answer 21 0) (sym (ap (λ t. refuse t 21 0 (refuse (ltb (length before) (length (merge_bytes b))) 7 (length (merge_bytes b)) (answer 0 (length (merge_bytes b))))) (lt-ltb most_merged (fewest_states (target b)) l))))
 
       module _ (few : fewest_states (target b) ≤ most_merged) (bytes : ℕ) (eb : bytes ≡ length (merge_bytes b)) where
         -- 21 does not hold, and then 7 is judged
@@ -68,9 +67,9 @@ module _ (b before : List ℕ) where
 
         pub short : length before < bytes → Promised b before (answer 7 bytes) before
         short l =
-            refused (Refused (Room bytes)) (Room bytes)
+            refused (Err (Room bytes)) (Room bytes) refl
             (matched_on (answer 7 bytes)
-            (ap (λ n. answer 7 n) eb ∙ sym (ap (λ t. refuse t 7 (length (merge_bytes b)) (answer 0 (length (merge_bytes b)))) (lt-ltb (length before) (length (merge_bytes b)) (omega (arith, eb)))))) refl
+            (ap (λ n. answer 7 n) eb ∙ sym (ap (λ t. refuse t 7 (length (merge_bytes b)) (answer 0 (length (merge_bytes b)))) (lt-ltb (length before) (length (merge_bytes b)) (omega (arith, eb))))))
 
         -- an acceptance leaves the bytes, and the rest as it was
         pub accepted : (after : List ℕ) → bytes ≤ length before → after ≡ merge_bytes b ++ drop bytes before → Promised b before (answer 0 bytes) after

@@ -10,11 +10,11 @@ ghost use Rattle.merge.specs.Merge.{most_merged_inputs, narrow_checked, merge_ch
 ghost use Rattle.merge.specs.Theorems.{Merges, MergesAlike};
 ghost use Rattle.merge.specs.Found.{StartsOf, FewestOf, found_words};
 
-use refute::{digits, power, search};
+use refute::{digits, search};
 use sizes::Sizes;
 use table::head::states_of;
 use table::{Layout, check};
-use trial::{Sought, nothing};
+use trial::Sought;
 use verdict::{Refusal, Verdict};
 use words::{store, store_all};
 
@@ -30,7 +30,7 @@ impl Limits {
     pub const HEAD: usize = 6;
 }
 
-// The fewest states of which some machine matches, and the outputs and next states of the first; one more than are tried where none does.
+// The fewest states of which some machine matches, and the outputs and next states of the first.
 #[derive(Clone, Copy)]
 struct Fewest {
     states: usize,
@@ -39,18 +39,18 @@ struct Fewest {
 }
 
 // Numbers 1 and 2 in front of the table's checks: a table that has the sizes has an n of at most 2.
+#[tactic(auto, unfolding(crate::specs::Merge::narrow_checked))]
 fn check_narrow(table: &[u8]) -> Verdict
     ensures { figures result ≡ narrow_checked table.now }
 {
     let length = table.len();
     if length < table::Limits::SIZES {
-        return Verdict::Refused(Refusal::Length(length));
+        return Err(Refusal::Length(length));
     }
-    Verdict::refuse_if(
-        Limits::INPUTS < Sizes::read(table).inputs,
-        Refusal::Size(0),
-        0,
-    )
+    if Limits::INPUTS < Sizes::read(table).inputs {
+        return Err(Refusal::Size(0));
+    }
+    Ok(0)
 }
 
 // Where the outputs of each layer begin.
@@ -69,13 +69,12 @@ fn layer_starts(table: &[u8], layout: Layout) -> [usize; sizes::Limits::FRAMES]
 }
 
 // The first machine of the fewest states that matches.
-fn fewest_states(table: &[u8], layout: Layout, inputs: usize, starts: &[usize]) -> Fewest
+fn fewest_states(table: &[u8], layout: Layout, inputs: usize, starts: &[usize]) -> Option<Fewest>
     requires sound { Sound table.now × (layout ≡ layout_of table.now) }
     requires inputs_value { (inputs ≡ inputs_of table.now) × (inputs ≤ most_merged_inputs) × StartsOf table.now starts.now }
     ensures { FewestOf table.now result }
 {
-    let count = Limits::STATES;
-    for k in 0..count {
+    for k in 0..Limits::STATES {
         let states = k + 1;
         let entries = states * layout.words;
         let sought = Sought {
@@ -86,24 +85,17 @@ fn fewest_states(table: &[u8], layout: Layout, inputs: usize, starts: &[usize]) 
             states,
             entries,
         };
-        let found = search(sought, table, starts);
-        if found.number < power(states, entries) {
+        if let Some(found) = search(sought, table, starts) {
             let outs = found.ones;
             let nexts = digits(states, entries, found.number);
-            return Fewest {
+            return Some(Fewest {
                 states,
                 outs,
                 nexts,
-            };
+            });
         }
     }
-    let outs = nothing();
-    let nexts = nothing();
-    Fewest {
-        states: count + 1,
-        outs,
-        nexts,
-    }
+    None
 }
 
 // Writes n, m, the state count, all outputs and all next states.
@@ -117,8 +109,8 @@ fn write_machine(sizes: Sizes, fewest: Fewest, entries: usize, res: &mut [u8])
     store(res, 4, fewest.states as u16);
     let outs = fewest.outs;
     let nexts = fewest.nexts;
-    store_all(&outs, entries, res, Limits::HEAD);
-    store_all(&nexts, entries, res, Limits::HEAD + 2 * entries);
+    store_all(&outs[..entries], res, Limits::HEAD);
+    store_all(&nexts[..entries], res, Limits::HEAD + 2 * entries);
 }
 
 // One machine for all frames that matches a table in connected outputs, of the fewest states; of these the first by its next states, then its outputs.
@@ -128,27 +120,19 @@ pub fn merge(table: &[u8], res: &mut [u8]) -> Verdict
     ensures merges { Merges table.now (length res.old) }
     ensures alike { MergesAlike table.now }
 {
-    let narrow = check_narrow(table);
-    let Verdict::Accepted(_) = narrow else {
-        return narrow;
-    };
-    let judged = check(table);
-    let Verdict::Accepted(_) = judged else {
-        return judged;
-    };
+    check_narrow(table)?;
+    check(table)?;
     let layout = Layout::read(table);
     let sizes = Sizes::read(table);
     let starts = layer_starts(table, layout);
-    let fewest = fewest_states(table, layout, sizes.inputs, &starts);
-    let states = fewest.states;
-    if Limits::STATES < states {
-        return Verdict::Refused(Refusal::Unmatched(0));
-    }
-    let entries = states * layout.words;
+    let Some(fewest) = fewest_states(table, layout, sizes.inputs, &starts) else {
+        return Err(Refusal::Unmatched(0));
+    };
+    let entries = fewest.states * layout.words;
     let bytes = Limits::HEAD + 4 * entries;
     if res.len() < bytes {
-        return Verdict::Refused(Refusal::Room(bytes));
+        return Err(Refusal::Room(bytes));
     }
     write_machine(sizes, fewest, entries, res);
-    Verdict::Accepted(bytes)
+    Ok(bytes)
 }

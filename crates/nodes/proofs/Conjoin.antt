@@ -1,5 +1,5 @@
 -- Laws of a turn of the recursive AND, whatever holds the records.
-use mathlib.Core.Path.{◌≡◌, sym, ap, ap₂, ◌∙◌, subst}
+use mathlib.Core.Path.{◌≡◌, refl, sym, ap, ap₂, ◌∙◌, subst}
 use mathlib.Core.Bool.{Bool, cond}
 use mathlib.Core.Logic.{◌⊎◌, inl, inr, ⊎_elim, ◌≢◌}
 use Prim.Native.Nat.{ℕ, suc, ◌+◌, ◌-◌, ◌≤◌, ◌<◌, min}
@@ -34,7 +34,7 @@ module _ (N R left : ℕ) (p : Pair) (D : Nodes) (table : Table N R D) (room : R
   pub step_known : (r : ℕ) → Known p.f p.a p.g p.b r → r ≢ no_id → Anded N R (suc N - left) D D p r
   step_known r K n = known_conjoined N R (suc N - left) D table (omega arith) p.f p.a p.g p.b uf ug room r (omega arith) K n
 
-  module _ (r : ℕ) (K : Known p.f p.a p.g p.b r) (none : r ≡ no_id) (x y : Node) (X : Shows D p.f x) (Y : Shows D p.g y) (l : ℕ) (l-is : l ≡ min x.level y.level) where
+  module _ (K : Known p.f p.a p.g p.b no_id) (x y : Node) (X : Shows D p.f x) (Y : Shows D p.g y) (l : ℕ) (l-is : l ≡ min x.level y.level) where
     -- the level is the higher of the two
     pub first_of : l ≤ D.level p.f
     first_of = omega (arith, l-is, X.level_is)
@@ -49,7 +49,7 @@ module _ (N R left : ℕ) (p : Pair) (D : Nodes) (table : Table N R D) (room : R
     from_level = omega (arith, l-is, X.level_is, Y.level_is)
 
     pub to_level : l ≤ N
-    to_level = ⊎_elim (λ h. omega (arith, first_of, table.reduced.inner p.f h)) (λ h. omega (arith, second_of, table.reduced.inner p.g h)) (unknown_node N R (suc N - left) D table (omega arith) p.f p.a p.g p.b uf ug room r K none)
+    to_level = ⊎_elim (λ h. omega (arith, first_of, table.reduced.inner p.f h)) (λ h. omega (arith, second_of, table.reduced.inner p.g h)) (unknown_node N R (suc N - left) D table (omega arith) p.f p.a p.g p.b uf ug room no_id K refl)
 
     level_pos : 0 < l
     level_pos = omega (arith, from_level)

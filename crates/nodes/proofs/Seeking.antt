@@ -2,6 +2,7 @@
 use mathlib.Core.Path.{◌≡◌, refl, sym, ap, ◌∙◌, subst}
 use mathlib.Core.Bool.{Bool, true, false}
 use mathlib.Core.Logic.{◌⊎◌, inl, inr, ⊎_elim, ◌≢◌}
+use Rattle.std.specs.Prelude.{Option, None, Some}
 use Prim.Native.Nat.{ℕ, suc, ◌+◌, ◌-◌, ◌≤◌, ◌<◌}
 use native.Mathlib.Nat.{mod-lt}
 use native.Mathlib.Omega.{arith}
@@ -10,8 +11,7 @@ use Rattle.diagrams.specs.Making
 use Rattle.diagrams.specs.Making.{home, place, Laid, Sought, Joined, Added, no_id}
 use Rattle.diagrams.proofs.Probing.{Other, Passed, passed_more, sought_free, sought_end, place_is}
 use Rattle.nodes.specs.declared.Node.{Node}
-use Rattle.nodes.specs.Nodes.{Stops, Shows, SoughtId, Merges, next_id}
-use Rattle.diagrams.proofs.Growth.{decide}
+use Rattle.nodes.specs.Nodes.{Stops, Shows, SoughtId, next_id}
 use Rattle.nodes.proofs.Laws.{scaled_below, next_is}
 
 pub home_below : (R l x y : ℕ) → 0 < R → home R l x y < R
@@ -51,11 +51,6 @@ joined_lacking R D E l x y at n d e (Making.there b i j k) = absurd (omega arith
 joined_lacking R D E l x y at n d e (Making.free b z a P) = absurd (omega arith)
 joined_lacking R D E l x y at n d e (Making.no_room z f a) = Making.lacking n d refl f a
 
-pub sought_inside : (R : ℕ) (D : Nodes) (l x y at : ℕ) → at ≢ R → Sought R D l x y at → at < R
-sought_inside R D l x y at n (Making.there b i j k) = b
-sought_inside R D l x y at n (Making.free b z a P) = b
-sought_inside R D l x y at n (Making.no_room z f a) = absurd (n z)
-
 -- ---- the search by ids
 
 -- the id after a place is that of the next place
@@ -94,35 +89,28 @@ module _ (R : ℕ) (D : Nodes) (l p q : ℕ) (laid : Laid R D) (pos : 0 < l) (sm
       pub id_goes_on : (t : Bool) → Stops x l p q t → t ≡ false → Passed R D l p q (suc j)
       id_goes_on t s e = goes_on R D l p q j (id - 2) x at_is shown passed (subst (Stops x l p q) e s)
 
-      pub id_ends : (t : Bool) → Stops x l p q t → t ≡ true → SoughtId R D l p q id
+      pub id_ends : (t : Bool) → Stops x l p q t → t ≡ true → SoughtId R D l p q (Some id)
       id_ends t s e = record {
-        none_is = λ z. absurd (omega (arith, id_in));
-        one_is = λ _. (id_in.0, id_in.1, ends_here R D l p q j (id - 2) x at_is shown passed laid pos b (omega (arith, id_in)) (subst (Stops x l p q) e s));
+        none_is = λ z. cc;
+        one_is = λ i e'. subst (λ i. (2 ≤ i) × (i < R + 2) × Sought R D l p q (i - 2)) (some-is e')
+            (id_in.0, id_in.1, ends_here R D l p q j (id - 2) x at_is shown passed laid pos b (omega (arith, id_in)) (subst (Stops x l p q) e s));
       }
+        where
+          some-is : {i : ℕ} → ◌≡◌ {A = Option ℕ} (Some id) (Some i) → id ≡ i
+          some-is e = cc
 
-  pub id_none : (j : ℕ) → j ≡ R → Passed R D l p q j → SoughtId R D l p q 4294967295
+  pub id_none : (j : ℕ) → j ≡ R → Passed R D l p q j → SoughtId R D l p q None
   id_none j e passed = record {
     none_is = λ _. sought_end R D l p q laid pos (subst (Passed R D l p q) e passed) (home_below R l p q);
-    one_is = λ n. absurd (n refl);
+    one_is = λ i e. cc;
   }
 
 -- ---- the join by ids
 
-pub join_merges : (R : ℕ) (D : Nodes) (l x y : ℕ) (t : Bool) → Merges x y t → t ≡ true → Joined R D D l x y y
-join_merges R D l x y t m e = go (decide y no_id) (m.yes e)
-  where
-    go : (y ≡ no_id) ⊎ (y ≢ no_id) → (x ≡ y) ⊎ (y ≡ no_id) → Joined R D D l x y y
-    go (inl z) c = Making.nothing z z
-    go (inr n) (inl d) = Making.one n d refl refl
-    go (inr n) (inr z) = absurd (n z)
-
-pub join-none : (R : ℕ) (D : Nodes) (l x y : ℕ) (t : Bool) → Merges x y t → t ≡ false → (id : ℕ) → SoughtId R D l x y id → id ≡ no_id → Joined R D D l x y id
-join-none R D l x y t m e id s z = subst (Joined R D D l x y) (sym z) (joined_lacking R D D l x y R (m.no e).1 (m.no e).0 refl (s.none_is z))
-
-pub join_one : (R : ℕ) (D E : Nodes) (l x y : ℕ) (t : Bool) → Merges x y t → t ≡ false → (id : ℕ) → SoughtId R D l x y id → (n : id ≢ no_id)
+pub join_one : (R : ℕ) (D E : Nodes) (l x y : ℕ) → y ≢ no_id → x ≢ y → (id : ℕ) → SoughtId R D l x y (Some id)
     → (D.level id ≡ l → D.low id ≡ x → D.high id ≡ y → E ≡ D) → Added D E id l x y → Joined R D E l x y id
-join_one R D E l x y t m e id s n same A =
-    let o = s.one_is n in
+join_one R D E l x y n d id s same A =
+    let o = s.one_is id refl in
     let w : id ≡ id - 2 + 2 = omega (arith, o.0) in
-    joined_found R D E l x y (id - 2) id (m.no e).1 (m.no e).0 w (λ z. omega (arith, o.0, o.1)) o.2
+    joined_found R D E l x y (id - 2) id n d w (λ z. omega (arith, o.0, o.1)) o.2
     (subst (λ id. D.level id ≡ l → D.low id ≡ x → D.high id ≡ y → E ≡ D) w same) (subst (λ id. Added D E id l x y) w A)

@@ -1,10 +1,20 @@
 -- What is decided at a record, and at a pair of ids.
-use Rattle.std.specs.Prelude.{◌≡◌, Bool, true, false, cond, ◌⊎◌, ◌≢◌, ℕ, ◌+◌, ◌-◌, ◌≤◌, ◌<◌, eqb, ltb}
+use Rattle.std.specs.Prelude.{◌≡◌, Bool, true, false, cond, ◌⊎◌, ◌≢◌, ℕ, ◌+◌, ◌-◌, ◌≤◌, ◌<◌, eqb, ltb, Option, None, Some}
 use Rattle.diagrams.specs.Diagrams.{Nodes}
 use Rattle.diagrams.specs.Making.{Sought, no_id}
 use Rattle.nodes.specs.declared.Node.{Node}
 use Rattle.nodes.specs.declared.Pair.{Pair}
 use Rattle.nodes.specs.declared.Halves.{Halves}
+
+-- an id as a number: `no_id` where there is none
+abbrev pub id_of : Option ℕ → ℕ
+id_of None = no_id
+id_of (Some f) = f
+
+-- where there is an id, it is no `no_id`
+abbrev pub Real : Option ℕ → Type 0
+Real None = Unit
+Real (Some f) = f ≢ no_id
 
 -- the halves at level l of a pair whose records are x and y
 abbrev pub halves_of : (x y : Node) (l : ℕ) → Pair → Halves
@@ -28,12 +38,7 @@ pub record Shows (D : Nodes) (f : ℕ) (x : Node) : Type 0 where
   pub low_is : x.low ≡ D.low f
   pub high_is : x.high ≡ D.high f
 
--- r says whether the branches x and y are equal, or y is none
-pub record Merges (x y : ℕ) (r : Bool) : Type 0 where
-  pub yes : r ≡ true → (x ≡ y) ⊎ (y ≡ no_id)
-  pub no : r ≡ false → (x ≢ y) × (y ≢ no_id)
-
 -- the id of the record with the level l and the branches x and y, or one where it may be put; none where there is neither
-pub record SoughtId (R : ℕ) (D : Nodes) (l x y r : ℕ) : Type 0 where
-  pub none_is : r ≡ no_id → Sought R D l x y R
-  pub one_is : r ≢ no_id → (2 ≤ r) × (r < R + 2) × Sought R D l x y (r - 2)
+pub record SoughtId (R : ℕ) (D : Nodes) (l x y : ℕ) (r : Option ℕ) : Type 0 where
+  pub none_is : r ≡ None → Sought R D l x y R
+  pub one_is : (id : ℕ) → r ≡ Some id → (2 ≤ id) × (id < R + 2) × Sought R D l x y (id - 2)

@@ -1,11 +1,12 @@
 // What the AND of two diagrams and the search for a record decide, by value: no list of records is read here.
 #![tactic(auto)]
 
-ghost use Rattle.std.specs.Prelude.{◌≡◌, cond, ◌&&◌, ◌+◌, ◌<◌, min, eqb, ltb};
-ghost use Rattle.diagrams.specs.Making.{Known, home};
-ghost use Rattle.nodes.specs.Nodes.{halves_of, Stops, Merges, next_id};
+ghost use Rattle.std.specs.Prelude.{◌≡◌, ◌≢◌, cond, ◌&&◌, ◌+◌, ◌<◌, min, eqb, ltb};
+ghost use Rattle.diagrams.specs.Making.{Known, home, no_id};
+ghost use Rattle.nodes.specs.Nodes.{id_of, Real, halves_of, Stops, next_id};
 
 // A record: a level, from 1, and two branches; level 0 is no record. The ids 0 and 1 are the constants, id i + 2 is record i.
+// Branches are ids, and not boxes, since the records lie in a list that the caller lends: there is no heap.
 #[repr(C)]
 #[derive(Clone, Copy)]
 pub struct Node {
@@ -14,7 +15,7 @@ pub struct Node {
     pub high: u32,
 }
 
-// The answer where there is no id, and the level of the constants, below all others.
+// The level of the constants, below all others; no id has this number.
 pub const NONE: u32 = 4294967295;
 
 // The operands of an AND: two ids, each perhaps inverted.
@@ -46,49 +47,46 @@ fn are_constants(f: u32, g: u32) -> bool
     f < 2 && g < 2
 }
 
-// An AND, where it is known without a look at the nodes; none where it is not.
-pub fn known(pair: Pair) -> u32
-    ensures { Known pair.f pair.a pair.g pair.b result }
+// An AND, where it is known without a look at the nodes.
+pub fn known(pair: Pair) -> Option<u32>
+    ensures is { Known pair.f pair.a pair.g pair.b (id_of result) }
+    ensures real { pair.f ≢ no_id → pair.g ≢ no_id → Real result }
 {
     let f = pair.f;
     let a = pair.a;
     let g = pair.g;
     let b = pair.b;
     if f == false_of(a) {
-        return 0;
+        return Some(0);
     }
     if g == false_of(b) {
-        return 0;
+        return Some(0);
     }
     if are_constants(f, g) {
-        return 1;
+        return Some(1);
     }
-    if f < 2 {
-        if !b {
-            return g;
-        }
+    if f < 2 && !b {
+        return Some(g);
     }
-    if g < 2 {
-        if !a {
-            return f;
-        }
+    if g < 2 && !a {
+        return Some(f);
     }
     if f == g {
         if a != b {
-            return 0;
+            return Some(0);
         }
         if !a {
-            return f;
+            return Some(f);
         }
     }
-    NONE
+    None
 }
 
 // The higher of two levels: the lower number.
 pub fn top_of(x: Node, y: Node) -> u32
     ensures { result ≡ min x.level y.level }
 {
-    if x.level < y.level { x.level } else { y.level }
+    x.level.min(y.level)
 }
 
 // The low and the high branch of f, whose record is x, at a level.
@@ -157,22 +155,5 @@ pub fn stops(x: Node, level: u32, low: u32, high: u32) -> bool
     if x.level == 0 {
         return true;
     }
-    if x.level == level {
-        if x.low == low {
-            if x.high == high {
-                return true;
-            }
-        }
-    }
-    false
-}
-
-// Whether a level and two branches need no record: the branches are equal, or there is none.
-pub fn merges(low: u32, high: u32) -> bool
-    ensures { Merges low high result }
-{
-    if low == high {
-        return true;
-    }
-    high == NONE
+    x.level == level && x.low == low && x.high == high
 }

@@ -67,14 +67,11 @@ pub fn head_bytes(frames: usize) -> usize
 }
 
 // The smaller of two histories: the smallest of those known, of which there are `count`, and another.
+#[tactic(auto, unfolding(crate::specs::Progress::smaller))]
 fn smaller(count: usize, known: usize, other: usize) -> usize
     ensures { result ≡ smaller count known other }
 {
-    if count == 0 || other < known {
-        other
-    } else {
-        known
-    }
+    if count == 0 { other } else { known.min(other) }
 }
 
 // To the histories of a state, whose count stands at byte offset `at`, come `count` more, the smallest of which is `smallest`.

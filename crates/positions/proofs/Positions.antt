@@ -1,4 +1,4 @@
--- The judgement of a position by its stages, and what its acceptance tells. Assumes nothing.
+-- What the acceptance of a position tells. Assumes nothing.
 use mathlib.Core.Path.{◌≡◌, refl, sym, ap₂, ◌∙◌}
 use mathlib.Core.Bool.{Bool, true, false, cond, ◌||◌}
 use mathlib.Core.List.{List}
@@ -12,24 +12,6 @@ use Rattle.verdict.proofs.Laws.{both_accept, passed, refuse_then}
 use Rattle.sizes.specs.Sizes.{inputs, frames}
 use Rattle.table.specs.Table.{states}
 use Rattle.positions.specs.Positions.{place_checked, position_checked}
-
-module _ (b : List ℕ) (t s : ℕ) where
-  -- a layer above T
-  pub place_above : frames b < t → answer 11 t ≡ place_checked b t s
-  unfolding place_checked
-  place_above h = rw (lt-ltb (frames b) t h)
-
-  -- another one is judged by its count of states
-  pub place_within : (S : ℕ) (f : Figures) → t ≤ frames b → S ≡ states b t → f ≡ cond (leb S s) (answer 11 t) (answer 0 0) → f ≡ place_checked b t s
-  unfolding place_checked
-  place_within S f h e q = q ∙ rw (le-ltb (frames b) t h, e)
-
-  -- the judgements of a position and a word one after the other: x, y and z are those of 11, 10 and 9
-  pub position_stages : (w T K : ℕ) (r x y z : Figures) → T ≡ frames b → K ≡ 2 ^ inputs b → r ≡ and_then x (and_then y z) → x ≡ place_checked b t s
-      → y ≡ cond (eqb t T) (answer 10 T) (answer 0 0) → z ≡ cond (leb K w) (answer 9 0) (answer 0 0) → r ≡ position_checked b t s w
-  unfolding position_checked
-  position_stages w T K r x y z eT eK er ex ey ez =
-      er ∙ ap₂ and_then ex (ap₂ and_then ey ez ∙ refuse_then (eqb t T) 10 T _ refl ∙ ap₂ (λ (T K : ℕ). refuse (eqb t T) 10 T (refuse (leb K w) 9 0 (answer 0 0))) eT eK)
 
 -- two tests of one judgement are two judgements
 apart : (s t : Bool) (k p : ℕ) (f : Figures) → refuse (s || t) k p f ≡ refuse s k p (refuse t k p f)

@@ -27,32 +27,33 @@ impl Position {
 }
 
 // Number 11: the table has no such position.
+#[tactic(auto, unfolding(crate::specs::Positions::place_checked))]
 pub fn check_place(table: &[u8], layout: Layout, position: Position) -> Verdict
     requires table_headed { TableHeaded table.now }
     requires layout_value { layout ≡ layout_of table.now }
     ensures { figures result ≡ place_checked table.now position.layer position.state }
 {
-    let layer = position.layer;
-    let state = position.state;
-    if layout.frames < layer {
-        return Verdict::Refused(Refusal::Position(layer));
+    let Position { layer, state } = position;
+    if layout.frames < layer || states_of(table, layer) <= state {
+        return Err(Refusal::Position(layer));
     }
-    Verdict::refuse_if(
-        states_of(table, layer) <= state,
-        Refusal::Position(layer),
-        0,
-    )
+    Ok(0)
 }
 
 // Numbers 11, 10 and 9, of a step.
+#[tactic(auto, unfolding(crate::specs::Positions::position_checked))]
 pub fn check_position(table: &[u8], layout: Layout, position: Position, word: usize) -> Verdict
     requires table_headed { TableHeaded table.now }
     requires layout_value { layout ≡ layout_of table.now }
     ensures { figures result ≡ position_checked table.now position.layer position.state word }
 {
     let last = layout.frames;
-    let placed = check_place(table, layout, position);
-    let ended = Verdict::refuse_if(position.layer == last, Refusal::End(last), 0);
-    let small = Verdict::refuse_if(layout.words <= word, Refusal::Word(0), 0);
-    placed.and_then(ended.and_then(small))
+    check_place(table, layout, position)?;
+    if position.layer == last {
+        return Err(Refusal::End(last));
+    }
+    if layout.words <= word {
+        return Err(Refusal::Word(0));
+    }
+    Ok(0)
 }

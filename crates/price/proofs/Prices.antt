@@ -1,5 +1,5 @@
 -- The price of more states, and what each answer of pricing tells. Assumes nothing.
-use mathlib.Core.Path.{◌≡◌, ap}
+use mathlib.Core.Path.{◌≡◌, ap, ◌∙◌}
 use mathlib.Core.Bool.{cond}
 use mathlib.Core.List.{List}
 use Prim.Native.Nat.{ℕ, ◌+◌, ◌≤◌, ◌<◌}
@@ -7,10 +7,10 @@ use native.Mathlib.Decide.{dec_lt}
 use native.Mathlib.Omega.{arith}
 use lib.Dec.{ltb}
 use borrow.Author.Tests.{lt-ltb, le-ltb}
-use Rattle.verdict.specs.Judgements.{answer, figures}
+use Rattle.verdict.specs.Judgements.{answer, refusal_figures}
 use Rattle.verdict.specs.declared.Figures.{Figures}
-use Rattle.verdict.specs.declared.Verdict.{Verdict}
-use Rattle.verdict.specs.declared.Verdict.TheVariants.{Refused}
+use Rattle.std.specs.Prelude.{Result, Err, IsErrAnd}
+use Rattle.std.proofs.lemmas.Result.{err_from_is_err_and}
 use Rattle.verdict.specs.declared.Refusal.{Refusal}
 use Rattle.verdict.proofs.Laws.{refusal_number}
 use Rattle.sizes.specs.Sizes.{frames}
@@ -18,7 +18,6 @@ use Rattle.layered.proofs.Lists.{total_le}
 use Rattle.table.specs.Table.{checked}
 use Rattle.price.specs.Tariff.{bands, base, plain_frames}
 use Rattle.price.specs.Price.{charged, state_cents, states_cents, rise, risen, price, priced_after, priced, price_figures}
-use Rattle.price.specs.declared.Priced.TheVariants.{Refused as Unpriced}
 
 -- ---- more states never cost less, and neither do more frames
 
@@ -53,6 +52,6 @@ unfolding priced
 price_answers b p c e z q = rw (e, z, q)
 
 -- where they refuse, the refusal
-pub refusal_answers : (b : List ℕ) (x : Verdict) (r : Refusal) → figures x ≡ checked b → x ≡ Refused r → price_figures (Unpriced r) ≡ priced b
+pub refusal_answers : (b : List ℕ) (x : Result ℕ Refusal) (r : Refusal) → IsErrAnd x (λ y. y ≡ r) → refusal_figures r ≡ checked b → price_figures x ≡ priced b
 unfolding priced
-refusal_answers b x r e q = rw (← e, q, refusal_number r)
+refusal_answers b x r h e = let p = err_from_is_err_and x h in ap price_figures (p.1 ∙ ap Err p.2) ∙ rw (← e, refusal_number r)

@@ -1,14 +1,13 @@
 -- The price of a table in cents (document 02, Point 1).
-use Rattle.std.specs.Prelude.{ℕ, ◌+◌, ◌*◌, ◌-◌, ◌/◌, cond, List, [], ◌∷◌, ltb, eqb}
+use Rattle.std.specs.Prelude.{ℕ, ◌+◌, ◌*◌, ◌-◌, ◌/◌, cond, List, [], ◌∷◌, ltb, eqb, Result, Ok, Err}
 use Rattle.verdict.specs.Judgements.{refusal_figures}
 use Rattle.verdict.specs.declared.Figures.{Figures}
+use Rattle.verdict.specs.declared.Refusal.{Refusal}
 use Rattle.sizes.specs.Sizes.{frames}
 use Rattle.layered.specs.Search.{total}
 use Rattle.table.specs.Table.{states_below, checked}
 use Rattle.price.specs.Tariff.{bands, beyond, base, plain_frames, rise_thousandths}
 use Rattle.price.specs.declared.Band.{Band}
-use Rattle.price.specs.declared.Priced.{Priced}
-use Rattle.price.specs.declared.Priced.TheVariants.{Cents, Refused}
 use Rattle.price.specs.declared.PriceFigures.{PriceFigures}
 
 -- the charged states: those of layers 0 to T-1
@@ -45,6 +44,6 @@ unfoldable pub priced : List ℕ → PriceFigures
 priced b = priced_after (checked b) b
 
 -- number, place and cents of each case of its answer
-abbrev pub price_figures : Priced → PriceFigures
-price_figures (Cents c) = record { number = 0; place = 0; cents = c }
-price_figures (Refused r) = record { number = (refusal_figures r).number; place = (refusal_figures r).place; cents = 0 }
+abbrev pub price_figures : Result ℕ Refusal → PriceFigures
+price_figures (Ok c) = record { number = 0; place = 0; cents = c }
+price_figures (Err r) = record { number = (refusal_figures r).number; place = (refusal_figures r).place; cents = 0 }

@@ -8,7 +8,7 @@ ghost use Rattle.price.specs.Theorems.{Quoted, NeverFalls, FoldedCheapest};
 
 use sizes::Sizes;
 use table::head::states_below;
-use verdict::{Refusal, Verdict};
+use verdict::{Figures, Refusal};
 
 // A band of the tariff: how many states it takes, and what each of these costs.
 #[derive(Clone, Copy)]
@@ -44,12 +44,8 @@ impl Tariff {
     pub const RISE_THOUSANDTHS: usize = 75;
 }
 
-// What pricing answers.
-#[derive(Clone, Copy)]
-pub enum Priced {
-    Cents(usize),
-    Refused(Refusal),
-}
+// What pricing answers: the cents.
+pub type Priced = Result<usize, Refusal>;
 
 // Document 01's number and place, and the cents.
 #[derive(Clone, Copy)]
@@ -59,21 +55,21 @@ pub struct PriceFigures {
     pub cents: usize,
 }
 
-impl Priced {
-    pub fn figures(self) -> PriceFigures
-        ensures { result ≡ price_figures self }
-    {
-        match self {
-            Priced::Cents(cents) => PriceFigures {
+impl From<Priced> for PriceFigures {
+    ghost from_gives = { λ price figures. figures ≡ price_figures price };
+
+    fn from(price: Priced) -> PriceFigures {
+        match price {
+            Ok(cents) => PriceFigures {
                 number: 0,
                 place: 0,
                 cents,
             },
-            Priced::Refused(refusal) => {
-                let figures = refusal.figures();
+            Err(refusal) => {
+                let Figures { number, place } = Figures::from(refusal);
                 PriceFigures {
-                    number: figures.number,
-                    place: figures.place,
+                    number,
+                    place,
                     cents: 0,
                 }
             }
@@ -88,10 +84,8 @@ fn states_cents(states: usize) -> usize
 {
     let mut cents = 0;
     let mut left = states;
-    let count = Tariff::BANDS.len();
-    for i in 0..count {
-        let band = Tariff::BANDS[i];
-        let taken = if left < band.width { left } else { band.width };
+    for band in Tariff::BANDS.iter() {
+        let taken = left.min(band.width);
         cents += taken * band.cents;
         left -= taken;
     }
@@ -110,17 +104,15 @@ fn risen(sum: usize, frames: usize) -> usize
 }
 
 // The price of a table that passes every check.
+#[tactic(auto, using(crate::proofs::Theorems::quoted, crate::proofs::Theorems::never_falls, crate::proofs::Theorems::folded_cheapest))]
 pub fn price(table: &[u8]) -> Priced
     ensures answer { price_figures result ≡ priced table.now }
     ensures quoted { Quoted }
     ensures rises { NeverFalls table.now }
     ensures least { FoldedCheapest table.now }
 {
-    let verdict = table::check(table);
-    if let Verdict::Refused(refusal) = verdict {
-        return Priced::Refused(refusal);
-    }
+    table::check(table)?;
     let frames = Sizes::read(table).frames;
     let sum = Tariff::BASE + states_cents(states_below(table, frames));
-    Priced::Cents(risen(sum, frames))
+    Ok(risen(sum, frames))
 }

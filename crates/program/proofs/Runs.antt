@@ -1,16 +1,13 @@
 -- What folding's outcome is printed as. Assumes nothing.
-use mathlib.Core.Path.{◌≡◌, sym, ap, ◌∙◌}
+use mathlib.Core.Path.{◌≡◌, refl, sym, ap, ◌∙◌}
 use mathlib.Core.List.{List, ◌++◌}
 use Prim.Native.Nat.{ℕ, ◌≤◌}
 use native.Mathlib.Omega.{arith}
 use lib.ListN.{length, take, drop, length-take}
-use borrow.Author.Tests.{ne_eqb}
-use Rattle.verdict.specs.Judgements.{answer, figures}
+use Rattle.verdict.specs.Judgements.{answer, refusal_figures}
 use Rattle.verdict.specs.declared.Figures.{Figures}
-use Rattle.verdict.specs.declared.Verdict.{Verdict}
-use Rattle.verdict.specs.declared.Verdict.TheVariants.{Accepted, Refused}
 use Rattle.verdict.specs.declared.Refusal.{Refusal}
-use Rattle.verdict.proofs.Laws.{never, accepts}
+use Rattle.verdict.proofs.Laws.{refusal_number}
 use Rattle.table.specs.Sound.{TableHeaded}
 use Rattle.table.proofs.Accepted.{sound}
 use Rattle.folded.specs.Folded.{folded_bytes, fold_checked, fold_result}
@@ -28,38 +25,38 @@ made ys e p = rw e (omega (arith, p.ends), (append_front p, p.within))
 pub part_length : (w : ℕ) (result : List ℕ) → w ≤ length result → w ≡ length (take w result)
 part_length w result h = rw length-take (omega arith)
 
--- a fold of b that answered x
-module _ (b : List ℕ) (x : Verdict) (answers : figures x ≡ fold_checked b scratch_lent nodes_lent result_lent) where
-  refused_lines : (q : Refusal) → x ≡ Refused q → program_lines b ≡ refusal_line (figures x).number (figures x).place
+-- a fold of b that was refused
+module _ (b : List ℕ) (r : Refusal) (e : refusal_figures r ≡ fold_checked b scratch_lent nodes_lent result_lent) where
+  refused_lines : program_lines b ≡ refusal_line (refusal_figures r).number (refusal_figures r).place
   unfolding program_lines
-  refused_lines q e =
-      let f : Figures = figures x in
-      let n = ne_eqb f.number 0 (λ z. never q f.place (sym (ap figures e) ∙ ap (λ n. answer n f.place) z)) in
-      rw (← answers, n)
+  refused_lines = rw (← e, refusal_number r)
 
-  accepted_lines : (w : ℕ) → x ≡ Accepted w → program_lines b ≡ table_lines (folded_bytes b)
-  unfolding program_lines
-  accepted_lines w e = rw (accepts x _ w answers e)
-
-  pub prints_refusal : {out out' : List ℕ} {n : ℕ} (q : Refusal) → x ≡ Refused q → (f : Figures) → f ≡ figures x
-      → Appended out 0 (refusal_line f.number f.place) out' n
+  pub prints_refusal : {out out' : List ℕ} {n : ℕ} (f : Figures) → f ≡ refusal_figures r → Appended out 0 (refusal_line f.number f.place) out' n
       → (n ≡ length (program_lines b)) × ((out' ≡ program_lines b ++ drop n out) × (n ≤ length out))
-  prints_refusal q e f i p = made (program_lines b) (refused_lines q e) (rw i at p)
+  prints_refusal f i p = made (program_lines b) refused_lines (rw i at p)
 
-  -- that was accepted, and so wrote w bytes to the front of the result
-  module _ (w : ℕ) (accepts-it : x ≡ Accepted w) where
-    pub fits : w ≤ result_lent
-    fits = let a = accepted b scratch_lent nodes_lent result_lent w (accepts x _ w answers accepts-it) in omega (arith, a.place_is, a.room_enough)
+-- and one that was accepted, and so wrote w bytes to the front of the result
+module _ (b : List ℕ) (w : ℕ) (e : answer 0 w ≡ fold_checked b scratch_lent nodes_lent result_lent) where
+  accepted_lines : program_lines b ≡ table_lines (folded_bytes b)
+  unfolding program_lines
+  accepted_lines = rw (← e)
 
-    module _ (before : List ℕ) (lent : length before ≡ result_lent) (result : List ℕ) (left : result ≡ fold_result b scratch_lent nodes_lent before) where
-      wrote : take w result ≡ folded_bytes b
-      wrote = ap (take w) left ∙ written_bytes b before scratch_lent nodes_lent w (rw lent (accepts x _ w answers accepts-it))
+  fits : w ≤ result_lent
+  fits = let a = accepted b scratch_lent nodes_lent result_lent w (sym e) in omega (arith, a.place_is, a.room_enough)
 
-      pub prints_table : {out out' : List ℕ} {n : ℕ} → Appended out 0 (table_lines (take w result)) out' n
-          → (n ≡ length (program_lines b)) × ((out' ≡ program_lines b ++ drop n out) × (n ≤ length out))
-      prints_table p = made (program_lines b) (accepted_lines w accepts-it) (rw wrote at p)
+  -- it is within the result
+  pub within : (result : List ℕ) → length result ≡ result_lent → w ≤ length result
+  within result l = omega (arith, fits)
 
-    -- they are a table whose head passes
-    pub head_passes : (result : List ℕ) → Promised b (figures x) result → TableHeaded (take w result)
-    unfolding Promised
-    head_passes result P = (sound (take w result) 0 (P w (ap figures accepts-it)).0.legal).headed
+  module _ (before : List ℕ) (lent : length before ≡ result_lent) (result : List ℕ) (left : result ≡ fold_result b scratch_lent nodes_lent before) where
+    wrote : take w result ≡ folded_bytes b
+    wrote = ap (take w) left ∙ written_bytes b before scratch_lent nodes_lent w (rw lent (sym e))
+
+    pub prints_table : {out out' : List ℕ} {n : ℕ} → Appended out 0 (table_lines (take w result)) out' n
+        → (n ≡ length (program_lines b)) × ((out' ≡ program_lines b ++ drop n out) × (n ≤ length out))
+    prints_table p = made (program_lines b) accepted_lines (rw wrote at p)
+
+  -- it is a table whose head passes
+  pub head_passes : (result : List ℕ) → Promised b (answer 0 w) result → TableHeaded (take w result)
+  unfolding Promised
+  head_passes result P = (sound (take w result) 0 (P w refl).0.legal).headed

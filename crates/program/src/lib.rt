@@ -11,7 +11,7 @@ ghost use Rattle.program.specs.Program.{scratch_lent, nodes_lent, program_lines}
 use fold::fold;
 use nodes::Node;
 use report::{append_refusal, append_table};
-use verdict::Verdict;
+use verdict::{Figures, Verdict};
 
 // What is read at most, and what is lent to folding.
 #[derive(Drop)]
@@ -27,32 +27,18 @@ impl Limits {
     const RESULT: usize = 24576;
 }
 
-// The scratch before it is lent.
-fn no_scratch() -> [u16; Limits::SCRATCH]
-    ensures { length result ≡ scratch_lent }
-{
-    [0; Limits::SCRATCH]
-}
-
-// The records before they are lent.
-fn no_nodes() -> [Node; Limits::NODES]
-    ensures { length result ≡ nodes_lent }
-{
-    [Node {
-        level: 0,
-        low: 0,
-        high: 0,
-    }; Limits::NODES]
-}
-
 // Folds an input with scratch and records of its own.
 fn fold_here(input: &[u8], res: &mut [u8]) -> Verdict
     ensures verdict { figures result ≡ fold_checked input.now scratch_lent nodes_lent (length res.old) }
     ensures res { res.new ≡ fold_result input.now scratch_lent nodes_lent res.old }
     ensures promised { Promised input.now (figures result) res.new }
 {
-    let mut scratch = no_scratch();
-    let mut nodes = no_nodes();
+    let mut scratch = [0; Limits::SCRATCH];
+    let mut nodes = [Node {
+        level: 0,
+        low: 0,
+        high: 0,
+    }; Limits::NODES];
     fold(input, &mut scratch, &mut nodes, res)
 }
 
@@ -64,10 +50,11 @@ pub fn run(input: &[u8], out: &mut [u8]) -> usize
     ensures within { result ≤ length out.old }
 {
     let mut result = [0u8; Limits::RESULT];
-    let folded = fold_here(input, &mut result);
-    let Verdict::Accepted(written) = folded else {
-        let figures = folded.figures();
-        return append_refusal(out, figures.number, figures.place);
-    };
-    append_table(out, &result[..written])
+    match fold_here(input, &mut result) {
+        Ok(written) => append_table(out, &result[..written]),
+        Err(refusal) => {
+            let Figures { number, place } = Figures::from(refusal);
+            append_refusal(out, number, place)
+        }
+    }
 }

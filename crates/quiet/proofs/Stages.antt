@@ -1,48 +1,52 @@
 -- What a step answers by its stages. Assumes nothing.
-use mathlib.Core.Path.{◌≡◌, refl, sym, ap, ap₂, ◌∙◌}
+use mathlib.Core.Path.{◌≡◌, refl, ap, ◌∙◌}
 use mathlib.Core.Bool.{Bool, true, false}
 use mathlib.Core.List.{List}
 use Prim.Native.Nat.{ℕ}
-use Rattle.verdict.specs.Judgements.{refusal_figures, figures}
+use Rattle.std.specs.Prelude.{Result, Err, IsErrAnd}
+use Rattle.std.proofs.lemmas.Result.{err_from_is_err_and}
+use Rattle.verdict.specs.Judgements.{answer, refusal_figures}
 use Rattle.verdict.specs.declared.Figures.{Figures}
 use Rattle.verdict.specs.declared.Refusal.{Refusal}
-use Rattle.verdict.specs.declared.Verdict.{Verdict}
-use Rattle.verdict.specs.declared.Verdict.TheVariants.{Accepted, Refused}
 use Rattle.table.specs.Table.{head_checked}
 use Rattle.positions.specs.declared.Position.{Position}
 use Rattle.steps.specs.Steps.{move_checked, handed_back, step_after, step_figures}
-use Rattle.steps.specs.declared.Stepped.{Stepped}
-use Rattle.steps.specs.declared.Stepped.TheVariants.{Refused as Stopped}
+use Rattle.steps.specs.declared.Moved.{Moved}
 use Rattle.steps.specs.declared.StepFigures.{StepFigures}
-use Rattle.steps.proofs.Steps.{stops, goes_on}
+use Rattle.steps.proofs.Steps.{hands_back, goes_on}
 use Rattle.quiet.specs.Windows.{time_checked, is_quiet}
 use Rattle.quiet.specs.Quiet.{quiet_checked, heard, quiet_stepped}
 
 -- a position that is handed back is heard as it is
-handed : (quiet : Bool) (f : Figures) (t s : ℕ) (g : StepFigures) → handed_back f t s ≡ g → handed_back f t s ≡ heard quiet g
-handed quiet f t s g e = go quiet ∙ ap (heard quiet) e
-  where
-    go : (q : Bool) → handed_back f t s ≡ heard q (handed_back f t s)
-    go true = refl
-    go false = refl
+handed : (quiet : Bool) (f : Figures) (t s : ℕ) → handed_back f t s ≡ heard quiet (handed_back f t s)
+handed true f t s = refl
+handed false f t s = refl
 
--- the head refuses
-module _ (b ws : List ℕ) (m t s w : ℕ) (x : Verdict) (ex : figures x ≡ head_checked b) where
-  pub refused_head : (r : Refusal) → x ≡ Refused r → handed_back (refusal_figures r) t s ≡ quiet_stepped b ws m t s w
-  unfolding quiet_stepped quiet_checked
-  refused_head r q = handed (is_quiet ws m) (refusal_figures r) t s _ (stops b t s w x (head_checked b) _ r ex q)
+module _ (b ws : List ℕ) (m : ℕ) (from : Position) (w : ℕ) where
+  -- where the head and the time are accepted, the move's judgement is the verdict
+  pub goes_on_timed : (p q : ℕ) (y : StepFigures) → answer 0 p ≡ head_checked b → answer 0 q ≡ time_checked ws m → y ≡ step_after (move_checked b from.layer from.state w) b from.layer from.state w
+      → y ≡ step_after (quiet_checked b ws m from.layer from.state w) b from.layer from.state w
+  unfolding quiet_checked
+  goes_on_timed p q y e d h = goes_on b from w _ _ p y e (goes_on b from w _ _ q y d h)
 
-  -- it accepts, and windows or minute are refused
-  module _ (p : ℕ) (qx : x ≡ Accepted p) (y : Verdict) (ey : figures y ≡ time_checked ws m) where
-    pub refused_time : (r : Refusal) → y ≡ Refused r → handed_back (refusal_figures r) t s ≡ quiet_stepped b ws m t s w
-    unfolding quiet_stepped quiet_checked
-    refused_time r q = handed (is_quiet ws m) (refusal_figures r) t s _ (goes_on b t s w x (head_checked b) _ p ex qx _ (stops b t s w y (time_checked ws m) _ r ey q))
+  -- it is as it is heard
+  pub heard_as : (quiet : Bool) (y : StepFigures) → quiet ≡ is_quiet ws m → y ≡ step_after (quiet_checked b ws m from.layer from.state w) b from.layer from.state w
+      → heard quiet y ≡ quiet_stepped b ws m from.layer from.state w
+  unfolding quiet_stepped
+  heard_as quiet y i e j = heard (i j) (e j)
 
-    -- these are accepted too, and the move answers z
-    module _ (q : ℕ) (qy : y ≡ Accepted q) (z : Stepped) (ez : step_figures z ≡ step_after (move_checked b t s w) b t s w) where
-      pub heard_as : (u : Stepped) (quiet : Bool) → z ≡ u → quiet ≡ is_quiet ws m → heard quiet (step_figures u) ≡ quiet_stepped b ws m t s w
-      unfolding quiet_stepped quiet_checked
-      heard_as u quiet e i = ap₂ heard i (sym (ap step_figures e) ∙ goes_on b t s w x (head_checked b) _ p ex qx _ (goes_on b t s w y (time_checked ws m) _ q ey qy _ ez))
+  -- one that is refused
+  pub refused : (x : Result Moved Refusal) (r : Refusal) → IsErrAnd x (λ y. y ≡ r) → step_figures from (Err r) ≡ step_after (quiet_checked b ws m from.layer from.state w) b from.layer from.state w
+      → step_figures from x ≡ quiet_stepped b ws m from.layer from.state w
+  refused x r h e =
+      let p = err_from_is_err_and x h in
+      ap (step_figures from) (p.1 ∙ ap Err p.2) ∙ handed (is_quiet ws m) (refusal_figures r) from.layer from.state ∙ heard_as (is_quiet ws m) _ refl e
 
-      pub refused_move : (r : Refusal) (n : Position) → z ≡ Stopped r n → step_figures z ≡ quiet_stepped b ws m t s w
-      refused_move r n e = ap step_figures e ∙ handed (is_quiet ws m) (refusal_figures r) n.layer n.state _ refl ∙ heard_as _ (is_quiet ws m) e refl
+  pub refused_head : (x : Result Moved Refusal) (r : Refusal) → IsErrAnd x (λ y. y ≡ r) → refusal_figures r ≡ head_checked b → step_figures from x ≡ quiet_stepped b ws m from.layer from.state w
+  unfolding quiet_checked
+  refused_head x r h e = refused x r h (hands_back b from w r _ _ e)
+
+  pub refused_time : (p : ℕ) (x : Result Moved Refusal) (r : Refusal) → answer 0 p ≡ head_checked b → IsErrAnd x (λ y. y ≡ r) → refusal_figures r ≡ time_checked ws m
+      → step_figures from x ≡ quiet_stepped b ws m from.layer from.state w
+  unfolding quiet_checked
+  refused_time p x r d h e = refused x r h (goes_on b from w _ _ p _ d (hands_back b from w r _ _ e))

@@ -9,9 +9,8 @@ ghost use Rattle.quiet.specs.Quiet.{quiet_stepped};
 ghost use Rattle.quiet.specs.Theorems.{QuietSteps, AfterSilence, QuietAccepts};
 
 use positions::Position;
-use steps::{Stepped, move_on};
+use steps::{Moved, Stepped, move_on};
 use table::head::check_head;
-use verdict::Verdict;
 use windows::{check_time, is_quiet};
 
 // The minutes of a week, and the most windows.
@@ -25,28 +24,20 @@ impl Limits {
 }
 
 // One step in a minute of the week, by value: the head, then windows and minute, then the move are judged.
+#[tactic(auto, using(crate::proofs::Timed::quiet_steps, crate::proofs::Timed::after_silence, crate::proofs::Timed::quiet_accepts))]
 pub fn step(table: &[u8], windows: &[u16], minute: u16, position: Position, word: u16) -> Stepped
-    ensures answer { step_figures result ≡ quiet_stepped table.now windows.now minute position.layer position.state word }
+    ensures answer { step_figures position result ≡ quiet_stepped table.now windows.now minute position.layer position.state word }
     ensures steps { QuietSteps table.now windows.now }
     ensures silence { AfterSilence table.now windows.now }
     ensures accepts { QuietAccepts table.now windows.now }
 {
-    let head = check_head(table);
-    if let Verdict::Refused(refusal) = head {
-        return Stepped::Refused(refusal, position);
-    }
-    let timed = check_time(windows, minute);
-    if let Verdict::Refused(reason) = timed {
-        return Stepped::Refused(reason, position);
-    }
-    let answer = move_on(table, position, word);
-    let Stepped::Moved(output, next) = answer else {
-        return answer;
-    };
+    check_head(table)?;
+    check_time(windows, minute)?;
+    let moved = move_on(table, position, word)?;
     if is_quiet(windows, minute) {
-        return Stepped::Moved(0, next);
+        return Ok(Moved { output: 0, ..moved });
     }
-    Stepped::Moved(output, next)
+    Ok(moved)
 }
 
 // The board holds one position, and each impulse moves it on: the position is lent, stepped by value, and stored. A refusal leaves it as it
@@ -58,13 +49,13 @@ pub fn advance(
     position: &mut Position,
     word: u16,
 ) -> Stepped
-    ensures answer { step_figures result ≡ quiet_stepped table.now windows.now minute position.old.layer position.old.state word }
+    ensures answer { step_figures position.old result ≡ quiet_stepped table.now windows.now minute position.old.layer position.old.state word }
     ensures position { position.new ≡ position_of (quiet_stepped table.now windows.now minute position.old.layer position.old.state word) }
     ensures steps { QuietSteps table.now windows.now }
     ensures silence { AfterSilence table.now windows.now }
     ensures accepts { QuietAccepts table.now windows.now }
 {
-    let answer = step(table, windows, minute, *position, word);
-    *position = answer.position();
-    answer
+    let moved = step(table, windows, minute, *position, word)?;
+    *position = moved.position;
+    Ok(moved)
 }

@@ -6,17 +6,15 @@ ghost use Rattle.quiet.specs.Windows.{is_bad, windows_checked, time_checked, hol
 use super::Limits;
 use verdict::{Refusal, Verdict};
 
-// Whether window i is bad: its last number is missing, a minute is above 10,079, or its ends are equal.
-fn is_bad(windows: &[u16], i: usize) -> bool
-    requires { 2 * i < length windows.now }
-    ensures { result ≡ is_bad windows.now i }
+// Whether a window is bad: its last number is missing, a minute is above 10,079, or its ends are equal.
+fn is_bad(window: &[u16]) -> bool
+    ensures { result ≡ is_bad window.now 0 }
 {
-    let last_at = 2 * i + 1;
-    if windows.len() <= last_at {
+    if window.len() < 2 {
         return true;
     }
-    let first = windows[2 * i];
-    let last = windows[last_at];
+    let first = window[0];
+    let last = window[1];
     Limits::MINUTES <= first || Limits::MINUTES <= last || first == last
 }
 
@@ -24,21 +22,28 @@ fn is_bad(windows: &[u16], i: usize) -> bool
 fn check_windows(windows: &[u16]) -> Verdict
     ensures { figures result ≡ windows_checked windows.now }
 {
-    let count = (windows.len() + 1) / 2;
-    for i in 0..count {
-        if is_bad(windows, i) {
-            return Verdict::Refused(Refusal::Window(i));
+    for (i, window) in windows.chunks(2).enumerate() {
+        if is_bad(window) {
+            return Err(Refusal::Window(i));
         }
     }
-    Verdict::refuse_if(Limits::WINDOWS < count, Refusal::Window(Limits::WINDOWS), 0)
+    let count = (windows.len() + 1) / 2;
+    if Limits::WINDOWS < count {
+        return Err(Refusal::Window(Limits::WINDOWS));
+    }
+    Ok(0)
 }
 
 // Numbers 15 and 16.
+#[tactic(auto, unfolding(crate::specs::Windows::time_checked))]
 pub fn check_time(windows: &[u16], minute: u16) -> Verdict
     ensures { figures result ≡ time_checked windows.now minute }
 {
-    let present = Verdict::refuse_if(Limits::MINUTES <= minute, Refusal::Minute(0), 0);
-    check_windows(windows).and_then(present)
+    check_windows(windows)?;
+    if Limits::MINUTES <= minute {
+        return Err(Refusal::Minute(0));
+    }
+    Ok(0)
 }
 
 // Whether a window holds a minute: from its first on, up to its last but without it. A first above the last runs over the week's end.
@@ -52,13 +57,13 @@ fn holds(first: u16, last: u16, minute: u16) -> bool
 }
 
 // Whether a minute is quiet: some window holds it.
+#[tactic(auto, using(crate::proofs::Minutes::holds_round))]
 pub fn is_quiet(windows: &[u16], minute: u16) -> bool
     ensures quiet { result ≡ is_quiet windows.now minute }
     ensures round { HoldsRound }
 {
-    let count = windows.len() / 2;
-    for i in 0..count {
-        if holds(windows[2 * i], windows[2 * i + 1], minute) {
+    for window in windows.chunks_exact(2) {
+        if holds(window[0], window[1], minute) {
             return true;
         }
     }

@@ -5,7 +5,6 @@ ghost use Rattle.std.specs.Prelude.{◌≡◌, ◌++◌, ◌+◌, ◌*◌, ◌�
 ghost use Rattle.words.specs.Words.{stored};
 ghost use Rattle.verdict.specs.Judgements.{figures};
 ghost use Rattle.sizes.specs.Sizes.{frames};
-ghost use Rattle.layered.specs.Search.{tabulate};
 ghost use Rattle.table.specs.Sound.{TableHeaded, Sound, layout_of};
 ghost use Rattle.paths.specs.Places.{reach_head, all_states};
 ghost use Rattle.reach.specs.Reach.{head_words, reach_bytes, reach_checked, reach_result};
@@ -30,16 +29,6 @@ fn store_head(table: &[u8], last: usize, res: &mut [u8])
     }
 }
 
-// Stores so many zeros.
-fn clear(res: &mut [u8], from: usize, count: usize)
-    requires { from + 4 * count ≤ length res.old }
-    ensures { res.new ≡ stored 4 res.old from (tabulate count (λ _. 0)) }
-{
-    for i in 0..count {
-        store32(res, from + Limits::NUMBER * i, 0);
-    }
-}
-
 // Writes the head and the numbers of all states. Before any entry is followed, one history leads to the start, the empty one.
 fn write_numbers(table: &[u8], layout: Layout, states: usize, res: &mut [u8])
     requires sound { Sound table.now }
@@ -48,29 +37,26 @@ fn write_numbers(table: &[u8], layout: Layout, states: usize, res: &mut [u8])
 {
     let head = head_bytes(layout.frames);
     store_head(table, layout.frames, res);
-    clear(res, head, 2 * states);
+    res[head..head + 2 * (Limits::NUMBER * states)].fill(0);
     store32(res, head, 1);
     follow_layers(table, layout, res);
 }
 
 // How many histories lead to each state of a table, and the smallest of them.
+#[tactic(auto, using(crate::proofs::Theorems::reaches, crate::proofs::Theorems::folded_reaches))]
 pub fn reach(table: &[u8], res: &mut [u8]) -> Verdict
     ensures verdict { figures result ≡ reach_checked table.now (length res.old) }
     ensures res { res.new ≡ reach_result table.now res.old }
     ensures reached { Reaches table.now }
     ensures folded { FoldedReaches table.now }
 {
-    let judged = check(table);
-    let Verdict::Accepted(_) = judged else {
-        return judged;
-    };
+    check(table)?;
     let layout = Layout::read(table);
     let states = states_below(table, layout.frames + 1);
     let bytes = head_bytes(layout.frames) + 2 * (Limits::NUMBER * states);
-    let roomy = Verdict::refuse_if(res.len() < bytes, Refusal::Room(bytes), bytes);
-    let Verdict::Accepted(_) = roomy else {
-        return roomy;
-    };
+    if res.len() < bytes {
+        return Err(Refusal::Room(bytes));
+    }
     write_numbers(table, layout, states, res);
-    roomy
+    Ok(bytes)
 }

@@ -1,11 +1,10 @@
 -- Laws of records as nodes.
-use mathlib.Core.Path.{◌≡◌, refl, sym, ap, ◌∙◌}
-use mathlib.Core.Bool.{Bool, true, false, not}
+use mathlib.Core.Path.{◌≡◌, sym, ap, ◌∙◌}
 use mathlib.Core.Logic.{◌⊎◌, inl, inr, ⊎_elim, ◌≢◌}
 use mathlib.Core.List.{List}
 use Prim.Native.Nat.{ℕ, zero, suc, ◌-◌, ◌≤◌, ◌<◌}
 use native.Mathlib.Omega.{arith}
-use lib.Dec.{T, ltb, ltb→lt, lt→ltb}
+use lib.Dec.{ltb, ltb→lt, lt→ltb}
 use lib.ListN.{length, get_or, set}
 use lib.Seq.{get_or-set_same, get_or-set_other}
 use Rattle.diagrams.specs.Making.{Added}
@@ -14,15 +13,6 @@ use Rattle.diagrams.proofs.Growth.{decide}
 use Rattle.nodes.specs.declared.Node.{Node}
 use Rattle.nodes.specs.Nodes.{Shows}
 use Rattle.records.specs.Records.{none, node_of, nodes_in}
-
--- what a test tells
-pub is_yes : (t : Bool) → T t → t ≡ true
-is_yes true h = refl
-is_yes false h = absurd h
-
-pub is_no : (t : Bool) → T (not t) → t ≡ false
-is_no true h = absurd h
-is_no false h = refl
 
 -- the node of a record
 pub of_record : (ns : List Node) (f : ℕ) → 2 ≤ f → node_of ns f ≡ get_or ns (f - 2) none

@@ -1,9 +1,8 @@
 // Candidates numbered anew by their numbers so far and their rows, and a path for each new number.
 #![tactic(auto)]
 
-ghost use Rattle.std.specs.Prelude.{◌≡◌, ◌+◌, ◌*◌, ◌/◌, ◌<◌, replicate};
+ghost use Rattle.std.specs.Prelude.{◌≡◌, ◌+◌, ◌*◌, ◌/◌, ◌<◌};
 ghost use Rattle.diagrams.specs.Numbering.{first_same};
-ghost use Rattle.refine.specs.Limits.{bucket_count, link_count};
 ghost use Rattle.refine.specs.Rows.{Placed, Refined};
 ghost use Rattle.refine.specs.Buckets.{test_in, hash_in, bucket, Linked};
 ghost use Rattle.refine.specs.Collecting.{Collectable, Collecting, Collected};
@@ -29,19 +28,6 @@ pub struct Rows {
     pub copy: usize,
     pub numbers: usize,
     pub ids: usize,
-}
-
-// No bucket has a candidate yet.
-fn no_buckets() -> [u16; Limits::BUCKETS]
-    ensures { result ≡ replicate bucket_count 0 }
-{
-    [0; Limits::BUCKETS]
-}
-
-fn no_links() -> [u16; Limits::LINKS]
-    ensures { result ≡ replicate link_count 0 }
-{
-    [0; Limits::LINKS]
 }
 
 // The hash of the copied number and the row of c.
@@ -73,6 +59,7 @@ fn seek(scratch: &[u16], work: &[u32], rows: Rows, links: &[u16], start: u16, c:
     let copy = rows.copy;
     let row = rows.ids + c * parts;
     let mut rest = start as usize;
+    // A bucket is a chain of numbers in a fixed array, as there is no heap: an iterator over it would only wrap this loop.
     'earlier: while 0 < rest {
         let g = rest - 1;
         rest = links[g] as usize;
@@ -99,8 +86,8 @@ pub fn refine(scratch: &mut [u16], work: &[u32], rows: Rows) -> usize
     let count = rows.count;
     let copy = rows.copy;
     let numbers = rows.numbers;
-    let mut buckets = no_buckets();
-    let mut links = no_links();
+    let mut buckets = [0u16; Limits::BUCKETS];
+    let mut links = [0u16; Limits::LINKS];
     let mut fresh: u16 = 0;
     for c in 0..count {
         scratch[copy + c] = scratch[numbers + c];

@@ -31,6 +31,3 @@ pub rest_next : (k L c i rest : ℕ) → 0 < i → i ≤ L → rest ≡ c / k ^ 
 rest_next k L c i rest pos l er =
     let j : suc (L - i) ≡ L - (i - 1) = omega arith in
     ap (λ y. y / k) er ∙ div-div-eq-div-mul c (k ^ (L - i)) k ∙ ap (λ d. c / d) (sym (pow-suc k (L - i)) ∙ ap (λ j. k ^ j) j)
-
-pub rest_start : (k L c : ℕ) → c ≡ c / k ^ (L - L)
-rest_start k L c = let j : L - L ≡ 0 = omega arith in sym (ap (λ j. c / k ^ j) j ∙ ap (λ d. c / d) (pow-zero k) ∙ div-one c)

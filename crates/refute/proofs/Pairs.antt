@@ -22,19 +22,11 @@ use Rattle.trial.specs.declared.Visit.{Visit}
 use Rattle.trial.proofs.Bits.{ones_mask, zeros_mask, and_both, some_bit}
 use Rattle.trial.proofs.Places.{few_bits, few_outputs, masks}
 
--- a number that shows no bit above the words of a frame is a history of it
-pub history_small : (a : Sought) (bytes starts : List ℕ) → Held bytes starts a → (t h : ℕ) → (0 < h / 2 ^ (a.inputs * (t + 1)) → ⊥) → h < a.words ^ suc t
-history_small a bytes starts H t h n =
-    let P = 2 ^ (a.inputs * (t + 1)) in
-    let z : h / P < 1 = omega arith in
-    let l : h < 1 * P = (div-lt_iff_lt-mul (pow_pos (a.inputs * (t + 1)))).0 z in
-    let e : P ≡ a.words ^ suc t = pow-mul 2 a.inputs (t + 1) ∙ ap (λ k. k ^ (t + 1)) (sym H.words_are) ∙ ap (λ j. a.words ^ j) (add-one t) in
+-- a number below two to the power of a frame's bits is a history of it
+pub history_small : (a : Sought) (bytes starts : List ℕ) → Held bytes starts a → (t h : ℕ) → h < 2 ^ (a.inputs * (t + 1)) → h < a.words ^ suc t
+history_small a bytes starts H t h l =
+    let e : 2 ^ (a.inputs * (t + 1)) ≡ a.words ^ suc t = pow-mul 2 a.inputs (t + 1) ∙ ap (λ k. k ^ (t + 1)) (sym H.words_are) ∙ ap (λ j. a.words ^ j) (add-one t) in
     omega (arith, l, e)
-
-pub shift_few : (a : Sought) (bytes starts : List ℕ) → Held bytes starts a → (t : ℕ) → t < a.frames → a.inputs * (t + 1) ≤ 16
-shift_few a bytes starts H t l =
-    let b : t + 1 ≤ a.frames = omega arith in
-    omega (arith, mul-le-mul_left a.inputs b, few_bits a bytes starts H)
 
 module _ (a : Sought) (bytes starts chosen : List ℕ) (H : Held bytes starts a) (t g s h : ℕ) (lt : t < a.frames) (ls : s < a.frames)
     (lg : g < a.words ^ suc t) (lh : h < a.words ^ suc s) (x y : Visit)

@@ -1,11 +1,12 @@
 -- Laws of appending to a buffer. Assumes nothing.
-use mathlib.Core.Path.{◌≡◌, refl, ap, ◌∙◌}
+use mathlib.Core.Path.{◌≡◌, refl, sym, ap, ◌∙◌}
 use mathlib.Core.List.{List, [], ◌∷◌, ◌++◌}
+use Rattle.std.proofs.Common.{append_assoc}
 use Prim.Native.Nat.{ℕ, suc, ◌+◌, ◌/◌, ◌%◌, ◌≤◌, ◌<◌}
-use native.Mathlib.Numerals.{add-one}
 use native.Mathlib.Omega.{arith}
-use lib.ListN.{length, get_or, take, drop, set, length-append}
-use lib.Seq.{sets, sets-eq, length-sets, take-suc, take-length}
+use lib.ListN.{length, take, drop, set, length-append}
+use lib.Seq.{sets, sets-eq, length-sets, drop-drop}
+use borrow.Rule.Slice.PartMut.{put_mid}
 use Rattle.report.specs.Report.{decimal, Appended}
 use Rattle.report.proofs.Decimal.{one_digit, more_digits, one_more}
 
@@ -32,7 +33,7 @@ append_then {b} {xs} {c} {at} {i} {ys} p q = record {
   within = omega (arith, q.within, append_length p);
 }
 
--- ---- a text, byte by byte
+-- ---- a text
 
 pub append_nothing : (b : List ℕ) (at : ℕ) → at ≤ length b → Appended b at [] b at
 append_nothing b at h = record { stored = refl; ends = omega arith; within = h }
@@ -40,16 +41,12 @@ append_nothing b at h = record { stored = refl; ends = omega arith; within = h }
 pub append_byte : (b : List ℕ) (at x : ℕ) → at < length b → Appended b at (x ∷ []) (set b at x) (at + 1)
 append_byte b at x h = record { stored = refl; ends = refl; within = omega arith }
 
--- byte i of the text s
-pub append_next : (b : List ℕ) (at : ℕ) (s c : List ℕ) (i : ℕ) → i < length s → at + length s ≤ length b → Appended b at (take i s) c (at + i)
-    → Appended b at (take (i + 1) s) (set c (at + i) (get_or s i 0)) (at + (i + 1))
-append_next b at s c i h l p =
-    let e : at + (i + 1) ≡ at + i + 1 = omega arith in
-    rw (e, add-one i, take-suc s i 0) (append_then p (append_byte c (at + i) (get_or s i 0) (omega (arith, append_length p))))
-
--- all of s
-pub append_all : (b : List ℕ) (at : ℕ) (s c : List ℕ) (i : ℕ) → i ≡ length s → Appended b at (take i s) c (at + i) → Appended b at s c (at + length s)
-append_all b at s c i e p = rw (e, take-length) at p
+pub append_text : (b : List ℕ) (at : ℕ) (s t : List ℕ) (k : ℕ) → at + length s ≤ length b → k ≡ length s → t ≡ s → Appended b at s (put_mid at k b t) (at + length s)
+append_text b at s t k h e q = record {
+  stored = rw (q, e) (ap (λ (r : List ℕ). take at b ++ (s ++ r)) (drop-drop (length s) at b) ∙ sym (append_assoc (take at b) s (drop (at + length s) b)) ∙ sym (sets-eq s b at h));
+  ends = refl;
+  within = h;
+}
 
 -- ---- the last digit of the number n, where its room is known
 

@@ -17,16 +17,15 @@ impl Limits {
     pub const ROOM: usize = 256;
 }
 
-// Stores a text from index `at` on. Like the others below it answers the index behind what it stored.
+// Stores a text from index `at` on. Like the others below it answers the index behind what it stored. Not `write!`: that answers a Result at each text, and
+// none of these can fail.
 fn append(out: &mut [u8], at: usize, text: &[u8]) -> usize
     requires { at + length text.now ≤ length out.old }
     ensures { Appended out.old at text.now out.new result }
 {
-    let count = text.len();
-    for i in 0..count {
-        out[at + i] = text[i];
-    }
-    at + count
+    let end = at + text.len();
+    out[at..end].copy_from_slice(text);
+    end
 }
 
 // A number in decimal: all digits but the last are those of its tenth part.

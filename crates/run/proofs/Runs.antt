@@ -8,10 +8,8 @@ use lib.Bits.{bit_and, and_mask}
 use lib.Pow.{pow_mono}
 use lib.ListN.{length, get_or, set, take, drop, take-append-drop}
 use lib.Seq.{drop-cons, take-suc-set, append_snoc, drop-length}
-use Rattle.verdict.specs.Judgements.{answer, figures}
+use Rattle.verdict.specs.Judgements.{answer, refusal_figures}
 use Rattle.verdict.specs.declared.Refusal.{Refusal}
-use Rattle.verdict.specs.declared.Verdict.{Verdict}
-use Rattle.verdict.specs.declared.Verdict.TheVariants.{Refused}
 use Rattle.verdict.proofs.Laws.{both_accept, kept, left}
 use Rattle.sizes.specs.Sizes.{inputs, outputs, frames, sequence_checked}
 use Rattle.sizes.specs.Limits.{most_outputs}
@@ -65,9 +63,9 @@ feed_all M words r before t s l e d =
 
 -- what the result holds: untouched after a refusal, the outputs and then the rest as before after an acceptance
 module _ (b words before : List ℕ) where
-  pub run_kept : (x : Verdict) (r : Refusal) → figures x ≡ ran b words (length before) → x ≡ Refused r → before ≡ run_result b words before
+  pub run_kept : (r : Refusal) → refusal_figures r ≡ ran b words (length before) → before ≡ run_result b words before
   unfolding run_result
-  run_kept x r e q = kept _ r (feed (machine b) 0 0 words) before (sym (ap figures q) ∙ e)
+  run_kept r e = kept _ r (feed (machine b) 0 0 words) before e
 
   pub run_left : Sound b → Fed (inputs b) (frames b) words → (after : List ℕ) → answer 0 (frames b) ≡ ran b words (length before)
       → after ≡ shown b 65535 words ++ drop (frames b) before → after ≡ run_result b words before

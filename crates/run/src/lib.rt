@@ -10,7 +10,7 @@ ghost use Rattle.run.specs.Run.{shown, ran, run_result, RunFeeds};
 
 use positions::Position;
 use sizes::{Sizes, check_sequence};
-use steps::{Stepped, step};
+use steps::step;
 use table::check;
 use verdict::Verdict;
 
@@ -23,34 +23,24 @@ pub fn run_masked(table: &[u8], mask: u16, words: &[u16], res: &mut [u16]) -> Ve
     ensures verdict { figures result ≡ answer 0 (frames table.now) }
     ensures outputs { res.new ≡ shown table.now mask words.now ++ drop (frames table.now) res.old }
 {
-    let frames = words.len();
     let mut position = Position::start();
-    for t in 0..frames {
-        let word = words[t];
-        let answer = step(table, position, word);
-        let Stepped::Moved(output, next) = answer else {
-            return answer.verdict();
-        };
-        res[t] = output & mask;
-        position = next;
+    for (t, word) in words.iter().enumerate() {
+        let moved = step(table, position, *word)?;
+        res[t] = moved.output & mask;
+        position = moved.position;
     }
-    Verdict::Accepted(frames)
+    Ok(words.len())
 }
 
 // The outputs of a table on a sequence of input words: one word for each frame.
+#[tactic(auto, using(crate::proofs::Runs::run_feeds))]
 pub fn run(table: &[u8], words: &[u16], res: &mut [u16]) -> Verdict
     ensures verdict { figures result ≡ ran table.now words.now (length res.old) }
     ensures outputs { res.new ≡ run_result table.now words.now res.old }
     ensures feeds { RunFeeds table.now words.now (length res.old) }
 {
-    let judged = check(table);
-    let Verdict::Accepted(_) = judged else {
-        return judged;
-    };
+    check(table)?;
     let sizes = Sizes::read(table);
-    let fed = check_sequence(words, sizes.inputs, sizes.frames, res.len());
-    let Verdict::Accepted(_) = fed else {
-        return fed;
-    };
+    check_sequence(words, sizes.inputs, sizes.frames, res.len())?;
     run_masked(table, u16::MAX, words, res)
 }

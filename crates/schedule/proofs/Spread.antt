@@ -7,9 +7,10 @@ use native.Mathlib.Omega.{arith}
 use lib.Dec.{ltb, eqb}
 use lib.ListN.{length, get_or}
 use borrow.Author.Tests.{ltb-false, eqb-false}
-use Rattle.verdict.specs.Judgements.{answer, figures}
+use Rattle.verdict.specs.Judgements.{Verdict, answer, figures, refusal_figures}
+use Rattle.verdict.specs.declared.Refusal.{Refusal}
+use Rattle.verdict.proofs.Laws.{refusal_number}
 use Rattle.verdict.specs.declared.Figures.{Figures}
-use Rattle.verdict.specs.declared.Verdict.{Verdict}
 use Rattle.words.specs.Words.{word_bytes}
 use Rattle.layered.proofs.Search.{least_cong}
 use Rattle.circuit.specs.Circuit.{gates, lefts_at, rights_at, all_inputs, all_outputs, operand, circuit_words, output_gate, look_ahead_checked}
@@ -90,6 +91,11 @@ module _ (c : List ℕ) (n m T : ℕ) (ins outs : List ℕ) (S : Scheduled c n m
 module _ (c : List ℕ) (n m T : ℕ) (ins outs s : List ℕ) where
   abbrev r : List ℕ
   r = rearranged c n m T ins outs
+
+  -- the network, the sizes or the lists are refused
+  pub schedule_refused : (r : Refusal) → refusal_figures r ≡ schedule_checked c n m T ins outs → refusal_figures r ≡ spread_lent c n m T ins outs (length s)
+  unfolding spread_lent
+  schedule_refused r e = rw (← e, refusal_number r)
 
   -- a refusal leaves the scratch
   pub scratch_kept : (f : Figures) → f ≡ spread_lent c n m T ins outs (length s) → eqb f.number 0 ≡ false → s ≡ spread_scratch c n m T ins outs s

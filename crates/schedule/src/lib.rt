@@ -1,12 +1,12 @@
 // A plain network and the places that it is spread over (document 02, Point 11): judged before anything that is lent is used, and made the source of a fold.
 #![tactic(auto)]
 
-ghost use Rattle.std.specs.Prelude.{◌≡◌, cond, ℕ, ◌+◌, ◌≤◌, ◌<◌, leb, ltb, length, get_or};
+ghost use Rattle.std.specs.Prelude.{◌≡◌, ℕ, ◌≤◌, ◌<◌, leb, length, get_or};
 ghost use Rattle.verdict.specs.Judgements.{figures};
 ghost use Rattle.sizes.specs.Limits.{most_inputs, most_bits};
 ghost use Rattle.sizes.specs.Sized.{Sized};
 ghost use Rattle.layered.specs.Search.{least};
-ghost use Rattle.circuit.specs.Limits.{most_wired};
+ghost use Rattle.circuit.specs.Found.{found};
 ghost use Rattle.circuit.specs.WellFormed.{CircuitHeaded};
 ghost use Rattle.source.specs.Rearranged.{rearranged};
 ghost use Rattle.source.specs.Source.{sourced, SourceOf};
@@ -30,17 +30,11 @@ pub fn given(inputs: u16, outputs: u16, frames: u16) -> Sizes
     }
 }
 
-// The first item of a list that is no place below `count`; as many as it has where all are.
-fn first_outside(list: &[u16], count: usize) -> usize
-    ensures { result ≡ least (length list.now) (λ k. leb count (get_or list.now k 0)) }
+// The first item of a list that is no place below `count`.
+fn first_outside(list: &[u16], count: usize) -> Option<usize>
+    ensures { result ≡ found (length list.now) (least (length list.now) (λ k. leb count (get_or list.now k 0))) }
 {
-    let all = list.len();
-    for k in 0..all {
-        if count <= list[k] as usize {
-            return k;
-        }
-    }
-    all
+    list.iter().position(|place| count <= *place as usize)
 }
 
 // Whether item k of a list is the same as an earlier one.
@@ -48,36 +42,19 @@ fn is_repeated(list: &[u16], k: usize) -> bool
     requires { k < length list.now }
     ensures { result ≡ is_repeated list.now k }
 {
-    for i in 0..k {
-        if list[i] == list[k] {
-            return true;
-        }
-    }
-    false
+    list[..k].contains(&list[k])
 }
 
-// The first item of a list that is the same as an earlier one; as many as it has where there is none.
-fn first_repeated(list: &[u16]) -> usize
-    ensures { result ≡ least (length list.now) (is_repeated list.now) }
+// The first item of a list that is the same as an earlier one.
+fn first_repeated(list: &[u16]) -> Option<usize>
+    ensures { result ≡ found (length list.now) (least (length list.now) (is_repeated list.now)) }
 {
-    let all = list.len();
-    for k in 0..all {
+    for k in 0..list.len() {
         if is_repeated(list, k) {
-            return k;
+            return Some(k);
         }
     }
-    all
-}
-
-// The index in two lists joined: of an item of the first, which has `count`, else of one of the second.
-fn joined(first: usize, count: usize, second: usize) -> usize
-    requires { (count ≤ most_bits) × (second ≤ most_wired) }
-    ensures { result ≡ cond (ltb first count) first (count + second) }
-{
-    if first < count {
-        return first;
-    }
-    count + second
+    None
 }
 
 // The lists of places: 12 for the inputs', 12 for the outputs', 19 over both, 20 over both.
@@ -89,36 +66,33 @@ fn check_lists(network: &[u8], sizes: Sizes, inputs: &[u16], outputs: &[u16]) ->
     let own = Head::read(network);
     let count = inputs.len();
     if count != own.base - 1 {
-        return Verdict::Refused(Refusal::Count(count));
+        return Err(Refusal::Count(count));
     }
     let shown = outputs.len();
     if shown != own.total {
-        return Verdict::Refused(Refusal::Count(shown));
+        return Err(Refusal::Count(shown));
     }
-    let outside = joined(
-        first_outside(inputs, sizes.inputs * sizes.frames),
-        count,
-        first_outside(outputs, sizes.outputs * sizes.frames),
-    );
-    if outside < count + shown {
-        return Verdict::Refused(Refusal::Outside(outside));
+    if let Some(k) = first_outside(inputs, sizes.inputs * sizes.frames) {
+        return Err(Refusal::Outside(k));
     }
-    let taken = joined(first_repeated(inputs), count, first_repeated(outputs));
-    Verdict::refuse_if(taken < count + shown, Refusal::Taken(taken), 0)
+    if let Some(k) = first_outside(outputs, sizes.outputs * sizes.frames) {
+        return Err(Refusal::Outside(count + k));
+    }
+    if let Some(k) = first_repeated(inputs) {
+        return Err(Refusal::Taken(k));
+    }
+    if let Some(k) = first_repeated(outputs) {
+        return Err(Refusal::Taken(count + k));
+    }
+    Ok(0)
 }
 
 // The network, the given sizes and the lists, in this order.
 fn check_schedule(network: &[u8], sizes: Sizes, inputs: &[u16], outputs: &[u16]) -> Verdict
     ensures { figures result ≡ schedule_checked network.now sizes.inputs sizes.outputs sizes.frames inputs.now outputs.now }
 {
-    let formed = check_form(network, sizes::Limits::BITS, 1);
-    let Verdict::Accepted(_) = formed else {
-        return formed;
-    };
-    let sized = sizes.check(sizes::Limits::INPUTS);
-    let Verdict::Accepted(_) = sized else {
-        return sized;
-    };
+    check_form(network, sizes::Limits::BITS, 1)?;
+    sizes.check(sizes::Limits::INPUTS)?;
     check_lists(network, sizes, inputs, outputs)
 }
 
@@ -128,10 +102,7 @@ fn held(list: &[u16]) -> [u16; sizes::Limits::BITS]
     ensures { (k : ℕ) → k < length list.now → get_or result k 0 ≡ get_or list.now k 0 }
 {
     let mut places = [0; sizes::Limits::BITS];
-    let all = list.len();
-    for k in 0..all {
-        places[k] = list[k];
-    }
+    places[..list.len()].copy_from_slice(list);
     places
 }
 
@@ -167,14 +138,8 @@ pub fn judge_spread(
     ensures verdict { figures result ≡ spread_lent network.now sizes.inputs sizes.outputs sizes.frames inputs.now outputs.now (length scratch.old) }
     ensures scratch { scratch.new ≡ spread_scratch network.now sizes.inputs sizes.outputs sizes.frames inputs.now outputs.now scratch.old }
 {
-    let judged = check_schedule(network, sizes, inputs, outputs);
-    if let Verdict::Refused(_) = judged {
-        return judged;
-    }
+    check_schedule(network, sizes, inputs, outputs)?;
     let source = spread_source(network, sizes, inputs, outputs);
-    let ahead = check_look_ahead(network, source);
-    if let Verdict::Refused(_) = ahead {
-        return ahead;
-    }
+    check_look_ahead(network, source)?;
     judge_scratch(scratch, source)
 }

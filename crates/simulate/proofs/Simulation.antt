@@ -3,11 +3,11 @@ use mathlib.Core.Path.{◌≡◌, sym, ap, ap₂, ◌∙◌}
 use mathlib.Core.List.{List, ◌++◌}
 use Prim.Native.Nat.{ℕ, ◌*◌}
 use lib.ListN.{length, drop}
-use Rattle.verdict.specs.Judgements.{figures}
-use Rattle.verdict.specs.declared.Verdict.{Verdict}
-use Rattle.verdict.specs.declared.Verdict.TheVariants.{Accepted, Refused}
+use Rattle.verdict.specs.Judgements.{Verdict, answer, figures, refusal_figures}
+use Rattle.verdict.specs.declared.Figures.{Figures}
+use Rattle.std.specs.Prelude.{IsErrAnd}
 use Rattle.verdict.specs.declared.Refusal.{Refusal}
-use Rattle.verdict.proofs.Laws.{stop, go_on, accepts, kept, left}
+use Rattle.verdict.proofs.Laws.{refusal_number, told, go_on, kept, left}
 use Rattle.sizes.specs.Sizes.{inputs, frames}
 use Rattle.circuit.specs.Circuit.{checked}
 use Rattle.circuit.specs.WellFormed.{HeadOf}
@@ -18,44 +18,42 @@ use Rattle.simulate.proofs.Judged.{SequencesFed, all_fed}
 use Rattle.simulate.proofs.Theorems.{each_alone}
 
 -- the figures and the result of a simulation, and that each sequence gets what it gets alone
-abbrev pub Outcome : (b : List ℕ) (count : ℕ) (words before : List ℕ) → Verdict → (after : List ℕ) → Type 0
-Outcome b count words before x after = (figures x ≡ simulated b count words (length before)) × ((after ≡ simulation_result b count words before) × EachAlone b)
+abbrev pub Outcome : (b : List ℕ) (count : ℕ) (words before : List ℕ) → Figures → (after : List ℕ) → Type 0
+Outcome b count words before f after = (f ≡ simulated b count words (length before)) × ((after ≡ simulation_result b count words before) × EachAlone b)
 
 module _ (b : List ℕ) (count : ℕ) (words before : List ℕ) where
   -- a refusal leaves the result as it was
-  refused : (x : Verdict) (r : Refusal) → x ≡ Refused r → figures x ≡ simulated b count words (length before) → Outcome b count words before x before
+  refused : (x : Verdict) (r : Refusal) → IsErrAnd x (λ y. y ≡ r) → refusal_figures r ≡ simulated b count words (length before) → Outcome b count words before (figures x) before
   unfolding simulation_result
-  refused x r q e = (e, (kept (simulated b count words (length before)) r (all_output_words b count words) before (sym (ap figures q) ∙ e), each_alone b))
+  refused x r i e = (told x r _ i e, (kept (simulated b count words (length before)) r (all_output_words b count words) before e, each_alone b))
 
-  module _ (x : Verdict) (ex : figures x ≡ checked b) where
-    pub refused_circuit : (r : Refusal) → x ≡ Refused r → Outcome b count words before x before
+  pub refused_circuit : (x : Verdict) (r : Refusal) → IsErrAnd x (λ y. y ≡ r) → refusal_figures r ≡ checked b → Outcome b count words before (figures x) before
+  unfolding simulated
+  refused_circuit x r i e = refused x r i (rw (← e, refusal_number r))
+
+  module _ (p : ℕ) (ep : answer 0 p ≡ checked b) (h : Head) (H : HeadOf b h) where
+    goes_on : (f : Figures) → f ≡ sequences_checked h.inputs h.frames count words (length before) → f ≡ simulated b count words (length before)
     unfolding simulated
-    refused_circuit r q = refused x r q (stop x _ _ r ex q)
+    goes_on f e = go_on _ _ _ p ep (e ∙ ap₂ (λ (n t : ℕ). sequences_checked n t count words (length before)) H.inputs_is H.frames_is)
 
-    module _ (p : ℕ) (qx : x ≡ Accepted p) (h : Head) (H : HeadOf b h) (y : Verdict)
-        (ey : figures y ≡ sequences_checked h.inputs h.frames count words (length before)) where
-      of_b : figures y ≡ sequences_checked (inputs b) (frames b) count words (length before)
-      of_b = ey ∙ ap₂ (λ (n t : ℕ). sequences_checked n t count words (length before)) H.inputs_is H.frames_is
+    pub refused_sequences : (x : Verdict) (r : Refusal) → IsErrAnd x (λ y. y ≡ r) → refusal_figures r ≡ sequences_checked h.inputs h.frames count words (length before)
+        → Outcome b count words before (figures x) before
+    refused_sequences x r i e = refused x r i (goes_on _ e)
 
-      goes_on : figures y ≡ simulated b count words (length before)
-      unfolding simulated
-      goes_on = go_on x _ _ _ p ex qx of_b
+    module _ (q : ℕ) (eq : answer 0 q ≡ sequences_checked h.inputs h.frames count words (length before)) where
+      -- what is known of the sequences, and that there is room for their outputs
+      pub sequences_fed : SequencesFed (inputs b) (frames b) count words (length before) q
+      sequences_fed =
+          all_fed (inputs b) (frames b) count words (length before) q
+          (sym (eq ∙ ap₂ (λ (n t : ℕ). sequences_checked n t count words (length before)) H.inputs_is H.frames_is))
 
-      pub refused_sequences : (r : Refusal) → y ≡ Refused r → Outcome b count words before y before
-      refused_sequences r q = refused y r q goes_on
-
-      module _ (q : ℕ) (qy : y ≡ Accepted q) where
-        -- what is known of the sequences, and that there is room for their outputs
-        pub sequences_fed : SequencesFed (inputs b) (frames b) count words (length before) q
-        sequences_fed = all_fed (inputs b) (frames b) count words (length before) q (accepts y _ q of_b qy)
-
-        pub accepted_all : (after : List ℕ) → after ≡ all_output_words b count words ++ drop (count * frames b) before → Outcome b count words before y after
-        unfolding simulation_result
-        accepted_all after e = (
-          goes_on,
-          (
-            left (simulated b count words (length before)) q (all_output_words b count words) before after (sym (ap figures qy) ∙ goes_on)
-                (e ∙ ap (λ (t : ℕ). all_output_words b count words ++ drop t before) (sym sequences_fed.place_is)),
-            each_alone b,
-          ),
-        )
+      pub accepted_all : (after : List ℕ) → after ≡ all_output_words b count words ++ drop (count * frames b) before → Outcome b count words before (answer 0 q) after
+      unfolding simulation_result
+      accepted_all after e = (
+        goes_on _ eq,
+        (
+          left (simulated b count words (length before)) q (all_output_words b count words) before after (goes_on _ eq)
+              (e ∙ ap (λ (t : ℕ). all_output_words b count words ++ drop t before) (sym sequences_fed.place_is)),
+          each_alone b,
+        ),
+      )

@@ -38,7 +38,7 @@ fn check_sequences(
     ensures { figures result ≡ sequences_checked inputs frames count words.now room }
 {
     if Limits::SEQUENCES < count {
-        return Verdict::Refused(Refusal::Sequences(count));
+        return Err(Refusal::Sequences(count));
     }
     check_sequence(words, inputs, count * frames, room)
 }
@@ -50,15 +50,14 @@ fn sequence_number(words: &[u16], inputs: usize) -> u16
     ensures { result ≡ history_number (2 ^ inputs) 0 words.now }
 {
     let base = power(inputs);
-    let frames = words.len();
     let mut number = 0;
-    for t in 0..frames {
-        number = number * base + words[t] as usize;
+    for word in words {
+        number = number * base + *word as usize;
     }
     number as u16
 }
 
-// The numbers of `count` sequences that stand one behind the other.
+// The numbers of `count` sequences that stand one behind the other. Not `chunks`: no clause here rules out 0 frames.
 fn sequence_numbers(
     words: &[u16],
     inputs: usize,
@@ -70,11 +69,8 @@ fn sequence_numbers(
     ensures { (k : ℕ) → k < count → get_or result k 0 ≡ history_number (2 ^ inputs) 0 (sequence_at frames words.now k) }
 {
     let mut numbers = [0; Limits::SEQUENCES];
-    let mut at = 0;
     for k in 0..count {
-        let end = at + frames;
-        numbers[k] = sequence_number(&words[at..end], inputs);
-        at = end;
+        numbers[k] = sequence_number(&words[k * frames..k * frames + frames], inputs);
     }
     numbers
 }
@@ -108,15 +104,9 @@ pub fn simulate(circuit: &[u8], count: usize, words: &[u16], res: &mut [u16]) ->
     ensures res { res.new ≡ simulation_result circuit.now count words.now res.old }
     ensures alone { EachAlone circuit.now }
 {
-    let judged = check(circuit);
-    let Verdict::Accepted(_) = judged else {
-        return judged;
-    };
+    check(circuit)?;
     let head = Head::read(circuit);
-    let fed = check_sequences(words, head.inputs, head.frames, count, res.len());
-    let Verdict::Accepted(_) = fed else {
-        return fed;
-    };
+    let written = check_sequences(words, head.inputs, head.frames, count, res.len())?;
     write_outputs(circuit, head, count, words, res);
-    fed
+    Ok(written)
 }

@@ -53,18 +53,18 @@ impl Sizes {
         ensures { figures result ≡ sizes_checked most self.inputs self.outputs self.frames }
     {
         if is_outside(1, most, self.inputs) {
-            return Verdict::Refused(Refusal::Size(0));
+            return Err(Refusal::Size(0));
         }
         if is_outside(1, Limits::OUTPUTS, self.outputs) {
-            return Verdict::Refused(Refusal::Size(2));
+            return Err(Refusal::Size(2));
         }
         if is_outside(1, Limits::FRAMES, self.frames) {
-            return Verdict::Refused(Refusal::Size(4));
+            return Err(Refusal::Size(4));
         }
         if Limits::BITS < self.inputs * self.frames {
-            return Verdict::Refused(Refusal::Size(4));
+            return Err(Refusal::Size(4));
         }
-        Verdict::Accepted(0)
+        Ok(0)
     }
 }
 
@@ -89,23 +89,26 @@ fn check_words(words: &[u16], inputs: usize) -> Verdict
     ensures { figures result ≡ words_checked inputs words.now }
 {
     let limit = power(inputs);
-    let mut t = 0;
-    while t < words.len() {
-        if limit <= words[t] as usize {
-            return Verdict::Refused(Refusal::Word(t));
+    for (t, word) in words.iter().enumerate() {
+        if limit <= *word as usize {
+            return Err(Refusal::Word(t));
         }
-        t += 1;
     }
-    Verdict::Accepted(0)
+    Ok(0)
 }
 
 // Numbers 12, 9 and 7, of a list that is to have as many words as there are frames, and a result with room for so many words.
+#[tactic(auto, unfolding(crate::specs::Sizes::sequence_checked))]
 pub fn check_sequence(words: &[u16], inputs: usize, frames: usize, room: usize) -> Verdict
     requires { inputs ≤ most_bits }
     ensures { figures result ≡ sequence_checked inputs frames words.now room }
 {
-    let counted = Verdict::refuse_if(words.len() != frames, Refusal::Count(words.len()), 0);
-    let small = check_words(words, inputs);
-    let roomy = Verdict::refuse_if(room < frames, Refusal::Room(frames), frames);
-    counted.and_then(small.and_then(roomy))
+    if words.len() != frames {
+        return Err(Refusal::Count(words.len()));
+    }
+    check_words(words, inputs)?;
+    if room < frames {
+        return Err(Refusal::Room(frames));
+    }
+    Ok(frames)
 }

@@ -54,10 +54,6 @@ module _ (c : List ℕ) (s : Source) (P : Spreads c s) where
   right_before : (g : ℕ) → g < gates c → renamed (all_inputs c) s.places all (operand c (rights_at c) g) / 2 < 1 + all + g
   right_before g h = rw (renamed_signal (all_inputs c) s.places all (operand c (rights_at c) g)) (standing_before (all_inputs c) s.places all g _ P.places_in (operand_before c (rights_at c) g _ (P.network.legal.right g h) refl))
 
-  pub item_most : (q : ℕ) → item_at (all_outputs c) s.shown q ≤ all_outputs c
-  unfolding item_at
-  item_most q = least_le (all_outputs c) _
-
   -- a connected place shows an output
   connects_item : (q : ℕ) → conn q ≡ true → item_at (all_outputs c) s.shown q < all_outputs c
   unfolding connects_at

@@ -102,10 +102,6 @@ module _ (c : List ℕ) (s : Source) where
   pub few_items : SourceOf c s → s.whole ≡ false → s.own.total ≤ 16
   few_items S e = let P = is_spread S e in omega (arith, P.few_outputs, P.network.head_is.total_is)
 
-  pub item_most : s.whole ≡ false → (q : ℕ) → item_in s q ≤ s.own.total
-  unfolding item_in item_at
-  item_most e q = rw e (least_le s.own.total _)
-
   module _ (q k : ℕ) (h : q < s.total) (e : k ≡ item_in s q) where
     -- none stands there
     pub none_there : SourceOf c s → s.own.total ≤ k → false ≡ not (unconnected (sourced s c) (gate_of_output (sourced s c) q))

@@ -1,13 +1,17 @@
 -- Where signals stand and what is shown, case by case. Assumes nothing.
-use mathlib.Core.Path.{◌≡◌, refl, sym}
+use mathlib.Core.Path.{◌≡◌, refl, sym, ap, ◌∙◌}
 use mathlib.Core.Bool.{Bool, true, false}
 use mathlib.Core.List.{List}
 use Prim.Native.Nat.{ℕ, ◌+◌, ◌-◌, ◌/◌, ◌%◌, ◌≤◌, ◌<◌}
 use native.Mathlib.Omega.{arith}
 use lib.Dec.{ltb, eqb}
-use lib.ListN.{get_or}
+use lib.ListN.{length, get_or, take, length-take}
+use Rattle.std.proofs.lemmas.List.{get_or-take}
 use borrow.Author.Tests.{lt-ltb, le-ltb, ltb-true, ltb-false, ne_eqb, eqb-true, eqb-false}
-use Rattle.layered.proofs.Search.{least_is}
+use Rattle.layered.proofs.Search.{least_cong}
+use Rattle.std.specs.List.{position}
+use Rattle.circuit.specs.Found.{found}
+use Rattle.circuit.proofs.Found.{position_found}
 use Rattle.source.specs.Rearranged.{standing, renamed, item_at}
 use Rattle.source.specs.Source.{item_in, shown_signal}
 use Rattle.source.specs.declared.Source.{Source}
@@ -69,13 +73,12 @@ module _ (s : Source) (q : ℕ) where
   item_whole e = rw e
 
   module _ (e : s.whole ≡ false) where
-    pub item_found : (k : ℕ) → k < s.own.total → ((i : ℕ) → i < k → eqb (get_or s.shown i 0) q ≡ false) → eqb (get_or s.shown k 0) q ≡ true → k ≡ item_in s q
+    pub item_position : s.own.total ≤ length s.shown → position (λ x. eqb x q) (take s.own.total s.shown) ≡ found s.own.total (item_in s q)
     unfolding item_in item_at
-    item_found k h N f = rw e (sym (least_is s.own.total k (λ k. eqb (get_or s.shown k 0) q) (omega arith) N (λ _. f)))
-
-    pub item_none : ((i : ℕ) → i < s.own.total → eqb (get_or s.shown i 0) q ≡ false) → s.own.total ≡ item_in s q
-    unfolding item_in item_at
-    item_none N = rw e (sym (least_is s.own.total s.own.total (λ k. eqb (get_or s.shown k 0) q) (omega arith) N (λ h. absurd (omega arith))))
+    item_position h =
+        let l : length (take s.own.total s.shown) ≡ s.own.total = length-take s.own.total s.shown ∙ omega arith in
+        position_found (λ x. eqb x q) 0 (take s.own.total s.shown)
+        ∙ rw (l, e) (ap (found s.own.total) (least_cong s.own.total _ _ (λ k m. ap (λ x. eqb x q) (get_or-take s.own.total s.shown k 0 m))))
 
 -- ---- the signal that is shown
 

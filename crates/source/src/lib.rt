@@ -4,6 +4,7 @@
 
 ghost use Rattle.std.specs.Prelude.{◌≡◌, false, not, ◌+◌, ◌-◌, ◌/◌, ◌≤◌, ◌<◌};
 ghost use Rattle.sizes.specs.Limits.{most_outputs};
+ghost use Rattle.circuit.specs.Found.{found};
 ghost use Rattle.circuit.specs.Limits.{most_signals};
 ghost use Rattle.circuit.specs.Circuit.{gates, gate_of_output, unconnected, connected_outputs};
 ghost use Rattle.circuit.specs.WellFormed.{CircuitHeaded, GateOf};
@@ -50,21 +51,18 @@ impl Source {
     }
 }
 
-// Which output of the circuit or network stands at place q; as many as it has where none does.
-fn item_at(source: Source, q: usize) -> usize
+// Which output of the circuit or network stands at place q.
+fn item_at(source: Source, q: usize) -> Option<usize>
     requires { source.whole ≡ false → source.own.total ≤ most_outputs }
-    ensures { result ≡ item_in source q }
+    ensures { result ≡ found source.own.total (item_in source q) }
 {
-    if source.whole {
-        return q;
-    }
     let count = source.own.total;
-    for k in 0..count {
-        if source.shown[k] as usize == q {
-            return k;
-        }
+    if source.whole {
+        return (q < count).then_some(q);
     }
-    count
+    source.shown[..count]
+        .iter()
+        .position(|place| *place as usize == q)
 }
 
 // The signal of the circuit or network that place q of an output shows; the constant where it shows none.
@@ -73,11 +71,10 @@ pub fn shown_signal(source: Source, q: usize) -> usize
     ensures { (result ≡ shown_signal source q) × (result < most_signals) }
 {
     let own = source.own;
-    let k = item_at(source, q);
-    if own.total <= k {
-        return 0;
+    match item_at(source, q) {
+        Some(k) => own.base + (own.gates - own.total) + k,
+        None => 0,
     }
-    own.base + (own.gates - own.total) + k
 }
 
 // Whether the output at place q is connected.
@@ -86,10 +83,9 @@ fn is_connected(circuit: &[u8], source: Source, q: usize) -> bool
     ensures { result ≡ not (unconnected (sourced source circuit.now) (gate_of_output (sourced source circuit.now) q)) }
 {
     let own = source.own;
-    let k = item_at(source, q);
-    if own.total <= k {
+    let Some(k) = item_at(source, q) else {
         return false;
-    }
+    };
     !is_unconnected(circuit, own, own.gates - own.total + k)
 }
 
@@ -122,14 +118,13 @@ fn shown_gate(circuit: &[u8], source: Source, q: usize) -> Gate
     ensures { GateOf (sourced source circuit.now) (gates circuit.now + q) result }
 {
     let own = source.own;
-    if is_connected(circuit, source, q) {
-        let shown = own.gates - own.total + item_at(source, q);
-        return Gate {
-            left: 2 * (source.base + shown),
+    match item_at(source, q) {
+        Some(k) if is_connected(circuit, source, q) => Gate {
+            left: 2 * (source.base + (own.gates - own.total + k)),
             right: 1,
-        };
+        },
+        _ => Gate { left: 0, right: 0 },
     }
-    Gate { left: 0, right: 0 }
 }
 
 // The operands of gate g of what is folded: one of the circuit or network, or one that shows its output at a place. This is asked for each gate, and a source is
@@ -158,14 +153,10 @@ pub fn connected_outputs(circuit: &[u8], source: Source, t: usize) -> usize
     requires { SourceOf circuit.now source × (t < source.frames) }
     ensures { (result ≡ connected_outputs (sourced source circuit.now) t) × (result < 65536) }
 {
+    let first = source.outputs * t;
     let mut word = 0;
-    let end = source.outputs * (t + 1);
-    let count = source.outputs;
-    for j in 0..count {
-        word *= 2;
-        if is_connected(circuit, source, end - 1 - j) {
-            word += 1;
-        }
+    for j in (0..source.outputs).rev() {
+        word = 2 * word + is_connected(circuit, source, first + j) as usize;
     }
     word
 }

@@ -6,9 +6,7 @@ ghost use Rattle.verdict.specs.Judgements.{figures};
 ghost use Rattle.spreading.specs.Spread.{spread_checked, spread_result, spread_scratch, spread_nodes};
 ghost use Rattle.spreading.specs.Theorems.{Spread, AsFolding, OwnGates};
 
-use admit::wanted::Wanted;
 use fold::fold_judged;
-use lent::accepts;
 use nodes::Node;
 use schedule::{given, judge_spread, spread_source};
 use verdict::Verdict;
@@ -35,10 +33,7 @@ pub fn spread(
     ensures gates { OwnGates }
 {
     let sizes = given(inputs, outputs, frames);
-    let judged = judge_spread(network, sizes, places, shown, scratch);
-    if !accepts(judged) {
-        return judged;
-    }
+    judge_spread(network, sizes, places, shown, scratch)?;
     let source = spread_source(network, sizes, places, shown);
-    fold_judged(network, Wanted::any(), scratch, nodes, res, source)
+    fold_judged(network, None, scratch, nodes, res, source)
 }

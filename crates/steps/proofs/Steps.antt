@@ -6,11 +6,11 @@ use native.Mathlib.Nat.{zero-add}
 use native.Mathlib.Omega.{arith}
 use lib.ListN.{length}
 use borrow.Author.Tests.{le-ltb, lt-leb, ne_eqb}
-use Rattle.verdict.specs.Judgements.{answer, refusal_figures, figures, and_then}
+use Rattle.verdict.specs.Judgements.{Verdict, answer, refusal_figures, figures, and_then}
 use Rattle.verdict.specs.declared.Figures.{Figures}
 use Rattle.verdict.specs.declared.Refusal.{Refusal}
-use Rattle.verdict.specs.declared.Verdict.{Verdict}
-use Rattle.verdict.specs.declared.Verdict.TheVariants.{Accepted, Refused}
+use Rattle.std.specs.Prelude.{Result, Ok, Err, IsErrAnd}
+use Rattle.std.proofs.lemmas.Result.{err_from_is_err_and}
 use Rattle.verdict.proofs.Laws.{never, refusal_number, stop, go_on}
 use Rattle.sizes.specs.Sizes.{inputs, frames}
 use Rattle.layered.specs.States.{Words, none, more}
@@ -19,8 +19,7 @@ use Rattle.table.specs.Table.{states, machine, bad_next, checked}
 use Rattle.positions.specs.Positions.{place_checked, position_checked}
 use Rattle.positions.specs.declared.Position.{Position}
 use Rattle.steps.specs.Steps.{entry_checked, move_checked, step_checked, moved, handed_back, step_after, stepped, step_figures}
-use Rattle.steps.specs.declared.Stepped.{Stepped}
-use Rattle.steps.specs.declared.Stepped.TheVariants.{Moved, Refused as Stopped}
+use Rattle.steps.specs.declared.Moved.{Moved}
 use Rattle.steps.specs.declared.StepFigures.{StepFigures}
 use Rattle.layered.specs.Machines.{reached}
 use Rattle.steps.specs.Theorems.{steps_by, outputs_of, StepReaches, StepsFeed}
@@ -80,28 +79,21 @@ steps_feed b p e words r = walks b p e 0 0 (sound b p e).legal.start_is (omega a
 
 -- ---- what a step's answer tells
 
--- an answer by the stages of its judgement
-module _ (b : List ℕ) (t s w : ℕ) where
-  -- one that refuses hands back the position that was given
-  hands_back : (x : Verdict) (f : Figures) (r : Refusal) → figures x ≡ f → x ≡ Refused r → handed_back (refusal_figures r) t s ≡ step_after f b t s w
-  hands_back x f r e q = rw (← e, q, refusal_number r)
+-- an answer by the stages of its judgement, of a step from a position
+module _ (b : List ℕ) (from : Position) (w : ℕ) where
+  -- a stage that refuses, whatever comes after it: the position that was given is handed back
+  pub hands_back : (r : Refusal) (f g : Figures) → refusal_figures r ≡ f → step_figures from (Err r) ≡ step_after (and_then f g) b from.layer from.state w
+  hands_back r f g e = rw (← e, refusal_number r, refusal_number r)
 
-  -- a stage that refuses, whatever comes after it
-  pub stops : (x : Verdict) (f g : Figures) (r : Refusal) → figures x ≡ f → x ≡ Refused r → handed_back (refusal_figures r) t s ≡ step_after (and_then f g) b t s w
-  stops x f g r e q = hands_back x (and_then f g) r (stop x f g r e q) q
+  pub stops : (x : Result Moved Refusal) (r : Refusal) (f g : Figures) → IsErrAnd x (λ y. y ≡ r) → refusal_figures r ≡ f
+      → step_figures from x ≡ step_after (and_then f g) b from.layer from.state w
+  stops x r f g h e = let p = err_from_is_err_and x h in ap (step_figures from) (p.1 ∙ ap Err p.2) ∙ hands_back r f g e
 
   -- after a stage that accepts, what comes after it answers
-  pub goes_on : (x : Verdict) (f g : Figures) (p : ℕ) → figures x ≡ f → x ≡ Accepted p → (y : StepFigures) → y ≡ step_after g b t s w → y ≡ step_after (and_then f g) b t s w
-  goes_on x f g p e q y h = h ∙ ap (λ (k : Figures). step_after k b t s w) (go_on x f g g p e q refl)
+  pub goes_on : (f g : Figures) (p : ℕ) (y : StepFigures) → answer 0 p ≡ f → y ≡ step_after g b from.layer from.state w
+      → y ≡ step_after (and_then f g) b from.layer from.state w
+  goes_on f g p y e h = rw (← e) h
 
--- the answer x of a step that is accepted: the output and the position moved to, and no refusal
-module _ (b : List ℕ) (t s w : ℕ) (x : Stepped) (e : step_figures x ≡ moved b t s w) where
-  pub moved_is : (o : ℕ) (q : Position) → x ≡ Moved o q → (o ≡ (machine b).out t s w) × (q.layer ≡ suc t) × (q.state ≡ (machine b).next t s w)
-  moved_is o q h =
-      let d = sym (ap step_figures h) ∙ e in
-      (ap (λ (f : StepFigures). f.output) d, ap (λ (f : StepFigures). f.layer) d, ap (λ (f : StepFigures). f.state) d)
-
-  pub not_refused : (r : Refusal) (q : Position) → x ≡ Stopped r q → ⊥
-  not_refused r q h =
-      let d = sym (ap step_figures h) ∙ e in
-      never r 0 (ap (λ (f : StepFigures). answer f.number f.place) d)
+-- the answer x of a step that is accepted is no refusal
+pub not_refused : (b : List ℕ) (t s w : ℕ) (from : Position) (r : Refusal) → step_figures from (Err r) ≡ moved b t s w → ⊥
+not_refused b t s w from r e = never r 0 (ap (λ (f : StepFigures). answer f.number f.place) e)

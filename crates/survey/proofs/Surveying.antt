@@ -1,10 +1,14 @@
 -- A survey's stages, on lists: what each may be asked, and what follows from what it says. Assumes nothing.
 use mathlib.Core.Path.{◌≡◌, refl, sym, ap, ap₂, ◌∙◌, subst}
 use mathlib.Core.List.{List}
-use Prim.Native.Nat.{ℕ, suc, ◌+◌, ◌*◌, ◌-◌, ◌^◌, ◌≤◌, ◌<◌, min}
+use Prim.Native.Nat.{ℕ, ◌+◌, ◌*◌, ◌-◌, ◌^◌, ◌≤◌}
 use native.Mathlib.Omega.{arith}
+use Rattle.std.specs.Prelude.{Ok, Err}
+use Rattle.std.specs.Result.{IsErrAnd}
+use Rattle.std.proofs.lemmas.Result.{err_from_is_err_and}
+use Rattle.verdict.specs.declared.Refusal.{Refusal}
+use Rattle.verdict.specs.declared.Refusal.TheVariants.{Nodes}
 use lib.ListN.{length, replicate}
-use Rattle.layered.proofs.Search.{least_le}
 use Rattle.sizes.specs.Sizes.{inputs, outputs, frames}
 use Rattle.circuit.specs.Circuit.{gates, all_inputs}
 use Rattle.circuit.specs.WellFormed.{CircuitHeaded, HeadOf, WellFormed, Formed}
@@ -21,18 +25,15 @@ use Rattle.build.proofs.Turn.{same_built}
 use Rattle.explore.specs.Explore.{Explored, CountsTo, Explorable, Ended, Ends}
 use Rattle.explore.specs.declared.Layout.{Layout}
 use Rattle.explore.specs.declared.Cursor.{Cursor}
-use Rattle.survey.specs.Survey.{most_records, ShapeOf, LayoutOf, subject_of, Surveyable, Known, Surveyed}
-use Rattle.survey.specs.declared.Survey.{Survey}
+use Rattle.survey.specs.Survey.{Survey, ShapeOf, LayoutOf, subject_of, Surveyable, Known, Surveyed}
 use Rattle.survey.proofs.Subject.{bits, frames_are, outputs_are, laid, startable, standing}
 
 -- what holds of four numbers holds of their equals
 moved : (P : ℕ → ℕ → ℕ → ℕ → Type 0) (n m T k n' m' T' k' : ℕ) → n ≡ n' → m ≡ m' → T ≡ T' → k ≡ k' → P n m T k → P n' m' T' k'
 moved P n m T k n' m' T' k' e f g h p = subst (λ x. P x m' T' k') e (subst (λ x. P n x T' k') f (subst (λ x. P n m x k') g (subst (P n m T) h p)))
 
--- the place is no more than one more than there are gates
-place_most : (b : List ℕ) (R : ℕ) → first_over (all_inputs b) R (gates b) (signal_on b) ≤ suc (gates b)
-unfolding first_over
-place_most b R = least_le (suc (gates b)) _
+same_error : {f g : Refusal} → ◌≡◌ {A = Survey} (Err f) (Err g) → f ≡ g
+same_error e = cc
 
 module _ (b s ws : List ℕ) (P : Surveyable b s ws) where
   formed : Formed b
@@ -67,21 +68,21 @@ module _ (b s ws : List ℕ) (P : Surveyable b s ws) where
         space = omega (arith, P.space);
       }
 
-      module _ (zs : List Node) (us : List ℕ) (r : ℕ) (B : Building b m.room zs us r) where
-        place_of : (a : Survey) → a.place ≡ r → a.place ≡ first_over (all_inputs b) (min k most_records) (gates b) (signal_on b)
-        place_of a e = e ∙ B.place ∙ ap (λ R. first_over (all_inputs b) R (gates b) (signal_on b)) S.room_is
-
+      module _ (zs : List Node) (us : List ℕ) where
         -- the records are too few: nothing is explored
-        pub refused : r ≤ h.gates → (a : Survey) → a.place ≡ r → Surveyed b k zs s s us a
-        refused l a e = record { place_is = place_of a e; known = λ q. absurd (omega (arith, l, e, q, O.gates_is)); beyond = λ j _. refl }
+        pub refused : (f : Refusal) → Building b m.room zs us (Err f) → (a : Survey) → IsErrAnd a (λ y. y ≡ f) → Surveyed b k zs s s us a
+        refused f B a is =
+            let e = err_from_is_err_and a is in
+            let few = subst (λ R. (f ≡ Nodes (first_over (all_inputs b) R (gates b) (signal_on b))) × (first_over (all_inputs b) R (gates b) (signal_on b) ≤ gates b)) S.room_is (B.short f refl) in
+            record { short = λ g q. (same_error (sym q ∙ e.1) ∙ e.2 ∙ few.0, few.1); whole = λ cs q. absurd (apart (sym q ∙ e.1)); beyond = λ j _. refl }
+          where
+            apart : {cs : List ℕ} {g : Refusal} → ◌≡◌ {A = Survey} (Ok cs) (Err g) → ⊥
+            apart e = cc
 
         -- they are enough
-        module _ (l : h.gates < r) where
-          all : r ≡ gates b + 1
-          all = omega (arith, l, O.gates_is, B.place, place_most b m.room)
-
+        module _ (u : Unit {0}) (B : Building b m.room zs us (Ok u)) where
           signals : Signals b m.room (all_inputs b + gates b) zs us
-          signals = B.signals all
+          signals = (B.whole u refl).1
 
           module _ (y : Layout) (L : LayoutOf h y) (long : length us ≡ length ws) where
             half_is : y.half ≡ (2 ^ inputs b) ^ frames b
@@ -112,9 +113,12 @@ module _ (b s ws : List ℕ) (P : Surveyable b s ws) where
                 counted = subst (λ cs. CountsTo (inputs b) (outputs b) (frames b) (response b) cs (frames b - 1)) (sym e) (in_b (λ n o T k. CountsTo n o T (response b) c.counts (T - 1)) ended.counted);
               }
 
-              pub surveyed : (a : Survey) → (a.place ≡ r) × (a.counts ≡ c.counts) → Surveyed b k zs s t vs a
-              surveyed a e = record {
-                place_is = place_of a e.0;
-                known = λ _. subst (λ R. Known b R zs t vs a.counts) S.room_is (known a.counts e.1);
+              pub surveyed : Surveyed b k zs s t vs (Ok c.counts)
+              surveyed = record {
+                short = λ f q. cc;
+                whole = λ cs q. (subst (λ R. first_over (all_inputs b) R (gates b) (signal_on b) ≡ gates b + 1) S.room_is (B.whole u refl).0, subst (λ R. Known b R zs t vs cs) S.room_is (known cs (same_counts (sym q))));
                 beyond = λ j l. ended.beyond j (omega (arith, l, half_is));
               }
+                where
+                  same_counts : {x y : List ℕ} → ◌≡◌ {A = Survey} (Ok x) (Ok y) → x ≡ y
+                  same_counts e = cc

@@ -1,5 +1,7 @@
 -- What a survey of a circuit works with.
-use Rattle.std.specs.Prelude.{◌≡◌, List, ℕ, ◌+◌, ◌*◌, ◌-◌, ◌^◌, ◌≤◌, ◌<◌, min, length, get_or}
+use Rattle.std.specs.Prelude.{◌≡◌, List, ℕ, ◌+◌, ◌*◌, ◌-◌, ◌^◌, ◌≤◌, ◌<◌, min, length, get_or, Result, Ok, Err}
+use Rattle.verdict.specs.declared.Refusal.{Refusal}
+use Rattle.verdict.specs.declared.Refusal.TheVariants.{Nodes}
 use Rattle.circuit.specs.Limits.{most_signals}
 use Rattle.sizes.specs.Sizes.{inputs, outputs, frames}
 use Rattle.circuit.specs.Circuit.{gates, all_inputs, output_signal}
@@ -14,7 +16,10 @@ use Rattle.records.specs.Records.{nodes_in}
 use Rattle.conjoin.specs.declared.Shape.{Shape}
 use Rattle.explore.specs.Explore.{column_count, Explored, CountsTo, Subject}
 use Rattle.explore.specs.declared.Layout.{Layout}
-use Rattle.survey.specs.declared.Survey.{Survey}
+
+-- what a survey finds: the counts of all layers, or 18
+abbrev pub Survey : Type 0
+Survey = Result (List ℕ) Refusal
 
 -- how many numbers its work takes, and how many records any circuit can need. In src/ they are the associated constants of `Bounds`.
 abbrev pub work_length : ℕ
@@ -22,6 +27,10 @@ work_length = most_signals + column_count
 
 abbrev pub most_records : ℕ
 most_records = 536870912
+
+-- the first gate for whose nodes so many records are too few; one more than there are gates where they are enough
+abbrev pub first_short : (b : List ℕ) (records : ℕ) → ℕ
+first_short b records = first_over (all_inputs b) (min records most_records) (gates b) (signal_on b)
 
 -- the shape of its diagrams, with so many records lent
 pub record ShapeOf (h : Head) (records : ℕ) (s : Shape) : Type 0 where
@@ -61,6 +70,6 @@ pub record Known (b : List ℕ) (R : ℕ) (ns : List Node) (s ws : List ℕ) (co
 
 -- what it answers and leaves of the scratch s, which becomes r
 pub record Surveyed (b : List ℕ) (records : ℕ) (ns : List Node) (s r ws : List ℕ) (a : Survey) : Type 0 where
-  pub place_is : a.place ≡ first_over (all_inputs b) (min records most_records) (gates b) (signal_on b)
-  pub known : a.place ≡ gates b + 1 → Known b (min records most_records) ns r ws a.counts
+  pub short : (refusal : Refusal) → a ≡ Err refusal → (refusal ≡ Nodes (first_short b records)) × (first_short b records ≤ gates b)
+  pub whole : (counts : List ℕ) → a ≡ Ok counts → (first_short b records ≡ gates b + 1) × Known b (min records most_records) ns r ws counts
   pub beyond : (j : ℕ) → 2 * (2 ^ inputs b) ^ frames b ≤ j → get_or r j 0 ≡ get_or s j 0

@@ -1,19 +1,20 @@
 // Surveys the circuit that a source is: builds the diagrams of its signals, and explores its states.
 #![tactic(auto)]
 
-ghost use Rattle.std.specs.Prelude.{◌≡◌, ◌*◌, ◌≤◌, min, length, replicate};
+ghost use Rattle.std.specs.Prelude.{◌≡◌, ◌*◌, ◌≤◌, min, length};
 ghost use Rattle.circuit.specs.Limits.{most_wired};
 ghost use Rattle.source.specs.Source.{head_of, sourced, SourceOf};
-ghost use Rattle.survey.specs.Survey.{work_length, most_records, ShapeOf, LayoutOf, Surveyable, Surveyed};
+ghost use Rattle.survey.specs.Survey.{most_records, ShapeOf, LayoutOf, Surveyable, Surveyed};
 
 use build::build;
 use circuit::Limits as Circuit;
 use conjoin::Shape;
-use explore::{Cursor, Layout, Limits, explore};
+use explore::{Layout, Limits, explore};
 use nodes::Node;
 use records::clear;
 use sizes::power;
 use source::Source;
+use verdict::Refusal;
 
 // How many numbers the work of a survey takes: the ids of all signals, and room for those of candidates; and how many records any circuit can need.
 #[derive(Drop)]
@@ -25,29 +26,17 @@ impl Bounds {
     const RECORDS: usize = 536870912;
 }
 
-// What a survey finds: the number of the first gate for whose nodes the records are too few, or one more than there are gates; and then the counts of
-// all layers.
-#[derive(Clone, Copy)]
-pub struct Survey {
-    pub place: usize,
-    pub counts: [u16; Limits::LAYERS],
-}
+// How many states each layer has, 0 beyond the last.
+pub type Counts = [u16; Limits::LAYERS];
 
-// What a survey works in, before it begins.
-pub fn no_work() -> [u32; Bounds::WORK]
-    ensures { result ≡ replicate work_length 0 }
-{
-    [0; Bounds::WORK]
-}
+// What a survey finds: the counts of all layers, or 18.
+pub type Survey = Result<Counts, Refusal>;
 
 // As many of the records as any circuit can need.
 fn room_of(records: usize) -> u32
     ensures { result ≡ min records most_records }
 {
-    if records < Bounds::RECORDS {
-        return records as u32;
-    }
-    Bounds::RECORDS as u32
+    records.min(Bounds::RECORDS) as u32
 }
 
 // As many of the records as any circuit can need, the inputs of all frames, and the cache behind the ids of all signals.
@@ -78,24 +67,6 @@ pub fn layout_of(source: Source) -> Layout
     }
 }
 
-// What a survey found that ended at a place, with the counts of its exploration.
-fn found(place: usize, cursor: Cursor) -> Survey
-    ensures { (result.place ≡ place) × (result.counts ≡ cursor.counts) }
-{
-    let counts = cursor.counts;
-    Survey { place, counts }
-}
-
-// What it found where it explored nothing.
-fn none_found(place: usize) -> Survey
-    ensures { result.place ≡ place }
-{
-    Survey {
-        place,
-        counts: [0; Limits::LAYERS],
-    }
-}
-
 // Surveys a circuit, or a network by its source, that is accepted, with a clean scratch and a clean work: builds its diagrams in the list, whatever that holds, and explores its states.
 pub fn survey_circuit(
     circuit: &[u8],
@@ -109,10 +80,7 @@ pub fn survey_circuit(
 {
     clear(nodes);
     let shape = shape_of(source, nodes.len());
-    let place = build(circuit, source, nodes, work, shape);
-    if place <= source.gates {
-        return none_found(place);
-    }
+    build(circuit, source, nodes, work, shape)?;
     let cursor = explore(nodes, scratch, work, layout_of(source));
-    found(place, cursor)
+    Ok(cursor.counts)
 }

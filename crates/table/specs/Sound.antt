@@ -1,5 +1,5 @@
 -- What is known of accepted tables, and the layout as the code holds it.
-use Rattle.std.specs.Prelude.{ℕ, suc, ◌^◌, ◌≤◌, ◌<◌, ◌≡◌, Bool, false, cond, List, leb, length}
+use Rattle.std.specs.Prelude.{ℕ, suc, ◌^◌, ◌≤◌, ◌<◌, ◌≡◌, Bool, false, List, leb, length}
 use Rattle.sizes.specs.Sizes.{inputs, outputs, frames}
 use Rattle.sizes.specs.Sized.{Sized}
 use Rattle.sizes.specs.Limits.{most_inputs}
@@ -7,7 +7,10 @@ use Rattle.table.specs.Limits.{end_states, most_states}
 use Rattle.layered.specs.Machines.{Legal}
 use Rattle.table.specs.Table.{states, connected, strays, bad_output, bad_next, outputs_at, nexts_at, table_length, machine}
 use Rattle.table.specs.declared.Layout.{Layout}
+use Rattle.table.specs.declared.entries.Array.{Array}
+use Rattle.table.specs.declared.entries.Array.TheVariants.{Outputs, Nexts}
 use Rattle.table.specs.declared.entries.Bound.{Bound}
+use Rattle.table.specs.declared.entries.Bound.TheVariants.{Connected, Count}
 
 -- the head is accepted: sizes, counts and connected outputs are within the limits, and the length is exact
 pub record TableHeaded (b : List ℕ) : Type 0 where
@@ -25,20 +28,24 @@ pub record Sound (b : List ℕ) : Type 0 where
   pub legal : Legal (2 ^ inputs b) (outputs b) (frames b) (machine b)
   pub outputs_connected : (t s w : ℕ) → t < frames b → s < states b t → w < 2 ^ inputs b → bad_output b t ((machine b).out t s w) ≡ false
 
--- a word is bad by a bound, as the code holds it: a next state not below it, an output with a bit outside it
+-- a word is bad by a bound, as the code holds it: an output with a bit outside it, a next state not below it
 abbrev pub bad_by : Bound → (x : ℕ) → Bool
-bad_by bound x = cond bound.nexts (leb bound.by x) (strays bound.by x)
+bad_by (Connected c) x = strays c x
+bad_by (Count n) x = leb n x
 
 -- the bound of layer t's entries
-abbrev pub bound_of : List ℕ → (nexts : Bool) (t : ℕ) → Bound
-bound_of b nexts t = record { nexts = nexts; by = cond nexts (states b (suc t)) (connected b t) }
+abbrev pub bound_of : List ℕ → Array → (t : ℕ) → Bound
+bound_of b Outputs t = Connected (connected b t)
+bound_of b Nexts t = Count (states b (suc t))
 
--- one of the two arrays, next states or outputs: where it begins, and which entries of layer t are bad
-abbrev pub array_at : List ℕ → (nexts : Bool) → ℕ
-array_at b nexts = cond nexts (nexts_at b) (outputs_at b)
+-- one of the two arrays: where it begins, and which entries of layer t are bad
+abbrev pub array_at : List ℕ → Array → ℕ
+array_at b Outputs = outputs_at b
+array_at b Nexts = nexts_at b
 
-abbrev pub bad_entry : List ℕ → (nexts : Bool) (t x : ℕ) → Bool
-bad_entry b nexts t x = cond nexts (bad_next b t x) (bad_output b t x)
+abbrev pub bad_entry : List ℕ → Array → (t x : ℕ) → Bool
+bad_entry b Outputs t x = bad_output b t x
+bad_entry b Nexts t x = bad_next b t x
 
 -- the layout of b
 abbrev pub layout_of : List ℕ → Layout

@@ -17,37 +17,41 @@ pub fn is_stray(connected: usize, output: usize) -> bool
     output & connected != output
 }
 
-// What the entries of a layer are judged by: next states by the count of the next layer, outputs by the connected ones.
+// The two arrays.
 #[derive(Clone, Copy)]
-struct Bound {
-    nexts: bool,
-    by: usize,
+pub enum Array {
+    Outputs,
+    Nexts,
+}
+
+// What the entries of a layer are judged by: outputs by the connected ones, next states by the count of the next layer.
+#[derive(Clone, Copy)]
+enum Bound {
+    Connected(usize),
+    Count(usize),
 }
 
 impl Bound {
     // That of layer t.
-    fn of(table: &[u8], layout: Layout, nexts: bool, t: usize) -> Bound
+    fn of(table: &[u8], layout: Layout, array: Array, t: usize) -> Bound
         requires table_headed { TableHeaded table.now }
         requires layout_value { layout ≡ layout_of table.now }
         requires t_bound { t < frames table.now }
-        ensures { result ≡ bound_of table.now nexts t }
+        ensures { result ≡ bound_of table.now array t }
     {
-        let by = if nexts {
-            states_of(table, t + 1)
-        } else {
-            connected_of(table, layout.frames, t)
-        };
-        Bound { nexts, by }
+        match array {
+            Array::Outputs => Bound::Connected(connected_of(table, layout.frames, t)),
+            Array::Nexts => Bound::Count(states_of(table, t + 1)),
+        }
     }
 
     // Whether a word is bad by it.
     fn excludes(self, word: usize) -> bool
         ensures { result ≡ bad_by self word }
     {
-        if self.nexts {
-            self.by <= word
-        } else {
-            is_stray(self.by, word)
+        match self {
+            Bound::Connected(connected) => is_stray(connected, word),
+            Bound::Count(count) => count <= word,
         }
     }
 }
@@ -60,31 +64,31 @@ fn check_part(part: &[u8], bound: Bound, at: usize) -> Verdict
     let count = part.len() / 2;
     for i in 0..count {
         if bound.excludes(read(part, 2 * i)) {
-            return Verdict::Refused(Refusal::Entry(at + 2 * i));
+            return Err(Refusal::Entry(at + 2 * i));
         }
     }
-    Verdict::Accepted(0)
+    Ok(0)
 }
 
 // Number 5, of one of the two arrays: the entries of a layer are one part.
-pub fn check_array(table: &[u8], layout: Layout, nexts: bool) -> Verdict
+pub fn check_array(table: &[u8], layout: Layout, array: Array) -> Verdict
     requires table_headed { TableHeaded table.now }
     requires layout_value { layout ≡ layout_of table.now }
-    ensures { figures result ≡ array_checked table.now (array_at table.now nexts) (bad_entry table.now nexts) }
+    ensures { figures result ≡ array_checked table.now (array_at table.now array) (bad_entry table.now array) }
 {
     let last = layout.frames;
-    let mut start = if nexts { layout.nexts } else { layout.outputs };
+    let mut start = match array {
+        Array::Outputs => layout.outputs,
+        Array::Nexts => layout.nexts,
+    };
     for t in 0..last {
         let end = start + 2 * (states_of(table, t) * layout.words);
-        let judged = check_part(
+        check_part(
             &table[start..end],
-            Bound::of(table, layout, nexts, t),
+            Bound::of(table, layout, array, t),
             start,
-        );
-        let Verdict::Accepted(_) = judged else {
-            return judged;
-        };
+        )?;
         start = end;
     }
-    Verdict::Accepted(0)
+    Ok(0)
 }

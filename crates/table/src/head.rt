@@ -66,10 +66,10 @@ fn check_counts(table: &[u8], last: usize) -> Verdict
     let count = last + 1;
     for t in 0..count {
         if is_outside(1, most_states(t, last), states_of(table, t)) {
-            return Verdict::Refused(Refusal::Size(Limits::SIZES + 2 * t));
+            return Err(Refusal::Size(Limits::SIZES + 2 * t));
         }
     }
-    Verdict::Accepted(0)
+    Ok(0)
 }
 
 // Number 2, of the connected outputs.
@@ -83,10 +83,10 @@ fn check_connected(table: &[u8], sizes: Sizes) -> Verdict
     let limit = power(sizes.outputs);
     for t in 0..last {
         if limit <= connected_of(table, last, t) {
-            return Verdict::Refused(Refusal::Size(connected_at(last, t)));
+            return Err(Refusal::Size(connected_at(last, t)));
         }
     }
-    Verdict::Accepted(0)
+    Ok(0)
 }
 
 // How many states the layers below `layer` have.
@@ -111,35 +111,27 @@ pub fn entries_below(table: &[u8], words: usize, layer: usize) -> usize
 }
 
 // All that is judged before number 5: 1 (six bytes), 2 (n, m, T), 1 (head), 2 (counts), 2 (connected outputs), 1 (length).
+#[tactic(auto, unfolding(crate::specs::Table::head_checked))]
 pub fn check_head(table: &[u8]) -> Verdict
     ensures { figures result ≡ head_checked table.now }
 {
     let length = table.len();
     if length < Limits::SIZES {
-        return Verdict::Refused(Refusal::Length(length));
+        return Err(Refusal::Length(length));
     }
     let sizes = Sizes::read(table);
-    let sized = sizes.check(sizes::Limits::INPUTS);
-    let Verdict::Accepted(_) = sized else {
-        return sized;
-    };
+    sizes.check(sizes::Limits::INPUTS)?;
     let head = head_length(sizes.frames);
     if length < head {
-        return Verdict::Refused(Refusal::Length(length));
+        return Err(Refusal::Length(length));
     }
-    let counted = check_counts(table, sizes.frames);
-    let Verdict::Accepted(_) = counted else {
-        return counted;
-    };
-    let connected = check_connected(table, sizes);
-    let Verdict::Accepted(_) = connected else {
-        return connected;
-    };
+    check_counts(table, sizes.frames)?;
+    check_connected(table, sizes)?;
     let entries = entries_below(table, power(sizes.inputs), sizes.frames);
     if length != head + 4 * entries {
-        return Verdict::Refused(Refusal::Length(length));
+        return Err(Refusal::Length(length));
     }
-    Verdict::Accepted(0)
+    Ok(0)
 }
 
 impl Layout {

@@ -9,7 +9,7 @@ ghost use Rattle.verdict.specs.Judgements.{figures};
 ghost use Rattle.table.specs.Table.{checked};
 ghost use Rattle.table.specs.Theorems.{LegalTable};
 
-use entries::check_array;
+use entries::{Array, check_array};
 use head::check_head;
 use verdict::Verdict;
 
@@ -35,18 +35,13 @@ pub struct Layout {
 }
 
 // The verdict on a table.
+#[tactic(auto, using(crate::proofs::Accepted::legal_table))]
 pub fn check(table: &[u8]) -> Verdict
     ensures verdict { figures result ≡ checked table.now }
     ensures legal { LegalTable table.now }
 {
-    let head = check_head(table);
-    let Verdict::Accepted(_) = head else {
-        return head;
-    };
+    check_head(table)?;
     let layout = Layout::read(table);
-    let outputs = check_array(table, layout, false);
-    let Verdict::Accepted(_) = outputs else {
-        return outputs;
-    };
-    check_array(table, layout, true)
+    check_array(table, layout, Array::Outputs)?;
+    check_array(table, layout, Array::Nexts)
 }

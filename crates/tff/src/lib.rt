@@ -1,6 +1,6 @@
-// The C interface. Slices pass as pointer and length. `answer` receives document 01's number and place in its first two numbers, then the
+// The C interface: each call is written out, since C knows it by its name. Slices pass as pointer and length. `answer` receives document 01's number and place in its first two numbers, then the
 // further values named; the rest of it stays as before. Where `answer` is too short for that, nothing at all is changed.
-#![tactic(auto)]
+#![tactic(auto, unfolding(answers::specs::Answer::answer_after, answers::specs::Answer::lent_after))]
 
 ghost use Rattle.std.specs.Prelude.{◌≡◌, length};
 ghost use Rattle.circuit.specs.Circuit.{checked};
@@ -21,10 +21,16 @@ ghost use Rattle.merge.specs.Merge.{merge_checked, merge_result};
 ghost use Rattle.unfolded.specs.Unfolded.{unfold_checked, unfold_result};
 ghost use Rattle.answers.specs.Answer.{verdict_numbers, step_numbers, quiet_numbers, price_numbers, layer_numbers, answer_after, verdict_length, quiet_length, ask_length, lent_after};
 
-use answers::{Limits, put, put_ask, put_layer, put_price, put_quiet, put_step};
+use answers::{
+    Limits, ask_numbers, layer_numbers, price_numbers, put, quiet_numbers, step_numbers,
+    verdict_numbers,
+};
 use nodes::Node;
 use positions::Position;
+use price::PriceFigures;
+use steps::StepFigures;
 use verdict::Verdict;
+use view::layers::LayerFigures;
 
 #[unsafe(no_mangle)]
 pub extern "C" fn tff_check_circuit(circuit: &[u8], answer: &mut [u64])
@@ -34,7 +40,7 @@ pub extern "C" fn tff_check_circuit(circuit: &[u8], answer: &mut [u64])
         return;
     }
     let verdict: Verdict = causal::check(circuit);
-    put(verdict, answer);
+    put(&verdict_numbers(verdict), answer);
 }
 
 #[unsafe(no_mangle)]
@@ -52,7 +58,7 @@ pub extern "C" fn tff_simulate(
         return;
     }
     let verdict: Verdict = simulate::simulate(circuit, count, words, res);
-    put(verdict, answer);
+    put(&verdict_numbers(verdict), answer);
 }
 
 #[unsafe(no_mangle)]
@@ -63,7 +69,7 @@ pub extern "C" fn tff_check_table(table: &[u8], answer: &mut [u64])
         return;
     }
     let verdict: Verdict = table::check(table);
-    put(verdict, answer);
+    put(&verdict_numbers(verdict), answer);
 }
 
 #[unsafe(no_mangle)]
@@ -75,7 +81,7 @@ pub extern "C" fn tff_run(table: &[u8], words: &[u16], res: &mut [u16], answer: 
         return;
     }
     let verdict: Verdict = run::run(table, words, res);
-    put(verdict, answer);
+    put(&verdict_numbers(verdict), answer);
 }
 
 #[unsafe(no_mangle)]
@@ -93,7 +99,7 @@ pub extern "C" fn tff_view(
         return;
     }
     let verdict: Verdict = view::view(table, mask, words, res);
-    put(verdict, answer);
+    put(&verdict_numbers(verdict), answer);
 }
 
 #[unsafe(no_mangle)]
@@ -104,7 +110,7 @@ pub extern "C" fn tff_layer_outputs(table: &[u8], layer: u16, answer: &mut [u64]
         return;
     }
     let found = view::layers::locate(table, layer as usize);
-    put_layer(found.figures(), answer);
+    put(&layer_numbers(LayerFigures::from(found)), answer);
 }
 
 #[unsafe(no_mangle)]
@@ -119,7 +125,7 @@ pub extern "C" fn tff_step(table: &[u8], layer: u16, state: u16, word: u16, answ
         state: state as usize,
     };
     let step = steps::step(table, position, word);
-    put_step(step.figures(), answer);
+    put(&step_numbers(StepFigures::of(step, position)), answer);
 }
 
 #[unsafe(no_mangle)]
@@ -138,7 +144,7 @@ pub extern "C" fn tff_quiet_step(
         return;
     }
     let step = quiet::advance(table, windows, minute, position, word);
-    put_quiet(step, answer);
+    put(&quiet_numbers(StepFigures::of(step, *position)), answer);
 }
 
 #[unsafe(no_mangle)]
@@ -158,7 +164,7 @@ pub extern "C" fn tff_fold(
         return;
     }
     let verdict: Verdict = fold::fold(circuit, scratch, nodes, res);
-    put(verdict, answer);
+    put(&verdict_numbers(verdict), answer);
 }
 
 #[unsafe(no_mangle)]
@@ -176,7 +182,7 @@ pub extern "C" fn tff_ask(
         return;
     }
     let asked = ask::ask(circuit, scratch, nodes);
-    put_ask(asked, answer);
+    put(&ask_numbers(asked), answer);
 }
 
 #[unsafe(no_mangle)]
@@ -197,7 +203,7 @@ pub extern "C" fn tff_commit(
         return;
     }
     let verdict: Verdict = commit::commit_numbers(circuit, plan, scratch, nodes, res);
-    put(verdict, answer);
+    put(&verdict_numbers(verdict), answer);
 }
 
 #[unsafe(no_mangle)]
@@ -224,7 +230,7 @@ pub extern "C" fn tff_spread(
     let verdict: Verdict = spread::spread(
         network, inputs, outputs, frames, places, shown, scratch, nodes, res,
     );
-    put(verdict, answer);
+    put(&verdict_numbers(verdict), answer);
 }
 
 #[unsafe(no_mangle)]
@@ -235,7 +241,7 @@ pub extern "C" fn tff_price(table: &[u8], answer: &mut [u64])
         return;
     }
     let priced = price::price(table);
-    put_price(priced.figures(), answer);
+    put(&price_numbers(PriceFigures::from(priced)), answer);
 }
 
 #[unsafe(no_mangle)]
@@ -247,7 +253,7 @@ pub extern "C" fn tff_reach(table: &[u8], res: &mut [u8], answer: &mut [u64])
         return;
     }
     let verdict: Verdict = reach::reach(table, res);
-    put(verdict, answer);
+    put(&verdict_numbers(verdict), answer);
 }
 
 #[unsafe(no_mangle)]
@@ -272,7 +278,7 @@ pub extern "C" fn tff_distinguish(
         second as usize,
         res,
     );
-    put(verdict, answer);
+    put(&verdict_numbers(verdict), answer);
 }
 
 #[unsafe(no_mangle)]
@@ -284,7 +290,7 @@ pub extern "C" fn tff_merge(table: &[u8], res: &mut [u8], answer: &mut [u64])
         return;
     }
     let verdict: Verdict = merge::merge(table, res);
-    put(verdict, answer);
+    put(&verdict_numbers(verdict), answer);
 }
 
 #[unsafe(no_mangle)]
@@ -296,5 +302,5 @@ pub extern "C" fn tff_unfold(table: &[u8], res: &mut [u8], answer: &mut [u64])
         return;
     }
     let verdict: Verdict = unfold::unfold(table, res);
-    put(verdict, answer);
+    put(&verdict_numbers(verdict), answer);
 }

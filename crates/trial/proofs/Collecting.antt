@@ -23,7 +23,9 @@ use Rattle.merged.proofs.Histories.{word_below, before_below, within_longer}
 use Rattle.trial.specs.Tried.{target_of, Held, Candidate, Comes}
 use Rattle.trial.specs.Collected.{Half, Halves, Collected, Walked, Judged, fits}
 use Rattle.trial.specs.Collected as told
+use Rattle.std.specs.Prelude.{Option, None, Some, Ok}
 use Rattle.trial.specs.declared.Sought.{Sought}
+use Rattle.trial.specs.declared.Spot.{Spot}
 use Rattle.trial.specs.declared.Visit.{Visit}
 use Rattle.trial.proofs.Bits.{ones_mask, zeros_mask, bit_or_lem, or_one, or_left, or_right, and_both, some_bit}
 use Rattle.trial.proofs.Places.{few_bits, few_outputs, few_entries, masks, entry_in}
@@ -207,21 +209,21 @@ module _ (a : Sought) (bytes starts chosen : List ℕ) (H : Held bytes starts a)
 -- ---- answers
 
 module _ (B : Target) (next : ℕ → ℕ) (L : ℕ) where
-  pub clashed : (ones zeros : List ℕ) (t count r : ℕ) → Collected B next L ones zeros t count r → r < count → Contradicted B next L
-  clashed ones zeros t count r (told.Collected.all e H) l = absurd (omega arith)
-  clashed ones zeros t count r (told.Collected.clash l C) _ = C
+  pub clashed : (ones zeros : List ℕ) (t : ℕ) (r : Option ℕ) → Collected B next L ones zeros t r → (h : ℕ) → r ≡ Some h → Contradicted B next L
+  clashed ones zeros t r (told.Collected.all e H) h q = absurd (cc)
+  clashed ones zeros t r (told.Collected.clash h C D) _ q = D
 
-  pub gathered : (ones zeros : List ℕ) (t count r : ℕ) → Collected B next L ones zeros t count r → (r < count → ⊥) → Halves B next L ones zeros (suc t) 0
-  gathered ones zeros t count r (told.Collected.all e H) n = H
-  gathered ones zeros t count r (told.Collected.clash l C) n = absurd (n l)
+  pub gathered : (ones zeros : List ℕ) (t : ℕ) (r : Option ℕ) → Collected B next L ones zeros t r → r ≡ None → Halves B next L ones zeros (suc t) 0
+  gathered ones zeros t r (told.Collected.all e H) q = H
+  gathered ones zeros t r (told.Collected.clash h e C) q = absurd (cc)
 
-  pub walk_clashed : (ones zeros : List ℕ) (r : ℕ) → Walked B next L ones zeros r → r < B.T → Contradicted B next L
-  walk_clashed ones zeros r (told.Walked.all e H) l = absurd (omega arith)
-  walk_clashed ones zeros r (told.Walked.clash l C) _ = C
+  pub walk_clashed : (ones zeros : List ℕ) (r : Option Spot) → Walked B next L ones zeros r → (spot : Spot) → r ≡ Some spot → Contradicted B next L
+  walk_clashed ones zeros r (told.Walked.all e H) spot q = absurd (cc)
+  walk_clashed ones zeros r (told.Walked.clash s e C) spot q = C
 
-  pub walk_gathered : (ones zeros : List ℕ) (r : ℕ) → Walked B next L ones zeros r → (r < B.T → ⊥) → Halves B next L ones zeros B.T 0
-  walk_gathered ones zeros r (told.Walked.all e H) n = H
-  walk_gathered ones zeros r (told.Walked.clash l C) n = absurd (n l)
+  pub walk_gathered : (ones zeros : List ℕ) (r : Option Spot) → Walked B next L ones zeros r → r ≡ None → Halves B next L ones zeros B.T 0
+  walk_gathered ones zeros r (told.Walked.all e H) q = H
+  walk_gathered ones zeros r (told.Walked.clash s e C) q = absurd (cc)
 
 module _ (a : Sought) (bytes starts chosen : List ℕ) (H : Held bytes starts a) (C : Candidate a chosen) where
   -- the histories of a frame are few
@@ -246,9 +248,9 @@ module _ (a : Sought) (bytes starts chosen : List ℕ) (H : Held bytes starts a)
     apart = λ i l. ap (λ o. bit_and (get_or o i 0) (get_or zeros i 0)) e ∙ ap (λ x. bit_and x (get_or zeros i 0)) (get_or-replicate 12 i 0 0 (omega (arith, few_entries a bytes starts H))) ∙ and_zero_l (get_or zeros i 0);
   }
 
-  pub judged : (ones zeros : List ℕ) (r : ℕ) → Walked (target_of a.words a.frames bytes) (λ e. get_or chosen e 0) a.entries ones zeros r → (r < a.frames → ⊥)
-      → Judged (target_of a.words a.frames bytes) (λ e. get_or chosen e 0) a.entries (a.entries + 1) ones
-  judged ones zeros r W n =
+  pub judged : (ones zeros : List ℕ) (r : Option Spot) → Walked (target_of a.words a.frames bytes) (λ e. get_or chosen e 0) a.entries ones zeros r → r ≡ None
+      → length ones ≡ 12 → Judged (target_of a.words a.frames bytes) (λ e. get_or chosen e 0) a.entries (Ok ones)
+  judged ones zeros r W n l =
       let A = all_ones (target_of a.words a.frames bytes) (λ e. get_or chosen e 0) a.entries ones zeros (walk_gathered _ _ _ ones zeros r W n)
       (λ e i v D. subst (λ e. e < a.entries) D.comes (entry_in a bytes starts H _ _ (state_below a bytes starts chosen H C D.t D.h D.history_in) D.word_in)) in
-      fits (omega arith) A.0 A.1
+      fits ones refl l A.0 A.1

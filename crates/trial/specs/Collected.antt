@@ -1,9 +1,10 @@
 -- The demands of a table on a candidate, collected history by history: frame by frame, in each frame in the order of numbers.
-use Rattle.std.specs.Prelude.{◌≡◌, Bool, true, false, ◌⊎◌, List, ℕ, suc, ◌+◌, ◌*◌, ◌^◌, ◌≤◌, ◌<◌, length, get_or}
+use Rattle.std.specs.Prelude.{◌≡◌, Bool, true, false, ◌⊎◌, List, ℕ, suc, ◌+◌, ◌*◌, ◌^◌, ◌≤◌, ◌<◌, length, get_or, Option, None, Some, Result, Ok, Err}
 use Rattle.std.specs.Int.Bits.{bit_and}
 use Rattle.circuit.specs.Lists.{bit}
 use Rattle.merged.specs.Merged.{Target}
 use Rattle.merged.specs.Demands.{target_after, state_after, Demand, Contradicted, Ones}
+use Rattle.trial.specs.declared.Spot.{Spot}
 
 module _ (B : Target) (next : ℕ → ℕ) (L : ℕ) where
   -- `list` has of each of L entries the bits that are demanded v by histories before h of t + 1 words, and no other bits than are demanded v
@@ -21,17 +22,17 @@ module _ (B : Target) (next : ℕ → ℕ) (L : ℕ) where
     pub zero : Half false zeros t h
     pub apart : (e : ℕ) → e < L → bit_and (get_or ones e 0) (get_or zeros e 0) ≡ 0
 
-  -- all histories of t + 1 words are collected, or one of them, r, shows a contradiction
-  pub data Collected (ones zeros : List ℕ) (t count r : ℕ) : Type 0 where
-    all : r ≡ count → Halves ones zeros (suc t) 0 → Collected ones zeros t count r
-    clash : r < count → Contradicted B next L → Collected ones zeros t count r
+  -- all histories of t + 1 words are collected, or one of them shows a contradiction
+  pub data Collected (ones zeros : List ℕ) (t : ℕ) (r : Option ℕ) : Type 0 where
+    all : r ≡ None → Halves ones zeros (suc t) 0 → Collected ones zeros t r
+    clash : (h : ℕ) → r ≡ Some h → Contradicted B next L → Collected ones zeros t r
 
-  -- all histories of all frames, or one of frame r shows a contradiction
-  pub data Walked (ones zeros : List ℕ) (r : ℕ) : Type 0 where
-    all : r ≡ B.T → Halves ones zeros B.T 0 → Walked ones zeros r
-    clash : r < B.T → Contradicted B next L → Walked ones zeros r
+  -- all histories of all frames, or one shows a contradiction
+  pub data Walked (ones zeros : List ℕ) (r : Option Spot) : Type 0 where
+    all : r ≡ None → Halves ones zeros B.T 0 → Walked ones zeros r
+    clash : (spot : Spot) → r ≡ Some spot → Contradicted B next L → Walked ones zeros r
 
-  -- a prefix of `used` entries is refuted, or, with `used` above L, nothing is, and ones are the bits demanded 1
-  pub data Judged (used : ℕ) (ones : List ℕ) : Type 0 where
-    refuted : used ≤ L → Contradicted B next used → Judged used ones
-    fits : L < used → (Contradicted B next L → ⊥) → Ones B next L (λ e. get_or ones e 0) → Judged used ones
+  -- the candidate is refuted, or nothing is contradicted, and r are the bits demanded 1
+  pub data Judged (r : Result (List ℕ) Spot) : Type 0 where
+    refuted : (spot : Spot) → r ≡ Err spot → Contradicted B next L → Judged r
+    fits : (ones : List ℕ) → r ≡ Ok ones → length ones ≡ 12 → (Contradicted B next L → ⊥) → Ones B next L (λ e. get_or ones e 0) → Judged r

@@ -2,10 +2,14 @@
 // demand of its entries is collected.
 #![tactic(auto)]
 
-ghost use Rattle.std.specs.Prelude.{◌≡◌, suc, ◌/◌, ◌%◌, ◌^◌, ◌≤◌, ◌<◌, length, get_or, replicate};
-ghost use Rattle.trial.specs.Tried.{target_of, Held, Candidate, Leads, Comes};
+pub mod subject;
+
+ghost use Rattle.std.specs.Prelude.{◌≡◌, suc, ◌/◌, ◌%◌, ◌^◌, ◌≤◌, ◌<◌, length};
+ghost use Rattle.trial.specs.Tried.{Leads, Comes};
+ghost use Rattle.trial.specs.Trials.{target_in, next_in};
 ghost use Rattle.trial.specs.Collected.{Halves, Collected, Walked, Judged};
 
+use subject::Trial;
 use table::head::connected_of;
 use words::read;
 
@@ -45,113 +49,6 @@ pub struct Visit {
     pub used: usize,
 }
 
-// Where the history h of t words leads.
-fn follow(
-    sought: Sought,
-    table: &[u8],
-    starts: &[usize],
-    chosen: &[u16],
-    t: usize,
-    h: usize,
-) -> Place
-    requires held { Held table.now starts.now sought }
-    requires candidate { Candidate sought chosen.now }
-    requires t_le_frames { (t ≤ sought.frames) × (h < sought.words ^ t) }
-    ensures leads { Leads (target_of sought.words sought.frames table.now) (λ e. get_or chosen.now e 0) t h result }
-    ensures bounds { (result.state < sought.states) × (result.used ≤ sought.entries) }
-{
-    let inputs = sought.inputs;
-    let words = sought.words;
-    let mut shift = inputs * t;
-    let mut target: usize = 0;
-    let mut state: usize = 0;
-    let mut used: usize = 0;
-    let mut before: usize = 0;
-    for i in 0..t {
-        shift -= inputs;
-        let prefix = h >> shift;
-        let word = prefix - before * words;
-        let entry = state * words + word;
-        if used <= entry {
-            used = entry + 1;
-        }
-        target = read(
-            table,
-            sought.gap + (starts[i] + 2 * (target * words + word)),
-        );
-        state = chosen[entry] as usize;
-        before = prefix;
-    }
-    Place {
-        target,
-        state,
-        used,
-    }
-}
-
-// What the history h of t + 1 words comes to with its last word.
-pub fn come(
-    sought: Sought,
-    table: &[u8],
-    starts: &[usize],
-    chosen: &[u16],
-    t: usize,
-    h: usize,
-) -> Visit
-    requires held { Held table.now starts.now sought }
-    requires candidate { Candidate sought chosen.now }
-    requires t_lt_frames { (t < sought.frames) × (h < sought.words ^ suc t) }
-    ensures comes { Comes (target_of sought.words sought.frames table.now) (λ e. get_or chosen.now e 0) t (h / sought.words) (h % sought.words) result }
-    ensures bounds { (result.entry < sought.entries) × (result.used ≤ sought.entries) × (result.out < 65536) }
-{
-    let words = sought.words;
-    let before = h >> sought.inputs;
-    let word = h - before * words;
-    let place = follow(sought, table, starts, chosen, t, before);
-    let out = read(table, starts[t] + 2 * (place.target * words + word));
-    Visit {
-        entry: place.state * words + word,
-        out: out as u16,
-        used: place.used,
-    }
-}
-
-// Collects what the histories of t + 1 words demand, `count` of them; answers the first that shows a contradiction, or `count`.
-fn collect(
-    sought: Sought,
-    table: &[u8],
-    starts: &[usize],
-    chosen: &[u16],
-    t: usize,
-    count: usize,
-    ones: &mut [u16],
-    zeros: &mut [u16],
-) -> usize
-    requires held { Held table.now starts.now sought }
-    requires candidate { Candidate sought chosen.now }
-    requires t_lt_frames { (t < sought.frames) × (count ≡ sought.words ^ suc t) }
-    requires halves { Halves (target_of sought.words sought.frames table.now) (λ e. get_or chosen.now e 0) sought.entries ones.old zeros.old t 0 }
-    ensures { Collected (target_of sought.words sought.frames table.now) (λ e. get_or chosen.now e 0) sought.entries ones.new zeros.new t count result }
-{
-    let mask = connected_of(table, sought.frames, t) as u16;
-    if mask == 0 {
-        return count;
-    }
-    for h in 0..count {
-        let visit = come(sought, table, starts, chosen, t, h);
-        let e = visit.entry;
-        let out = visit.out;
-        let one = ones[e] | (out & mask);
-        let zero = zeros[e] | (!out & mask);
-        ones[e] = one;
-        zeros[e] = zero;
-        if one & zero != 0 {
-            return h;
-        }
-    }
-    count
-}
-
 // A history of frame + 1 words.
 #[derive(Clone, Copy)]
 pub struct Spot {
@@ -159,67 +56,114 @@ pub struct Spot {
     pub history: usize,
 }
 
-// Collects what all histories demand; answers the first that shows a contradiction, or one of frame `frames`.
-fn walk(
-    sought: Sought,
-    table: &[u8],
-    starts: &[usize],
-    chosen: &[u16],
-    ones: &mut [u16],
-    zeros: &mut [u16],
-) -> Spot
-    requires held { Held table.now starts.now sought }
-    requires candidate { Candidate sought chosen.now }
-    requires halves { Halves (target_of sought.words sought.frames table.now) (λ e. get_or chosen.now e 0) sought.entries ones.old zeros.old 0 0 }
-    ensures { Walked (target_of sought.words sought.frames table.now) (λ e. get_or chosen.now e 0) sought.entries ones.new zeros.new result.frame }
-{
-    let frames = sought.frames;
-    let words = sought.words;
-    let mut count: usize = 1;
-    for t in 0..frames {
-        count *= words;
-        let h = collect(sought, table, starts, chosen, t, count, ones, zeros);
-        if h < count {
-            return Spot {
-                frame: t,
-                history: h,
-            };
+impl<'a> Trial<'a> {
+    // Where the history h of t words leads.
+    fn follow(self, t: usize, h: usize) -> Place
+        requires { (t ≤ self.sought.frames) × (h < self.sought.words ^ t) }
+        ensures leads { Leads (target_in self.entry) (next_in self.entry) t h result }
+        ensures bounds { (result.state < self.entry.sought.states) × (result.used ≤ self.entry.sought.entries) }
+    {
+        let inputs = self.sought.inputs;
+        let words = self.sought.words;
+        let mut shift = inputs * t;
+        let mut target: usize = 0;
+        let mut state: usize = 0;
+        let mut used: usize = 0;
+        let mut before: usize = 0;
+        for i in 0..t {
+            shift -= inputs;
+            let prefix = h >> shift;
+            let word = prefix - before * words;
+            let entry = state * words + word;
+            if used <= entry {
+                used = entry + 1;
+            }
+            target = read(
+                self.table,
+                self.sought.gap + (self.starts[i] + 2 * (target * words + word)),
+            );
+            state = self.chosen[entry] as usize;
+            before = prefix;
+        }
+        Place {
+            target,
+            state,
+            used,
         }
     }
-    Spot {
-        frame: frames,
-        history: 0,
+
+    // What the history h of t + 1 words comes to with its last word.
+    pub fn come(self, t: usize, h: usize) -> Visit
+        requires { (t < self.sought.frames) × (h < self.sought.words ^ suc t) }
+        ensures comes { Comes (target_in self.entry) (next_in self.entry) t (h / self.entry.sought.words) (h % self.entry.sought.words) result }
+        ensures bounds { (result.entry < self.entry.sought.entries) × (result.used ≤ self.entry.sought.entries) × (result.out < 65536) }
+    {
+        let words = self.sought.words;
+        let before = h >> self.sought.inputs;
+        let word = h - before * words;
+        let place = self.follow(t, before);
+        let out = read(
+            self.table,
+            self.starts[t] + 2 * (place.target * words + word),
+        );
+        Visit {
+            entry: place.state * words + word,
+            out: out as u16,
+            used: place.used,
+        }
     }
-}
 
-// What trying a candidate answers: the bound of a refuted prefix, or one more than all entries, and then the bits demanded 1. `spot` is the history
-// that showed the contradiction.
-#[derive(Clone, Copy)]
-pub struct Judgement {
-    pub used: usize,
-    pub ones: [u16; Limits::ENTRIES],
-    pub spot: Spot,
-}
-
-pub fn nothing() -> [u16; Limits::ENTRIES]
-    ensures { result ≡ replicate 12 0 }
-{
-    [0; Limits::ENTRIES]
-}
-
-// Tries a candidate on all histories.
-pub fn try_all(sought: Sought, table: &[u8], starts: &[usize], chosen: &[u16]) -> Judgement
-    requires held { Held table.now starts.now sought }
-    requires candidate { Candidate sought chosen.now }
-    ensures judged { Judged (target_of sought.words sought.frames table.now) (λ e. get_or chosen.now e 0) sought.entries result.used result.ones }
-    ensures long { length result.ones ≡ 12 }
-{
-    let mut ones = nothing();
-    let mut zeros = nothing();
-    let spot = walk(sought, table, starts, chosen, &mut ones, &mut zeros);
-    let mut used = sought.entries;
-    if sought.frames <= spot.frame {
-        used += 1;
+    // Collects what the histories of t + 1 words demand, `count` of them; answers the first that shows a contradiction.
+    fn collect(self, t: usize, count: usize, ones: &mut [u16], zeros: &mut [u16]) -> Option<usize>
+        requires t_lt_frames { (t < self.sought.frames) × (count ≡ self.sought.words ^ suc t) }
+        requires halves { Halves (target_in self) (next_in self) self.sought.entries ones.old zeros.old t 0 }
+        ensures { Collected (target_in self.entry) (next_in self.entry) self.entry.sought.entries ones.new zeros.new t result }
+    {
+        let mask = connected_of(self.table, self.sought.frames, t) as u16;
+        if mask == 0 {
+            return None;
+        }
+        for h in 0..count {
+            let visit = self.come(t, h);
+            let e = visit.entry;
+            let out = visit.out;
+            let one = ones[e] | (out & mask);
+            let zero = zeros[e] | (!out & mask);
+            ones[e] = one;
+            zeros[e] = zero;
+            if one & zero != 0 {
+                return Some(h);
+            }
+        }
+        None
     }
-    Judgement { used, ones, spot }
+
+    // Collects what all histories demand; answers the first that shows a contradiction.
+    fn walk(self, ones: &mut [u16], zeros: &mut [u16]) -> Option<Spot>
+        requires { Halves (target_in self) (next_in self) self.sought.entries ones.old zeros.old 0 0 }
+        ensures { Walked (target_in self.entry) (next_in self.entry) self.entry.sought.entries ones.new zeros.new result }
+    {
+        let frames = self.sought.frames;
+        let words = self.sought.words;
+        let mut count: usize = 1;
+        for t in 0..frames {
+            count *= words;
+            if let Some(history) = self.collect(t, count, ones, zeros) {
+                return Some(Spot { frame: t, history });
+            }
+        }
+        None
+    }
+
+    // Tries a candidate on all histories: the bits demanded 1, or the history that showed a contradiction.
+    pub fn try_all(self) -> Result<[u16; Limits::ENTRIES], Spot>
+        ensures { Judged (target_in self.entry) (next_in self.entry) self.entry.sought.entries result }
+    {
+        let mut ones = [0; Limits::ENTRIES];
+        let mut zeros = [0; Limits::ENTRIES];
+        match self.walk(&mut ones, &mut zeros) {
+            Some(spot) => Err(spot),
+            None => Ok(ones),
+        }
+    }
 }

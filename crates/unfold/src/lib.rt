@@ -34,7 +34,7 @@ fn write_circuit(table: &[u8], layout: Layout, sizes: Sizes, gates: usize, res: 
         sizes.frames as u16,
         gates as u16,
     ];
-    store_all(&head, 4, res, 0);
+    store_all(&head, res, 0);
     let target = Target {
         inputs: sizes.inputs,
         words: layout.words,
@@ -46,14 +46,19 @@ fn write_circuit(table: &[u8], layout: Layout, sizes: Sizes, gates: usize, res: 
 }
 
 // Numbers 8 and 7, of a circuit of so many gates and a result with room for so many bytes.
+#[tactic(auto, unfolding(unfolded::specs::Unfolded::drawn_checked))]
 fn check_drawn(gates: usize, room: usize) -> Verdict
     requires { gates ≤ 17179869184 }
     ensures { figures result ≡ drawn_checked gates (circuit_head + 4 * gates) room }
 {
     let bytes = Limits::HEAD + 4 * gates;
-    let counted = Verdict::refuse_if(Limits::GATES < gates, Refusal::Gates(gates), 0);
-    let roomy = Verdict::refuse_if(room < bytes, Refusal::Room(bytes), bytes);
-    counted.and_then(roomy)
+    if Limits::GATES < gates {
+        return Err(Refusal::Gates(gates));
+    }
+    if room < bytes {
+        return Err(Refusal::Room(bytes));
+    }
+    Ok(bytes)
 }
 
 // Unfolds a table.
@@ -62,17 +67,11 @@ pub fn unfold(table: &[u8], res: &mut [u8]) -> Verdict
     ensures res { res.new ≡ unfold_result table.now res.old }
     ensures promised { Promised table.now (figures result) res.new }
 {
-    let judged = check(table);
-    let Verdict::Accepted(_) = judged else {
-        return judged;
-    };
+    check(table)?;
     let layout = Layout::read(table);
     let sizes = Sizes::read(table);
     let gates = gates_needed(table, layout, sizes);
-    let drawn = check_drawn(gates, res.len());
-    let Verdict::Accepted(_) = drawn else {
-        return drawn;
-    };
+    let bytes = check_drawn(gates, res.len())?;
     write_circuit(table, layout, sizes, gates, res);
-    drawn
+    Ok(bytes)
 }

@@ -6,12 +6,11 @@ use lib.Dec.{ltb}
 use lib.ListN.{length, take, drop}
 use lib.Seq.{take_at}
 use borrow.Author.Tests.{ltb-false}
-use Rattle.verdict.specs.Judgements.{answer, figures, result_after}
+use Rattle.verdict.specs.Judgements.{Verdict, answer, refusal_figures, figures, result_after}
 use Rattle.verdict.specs.declared.Figures.{Figures}
-use Rattle.verdict.specs.declared.Verdict.{Verdict}
-use Rattle.verdict.specs.declared.Verdict.TheVariants.{Accepted as Passed, Refused}
+use Rattle.std.specs.Prelude.{Err, IsErrAnd}
 use Rattle.verdict.specs.declared.Refusal.{Refusal}
-use Rattle.verdict.proofs.Laws.{stop, go_on, kept, left, both_accept, passed}
+use Rattle.verdict.proofs.Laws.{told, stop, go_on, kept, left, both_accept, passed}
 use Rattle.circuit.specs.Limits.{most_gates}
 use Rattle.table.specs.Table.{checked}
 use Rattle.table.specs.Sound.{Sound}
@@ -53,23 +52,24 @@ pub record Outcome (b result : List ℕ) (f : Figures) (result' : List ℕ) : Ty
   pub result_left : result' ≡ unfold_result b result
 
 -- the table is refused
-pub table_answer : (b : List ℕ) (room : ℕ) (x : Verdict) (r : Refusal) → figures x ≡ checked b → x ≡ Refused r → figures x ≡ unfold_checked b room
+pub table_refuses : (b : List ℕ) (room : ℕ) (r : Refusal) → refusal_figures r ≡ checked b → refusal_figures r ≡ unfold_checked b room
 unfolding unfold_checked
-table_answer b room x r e q = stop x (checked b) _ r e q
+table_refuses b room r e = stop (Err r) r (checked b) _ refl e
 
 -- it is accepted, and then 8 and 7 are judged
-pub drawn_answer : (b : List ℕ) (room p : ℕ) (x y : Verdict) → figures x ≡ checked b → x ≡ Passed p
-    → figures y ≡ drawn_checked (gates_needed b) (length (unfolded_bytes b)) room → figures y ≡ unfold_checked b room
+pub drawn_answer : (b : List ℕ) (room p : ℕ) (y : Figures) → answer 0 p ≡ checked b → y ≡ drawn_checked (gates_needed b) (length (unfolded_bytes b)) room
+    → y ≡ unfold_checked b room
 unfolding unfold_checked
-drawn_answer b room p x y e q h = go_on x (checked b) _ _ p e q h
+drawn_answer b room p y e h = go_on (checked b) _ y p e h
 
-module _ (b result : List ℕ) (x : Verdict) (e : figures x ≡ unfold_checked b (length result)) where
+module _ (b result : List ℕ) where
   -- a refusal leaves the result as it was
-  pub refused : (r : Refusal) → x ≡ Refused r → Outcome b result (figures x) result
+  pub refused : (x : Verdict) (r : Refusal) → IsErrAnd x (λ y. y ≡ r) → refusal_figures r ≡ unfold_checked b (length result) → Outcome b result (figures x) result
   unfolding unfold_result
-  refused r q = record { figures_are = e; result_left = kept _ r (unfolded_bytes b) result (sym (ap figures q) ∙ e) }
+  refused x r h e = record { figures_are = told x r _ h e; result_left = kept _ r (unfolded_bytes b) result e }
 
   -- an acceptance leaves the circuit's bytes, and the rest as it was
-  pub unfolded : (p : ℕ) (after : List ℕ) → x ≡ Passed p → after ≡ unfolded_bytes b ++ drop p result → Outcome b result (figures x) after
+  pub unfolded : (p : ℕ) (after : List ℕ) → answer 0 p ≡ unfold_checked b (length result) → after ≡ unfolded_bytes b ++ drop p result
+      → Outcome b result (answer 0 p) after
   unfolding unfold_result
-  unfolded p after q h = record { figures_are = e; result_left = left _ p (unfolded_bytes b) result after (sym (ap figures q) ∙ e) h }
+  unfolded p after e h = record { figures_are = e; result_left = left _ p (unfolded_bytes b) result after e h }

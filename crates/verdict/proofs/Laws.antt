@@ -10,10 +10,10 @@ use native.Mathlib.Decide.{dec_lt}
 use lib.Dec.{eqb}
 use lib.ListN.{drop}
 use borrow.Author.Tests.{eqb-true, eqb-false}
-use Rattle.verdict.specs.Judgements.{answer, refusal_figures, figures, refuse, and_then, refuse_first, first_refusal, result_after}
+use Rattle.verdict.specs.Judgements.{Verdict, answer, refusal_figures, figures, refuse, and_then, refuse_first, first_refusal, result_after}
 use Rattle.verdict.specs.declared.Figures.{Figures}
-use Rattle.verdict.specs.declared.Verdict.{Verdict}
-use Rattle.verdict.specs.declared.Verdict.TheVariants.{Accepted, Refused}
+use Rattle.std.specs.Prelude.{Ok, Err, IsErrAnd}
+use Rattle.std.proofs.lemmas.Result.{err_from_is_err_and}
 use Rattle.verdict.specs.declared.Refusal.{Refusal}
 use Rattle.verdict.specs.declared.Refusal.TheVariants.{Length, Size, Literal, LookAhead, Entry, Scratch, Room, Gates, Word, End, Position, Count, Sequences, Plan, Window, Minute, Mask, Nodes, Outside, Taken, Unmatched}
 
@@ -47,17 +47,17 @@ refusal_number (Unmatched p) = refl
 pub never : (r : Refusal) (p : ℕ) → refusal_figures r ≡ answer 0 p → ⊥
 never r p e = eqb-false _ 0 (refusal_number r) (ap (λ (f : Figures). f.number) e)
 
+-- what the exit of a `?` returns is the refusal that came
+pub told : (x : Verdict) (r : Refusal) (f : Figures) → IsErrAnd x (λ y. y ≡ r) → refusal_figures r ≡ f → figures x ≡ f
+told x r f h e = let p = err_from_is_err_and x h in ap figures p.1 ∙ ap refusal_figures p.2 ∙ e
+
 -- a stage that refuses is the verdict
-pub stop : (x : Verdict) (f g : Figures) (r : Refusal) → figures x ≡ f → x ≡ Refused r → figures x ≡ and_then f g
-stop x f g r e q = rw (← e, q, refusal_number r)
+pub stop : (x : Verdict) (r : Refusal) (f g : Figures) → IsErrAnd x (λ y. y ≡ r) → refusal_figures r ≡ f → figures x ≡ and_then f g
+stop x r f g h e = told x r (and_then f g) h (rw (← e, refusal_number r))
 
 -- after a stage that accepts, the next one is
-pub go_on : (x : Verdict) (f g y : Figures) (p : ℕ) → figures x ≡ f → x ≡ Accepted p → y ≡ g → y ≡ and_then f g
-go_on x f g y p e q h = rw (← e, q) h
-
--- what a stage's verdict tells of its definition
-pub accepts : (x : Verdict) (f : Figures) (p : ℕ) → figures x ≡ f → x ≡ Accepted p → f ≡ answer 0 p
-accepts x f p e q = sym e ∙ ap figures q
+pub go_on : (f g y : Figures) (p : ℕ) → answer 0 p ≡ f → y ≡ g → y ≡ and_then f g
+go_on f g y p e h = rw (← e) h
 
 -- ---- what acceptance tells
 
@@ -158,11 +158,11 @@ module _ (f : ℕ → Figures) where
   unfolding first_refusal
   turn k c c' e = rw e
 
-  pub row_stop : (x : Verdict) (r : Refusal) (k n : ℕ) → k < n → figures x ≡ f k → x ≡ Refused r → figures x ≡ first_refusal f k (n - k)
-  row_stop x r k n h e q = stop x (f k) _ r e q ∙ sym (turn k (n - k) (n - suc k) (omega arith))
+  pub row_stop : (x : Verdict) (r : Refusal) (k n : ℕ) → k < n → IsErrAnd x (λ y. y ≡ r) → refusal_figures r ≡ f k → figures x ≡ first_refusal f k (n - k)
+  row_stop x r k n h i e = stop x r (f k) _ i e ∙ sym (turn k (n - k) (n - suc k) (omega arith))
 
-  pub row_on : (x : Verdict) (p k n : ℕ) → k < n → figures x ≡ f k → x ≡ Accepted p → first_refusal f k (n - k) ≡ first_refusal f (k + 1) (n - (k + 1))
-  row_on x p k n h e q = turn k (n - k) (n - suc k) (omega arith) ∙ rw (← e, q, add-one)
+  pub row_on : (p k n : ℕ) → k < n → answer 0 p ≡ f k → first_refusal f k (n - k) ≡ first_refusal f (k + 1) (n - (k + 1))
+  row_on p k n h e = turn k (n - k) (n - suc k) (omega arith) ∙ rw (← e, add-one)
 
   pub row_end : (k n : ℕ) → n ≤ k → first_refusal f k (n - k) ≡ answer 0 0
   unfolding first_refusal

@@ -1,8 +1,6 @@
 -- Document 01's "number, place", and how judgements follow one another.
-use Rattle.std.specs.Prelude.{ℕ, zero, suc, List, ◌++◌, Bool, cond, eqb, drop}
+use Rattle.std.specs.Prelude.{ℕ, zero, suc, List, ◌++◌, Bool, cond, eqb, drop, Result, Ok, Err}
 use Rattle.verdict.specs.declared.Figures.{Figures}
-use Rattle.verdict.specs.declared.Verdict.{Verdict}
-use Rattle.verdict.specs.declared.Verdict.TheVariants.{Accepted, Refused}
 use Rattle.verdict.specs.declared.Refusal.{Refusal}
 use Rattle.verdict.specs.declared.Refusal.TheVariants.{Length, Size, Literal, LookAhead, Entry, Scratch, Room, Gates, Word, End, Position, Count, Sequences, Plan, Window, Minute, Mask, Nodes, Outside, Taken, Unmatched}
 
@@ -34,9 +32,13 @@ refusal_figures (Outside p) = answer 19 p
 refusal_figures (Taken p) = answer 20 p
 refusal_figures (Unmatched p) = answer 21 p
 
+-- what every call answers: accepted with a place, or refused
+abbrev pub Verdict : Type 0
+Verdict = Result ℕ Refusal
+
 abbrev pub figures : Verdict → Figures
-figures (Accepted p) = answer 0 p
-figures (Refused r) = refusal_figures r
+figures (Ok p) = answer 0 p
+figures (Err r) = refusal_figures r
 
 -- one judgement: refused with this number and place where the test holds, else what the rest says
 abbrev pub refuse : (test : Bool) (number place : ℕ) → Figures → Figures

@@ -1,17 +1,13 @@
 // What every call answers: accepted with a place, or refused for one of document 01's reasons, each with its place.
 #![tactic(auto)]
 
-ghost use Rattle.std.specs.Prelude.{◌≡◌, cond};
-ghost use Rattle.verdict.specs.Judgements.{answer, figures, refusal_figures, and_then};
+ghost use Rattle.std.specs.Prelude.{◌≡◌};
+ghost use Rattle.verdict.specs.Judgements.{figures, refusal_figures};
 
-#[derive(Clone, Copy)]
-pub enum Verdict {
-    Accepted(usize),
-    Refused(Refusal),
-}
+pub type Verdict = Result<usize, Refusal>;
 
 // A case for each of document 01's numbers 1 to 12 and of document 02's from 13 on, in that order. Its value is the place.
-#[derive(Clone, Copy)]
+#[derive(Clone, Copy, Debug, PartialEq, Eq)]
 pub enum Refusal {
     Length(usize),
     Size(usize),
@@ -43,11 +39,11 @@ pub struct Figures {
     pub place: usize,
 }
 
-impl Refusal {
-    pub fn figures(self) -> Figures
-        ensures { result ≡ refusal_figures self }
-    {
-        match self {
+impl From<Refusal> for Figures {
+    ghost from_gives = { λ refusal figures. figures ≡ refusal_figures refusal };
+
+    fn from(refusal: Refusal) -> Figures {
+        match refusal {
             Refusal::Length(place) => Figures { number: 1, place },
             Refusal::Size(place) => Figures { number: 2, place },
             Refusal::Literal(place) => Figures { number: 3, place },
@@ -73,34 +69,13 @@ impl Refusal {
     }
 }
 
-impl Verdict {
-    // One judgement: refused where the test holds, else accepted with this place.
-    pub fn refuse_if(test: bool, refusal: Refusal, place: usize) -> Verdict
-        ensures { figures result ≡ cond test (refusal_figures refusal) (answer 0 place) }
-    {
-        if test {
-            Verdict::Refused(refusal)
-        } else {
-            Verdict::Accepted(place)
-        }
-    }
+impl From<Verdict> for Figures {
+    ghost from_gives = { λ verdict f. f ≡ figures verdict };
 
-    // This judgement if it refuses, else the next.
-    pub fn and_then(self, next: Verdict) -> Verdict
-        ensures { figures result ≡ and_then (figures self) (figures next) }
-    {
-        if let Verdict::Refused(_) = self {
-            return self;
-        }
-        next
-    }
-
-    pub fn figures(self) -> Figures
-        ensures { result ≡ figures self }
-    {
-        match self {
-            Verdict::Accepted(place) => Figures { number: 0, place },
-            Verdict::Refused(refusal) => refusal.figures(),
+    fn from(verdict: Verdict) -> Figures {
+        match verdict {
+            Ok(place) => Figures { number: 0, place },
+            Err(refusal) => Figures::from(refusal),
         }
     }
 }

@@ -11,11 +11,11 @@ use lib.ListN.{length, take, drop}
 use lib.Seq.{drop-drop, take-add}
 use borrow.Author.Tests.{ltb-true, eqb-true, lt-ltb, le-ltb}
 use Rattle.words.specs.Words.{word_at}
-use Rattle.verdict.specs.Judgements.{answer, refusal_figures, figures, refuse}
+use Rattle.verdict.specs.Judgements.{answer, refusal_figures, refuse}
 use Rattle.verdict.specs.declared.Refusal.{Refusal}
-use Rattle.verdict.specs.declared.Verdict.{Verdict}
-use Rattle.verdict.specs.declared.Verdict.TheVariants.{Refused}
-use Rattle.verdict.proofs.Laws.{refusal_number, stop, both_accept}
+use Rattle.std.specs.Prelude.{Result, Err, IsErrAnd}
+use Rattle.std.proofs.lemmas.Result.{err_from_is_err_and}
+use Rattle.verdict.proofs.Laws.{refusal_number, both_accept}
 use Rattle.sizes.specs.Sizes.{inputs, frames}
 use Rattle.layered.specs.Search.{join}
 use Rattle.table.specs.Table.{states, entries_below, entry_count, outputs_at, entry_at, layer_part, checked}
@@ -24,7 +24,7 @@ use Rattle.table.proofs.Parts.{part_in, part_entry}
 use Rattle.table.proofs.Accepted.{sound}
 use Rattle.view.specs.Layers.{layer_checked, shows, layer_outputs, located, layer_figures}
 use Rattle.view.specs.Theorems.{LayerStands, LayerTells, LayersJoin}
-use Rattle.view.specs.declared.layers.Located.TheVariants.{Refused as Unlocated}
+use Rattle.view.specs.declared.layers.Part.{Part}
 
 -- ---- what is shown
 
@@ -71,15 +71,10 @@ layer_stands b layer = go (eqb (layer_checked b layer).number 0) (ltb layer (fra
 -- ---- what locating answers
 
 module _ (b : List ℕ) (layer : ℕ) where
-  -- where the table's checks refuse, the verdict is theirs
-  refused_first : (x : Verdict) (r : Refusal) → figures x ≡ checked b → x ≡ Refused r → layer_checked b layer ≡ refusal_figures r
-  unfolding layer_checked
-  refused_first x r e q = sym (stop x (checked b) _ r e q) ∙ ap figures q
-
-  -- and the answer is the refusal
-  pub table_refused : (x : Verdict) (r : Refusal) → figures x ≡ checked b → x ≡ Refused r → layer_figures (Unlocated r) ≡ located b layer
-  unfolding located shows
-  table_refused x r e q = rw (refused_first x r e q, refusal_number r)
+  -- where the table's checks refuse, the answer is the refusal
+  pub table_refused : (x : Result Part Refusal) (r : Refusal) → IsErrAnd x (λ y. y ≡ r) → refusal_figures r ≡ checked b → layer_figures x ≡ located b layer
+  unfolding located shows layer_checked
+  table_refused x r h e = let p = err_from_is_err_and x h in ap layer_figures (p.1 ∙ ap Err p.2) ∙ rw (← e, refusal_number r, refusal_number r)
 
   module _ (p : ℕ) (e : checked b ≡ answer 0 p) where
     -- above T, 11 at the layer

@@ -10,11 +10,9 @@ use lib.Dec.{leb, eqb}
 use lib.ListN.{length, get_or, drop, replicate, length-replicate, get_or-append}
 use lib.Seq.{ext_get_or}
 use borrow.Author.Tests.{leb-false, lt-leb, eqb-true}
-use Rattle.verdict.specs.Judgements.{answer, figures, and_then, result_after}
+use Rattle.verdict.specs.Judgements.{answer, refusal_figures, and_then, result_after}
 use Rattle.verdict.specs.declared.Figures.{Figures}
 use Rattle.verdict.specs.declared.Refusal.{Refusal}
-use Rattle.verdict.specs.declared.Verdict.{Verdict}
-use Rattle.verdict.specs.declared.Verdict.TheVariants.{Refused}
 use Rattle.verdict.proofs.Laws.{both_accept, passed, kept, left}
 use Rattle.sizes.specs.Sizes.{inputs, outputs, frames, sequence_checked}
 use Rattle.sizes.specs.Sized.{Fed}
@@ -41,9 +39,9 @@ module _ (b : List ℕ) (mask : ℕ) (c : List ℕ) where
 -- ---- what the result holds: untouched after a refusal, what is shown and then the rest as before after an acceptance
 
 module _ (b : List ℕ) (mask : ℕ) (words before : List ℕ) where
-  pub view_kept : (x : Verdict) (r : Refusal) → figures x ≡ viewed b mask words (length before) → x ≡ Refused r → before ≡ view_result b mask words before
+  pub view_kept : (r : Refusal) → refusal_figures r ≡ viewed b mask words (length before) → before ≡ view_result b mask words before
   unfolding view_result
-  view_kept x r e q = kept _ r (shown b mask words) before (sym (ap figures q) ∙ e)
+  view_kept r e = kept _ r (shown b mask words) before e
 
   pub view_left : (p : ℕ) (after : List ℕ) → answer 0 p ≡ viewed b mask words (length before) → after ≡ shown b mask words ++ drop p before → after ≡ view_result b mask words before
   unfolding view_result

@@ -1,11 +1,12 @@
 -- One layer of a table's outputs (document 02, Point 9: the board maker's reading).
-use Rattle.std.specs.Prelude.{ℕ, ◌+◌, ◌*◌, ◌^◌, Bool, ◌&&◌, cond, List, [], ltb, eqb}
+use Rattle.std.specs.Prelude.{ℕ, ◌+◌, ◌*◌, ◌^◌, Bool, ◌&&◌, cond, List, [], ltb, eqb, Result, Ok, Err}
+use Rattle.std.specs.Borrow.{Bor}
 use Rattle.verdict.specs.Judgements.{answer, refusal_figures, refuse, and_then}
 use Rattle.verdict.specs.declared.Figures.{Figures}
+use Rattle.verdict.specs.declared.Refusal.{Refusal}
 use Rattle.sizes.specs.Sizes.{inputs, frames}
 use Rattle.table.specs.Table.{states, entries_below, outputs_at, layer_part, checked}
-use Rattle.view.specs.declared.layers.Located.{Located}
-use Rattle.view.specs.declared.layers.Located.TheVariants.{Part, Refused}
+use Rattle.view.specs.declared.layers.Part.{Part}
 use Rattle.view.specs.declared.layers.LayerFigures.{LayerFigures}
 
 -- the verdict on a layer that is to be shown: that on the table, then 11 for a layer above T
@@ -30,9 +31,14 @@ located b layer = record {
 }
 
 -- number, place, offset and length of each case of the answer
-abbrev pub layer_figures : Located → LayerFigures
-layer_figures (Part offset length) = record { number = 0; place = 0; offset = offset; length = length }
-layer_figures (Refused r) = record { number = (refusal_figures r).number; place = (refusal_figures r).place; offset = 0; length = 0 }
+abbrev pub layer_figures : Result Part Refusal → LayerFigures
+layer_figures (Ok p) = record { number = 0; place = 0; offset = p.offset; length = p.length }
+layer_figures (Err r) = record { number = (refusal_figures r).number; place = (refusal_figures r).place; offset = 0; length = 0 }
+
+-- number and place of each case of what is shown
+abbrev pub shown_figures : Result (Bor (List ℕ)) Refusal → Figures
+shown_figures (Ok p) = answer 0 0
+shown_figures (Err r) = refusal_figures r
 
 -- the place in memory, a block and an offset, that is so many bytes behind another of the same block
 abbrev pub behind : (bytes : ℕ) → ℕ × ℕ → ℕ × ℕ

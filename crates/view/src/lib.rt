@@ -15,6 +15,7 @@ use table::check;
 use verdict::{Refusal, Verdict};
 
 // The outputs of a table on a sequence of input words, with all bits outside the mask 0.
+#[tactic(auto, using(crate::proofs::Views::view_shows, crate::proofs::Views::view_hides, crate::proofs::Views::views_alike))]
 pub fn view(table: &[u8], mask: u16, words: &[u16], res: &mut [u16]) -> Verdict
     ensures verdict { figures result ≡ viewed table.now mask words.now (length res.old) }
     ensures outputs { res.new ≡ view_result table.now mask words.now res.old }
@@ -22,16 +23,11 @@ pub fn view(table: &[u8], mask: u16, words: &[u16], res: &mut [u16]) -> Verdict
     ensures hides { ViewHides table.now mask }
     ensures alike { ViewsAlike table.now mask }
 {
-    let judged = check(table);
-    let Verdict::Accepted(_) = judged else {
-        return judged;
-    };
+    check(table)?;
     let sizes = Sizes::read(table);
-    let narrow = Verdict::refuse_if(power(sizes.outputs) <= mask as usize, Refusal::Mask(0), 0);
-    let fed = check_sequence(words, sizes.inputs, sizes.frames, res.len());
-    let seen = narrow.and_then(fed);
-    let Verdict::Accepted(_) = seen else {
-        return seen;
-    };
+    if power(sizes.outputs) <= mask as usize {
+        return Err(Refusal::Mask(0));
+    }
+    check_sequence(words, sizes.inputs, sizes.frames, res.len())?;
     run_masked(table, mask, words, res)
 }

@@ -1,7 +1,7 @@
 // Words of 16 and of 32 bits in byte slices, low byte first.
 #![tactic(auto)]
 
-ghost use Rattle.std.specs.Prelude.{◌≡◌, ◌∷◌, [], ◌+◌, ◌*◌, ◌^◌, ◌≤◌, ◌<◌, length, take};
+ghost use Rattle.std.specs.Prelude.{◌≡◌, ◌∷◌, [], ◌+◌, ◌*◌, ◌^◌, ◌≤◌, ◌<◌, length};
 ghost use Rattle.words.specs.Words.{number_at, word_at, stored};
 
 // The word of 16 bits at byte offset `at`.
@@ -23,13 +23,13 @@ pub fn store(bytes: &mut [u8], at: usize, word: u16)
     bytes[at + 1] = (word / 256 % 256) as u8;
 }
 
-// Stores the first `count` of the numbers, one behind the other, from byte offset `at` on.
-pub fn store_all(numbers: &[u16], count: usize, bytes: &mut [u8], at: usize)
-    requires { (count ≤ length numbers.now) × (at + 2 * count ≤ length bytes.old) }
-    ensures { bytes.new ≡ stored 2 bytes.old at (take count numbers.now) }
+// Stores the numbers, one behind the other, from byte offset `at` on.
+pub fn store_all(numbers: &[u16], bytes: &mut [u8], at: usize)
+    requires { at + 2 * length numbers.now ≤ length bytes.old }
+    ensures { bytes.new ≡ stored 2 bytes.old at numbers.now }
 {
-    for i in 0..count {
-        store(bytes, at + 2 * i, numbers[i]);
+    for (i, number) in numbers.iter().enumerate() {
+        store(bytes, at + 2 * i, *number);
     }
 }
 

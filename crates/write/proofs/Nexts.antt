@@ -1,14 +1,14 @@
 -- Next states as they stand in the scratch: each layer's in one part, and those of the last frame nowhere. Assumes nothing.
 use mathlib.Core.Path.{◌≡◌, refl, sym, ap, ap₂, ◌∙◌}
 use mathlib.Core.List.{List, [], ◌∷◌, ◌++◌}
-use Prim.Native.Nat.{ℕ, zero, suc, ◌+◌, ◌*◌, ◌^◌, ◌≤◌, ◌<◌}
+use Prim.Native.Nat.{ℕ, zero, suc, ◌+◌, ◌-◌, ◌*◌, ◌^◌, ◌≤◌, ◌<◌}
 use native.Mathlib.Nat.{pow-zero, pow-suc, mul-le-mul, mul-le-mul_right, one-le-pow}
 use native.Mathlib.Numerals.{add-one}
 use native.Mathlib.Omega.{arith}
 use lib.Arith.{digits_div, digits_mod}
 use lib.Pow.{pow_pos}
 use lib.ListN.{length, get_or, take, drop, replicate, length-take, length-drop, length-replicate, get_or-replicate}
-use lib.Seq.{get_or-take, get_or-drop, take-take}
+use lib.Seq.{get_or-take, get_or-drop}
 use Rattle.words.specs.Words.{stored}
 use Rattle.words.proofs.Laws.{stored_behind}
 use Rattle.layered.specs.Search.{join, tabulate, total}
@@ -57,9 +57,11 @@ unfolding nexts_in
 nexts_layer layout s counts t = rw (add-one t)
 
 -- a part that is lent from `from` on
-pub part_lent : (layout : Layout) (s : List ℕ) (t n k from : ℕ) → from ≡ layer_at layout.fan (suc t) → n ≤ k
-    → take n (take k (drop (layout.half + from) s)) ≡ take n (drop (layout.half + layer_at layout.fan (suc t)) s)
-part_lent layout s t n k from e h = take-take n k (drop (layout.half + from) s) h ∙ ap (λ (f : ℕ). take n (drop (layout.half + f) s)) e
+pub part_lent : (layout : Layout) (s : List ℕ) (t n from : ℕ) → from ≡ layer_at layout.fan (suc t)
+    → take (layout.half + from + n - (layout.half + from)) (drop (layout.half + from) s) ≡ take n (drop (layout.half + layer_at layout.fan (suc t)) s)
+part_lent layout s t n from e =
+    let k : layout.half + from + n - (layout.half + from) ≡ n = omega arith in
+    ap₂ (λ (k f : ℕ). take k (drop (layout.half + f) s)) k e
 
 module _ (layout : Layout) (s counts r : List ℕ) (at : ℕ) (N : NextsFit layout s counts r at) where
   abbrev K : ℕ

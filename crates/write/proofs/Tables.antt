@@ -31,7 +31,6 @@ use Rattle.functions.proofs.Outputs.{responses_read}
 use Rattle.nodes.specs.declared.Node.{Node}
 use Rattle.explore.specs.declared.Layout.{Layout}
 use Rattle.explore.specs.Explore.{Laid, Explored, CountsTo}
-use Rattle.survey.specs.declared.Survey.{Survey}
 use Rattle.survey.specs.Survey.{LayoutOf, subject_of}
 use Rattle.survey.proofs.Subject.{bits, frames_are, outputs_are, laid, given}
 use Rattle.write.specs.Write.{head_words, output_words, next_words, NextsFit, NextsPut, Reads, Writable, Wrote, LayoutFor, nexts_from, Tabled}
@@ -55,7 +54,7 @@ module _ (b : List ℕ) (A : Accepted b) where
 
 -- ---- where a table can be written
 
-module _ (b : List ℕ) (survey : Survey) (ns : List Node) (s ws r : List ℕ) (P : Tabled b survey ns s ws r) where
+module _ (b : List ℕ) (counts : List ℕ) (ns : List Node) (s ws r : List ℕ) (P : Tabled b counts ns s ws r) where
   table_room : 2 * length (whole_table b) ≤ length r
   unfolding folded_bytes word_bytes
   table_room = omega (arith, all_bytes_length 2 (whole_table b), P.room)
@@ -109,8 +108,8 @@ module _ (b : List ℕ) (survey : Survey) (ns : List Node) (s ws r : List ℕ) (
     explored : Explored layout.bits layout.outputs layout.frames (response b) layout.half s (layout.frames - 1)
     explored = laid_out (λ n m T k. Explored n m T (response b) k s (T - 1)) P.known.explored
 
-    counted : CountsTo layout.bits layout.outputs layout.frames (response b) survey.counts (layout.frames - 1)
-    counted = laid_out (λ n m T _. CountsTo n m T (response b) survey.counts (T - 1)) P.known.counted
+    counted : CountsTo layout.bits layout.outputs layout.frames (response b) counts (layout.frames - 1)
+    counted = laid_out (λ n m T _. CountsTo n m T (response b) counts (T - 1)) P.known.counted
 
     scratch_room : 2 * layout.half ≤ length s
     unfolding scratch_needed all_inputs
@@ -126,7 +125,7 @@ module _ (b : List ℕ) (survey : Survey) (ns : List Node) (s ws r : List ℕ) (
         omega (arith, all, L.columns_is, P.space)
 
     -- the outputs, behind the head
-    pub writable : (r₁ : List ℕ) (at : ℕ) → length r₁ ≡ length r → at ≡ head_length (frames b) → Writable layout ns s ws survey.counts r₁ at
+    pub writable : (r₁ : List ℕ) (at : ℕ) → length r₁ ≡ length r → at ≡ head_length (frames b) → Writable layout ns s ws counts r₁ at
     writable r₁ at long e = record {
       subject = subject_of b ns ws;
       laid = is_laid;
@@ -144,40 +143,40 @@ module _ (b : List ℕ) (survey : Survey) (ns : List Node) (s ws r : List ℕ) (
     }
 
     -- the next states, behind the outputs
-    states_are : total layout.frames (λ t. get_or survey.counts t 0) ≡ total (frames b) (count (2 ^ inputs b) (frames b) (response b))
+    states_are : total layout.frames (λ t. get_or counts t 0) ≡ total (frames b) (count (2 ^ inputs b) (frames b) (response b))
     states_are =
-        ap (λ (T : ℕ). total T (λ t. get_or survey.counts t 0)) frames_is
+        ap (λ (T : ℕ). total T (λ t. get_or counts t 0)) frames_is
         ∙ total_cong (frames b) _ _ (λ t h. P.known.counted.known t (omega (arith, h)))
 
-    nexts_are : nexts_from layout survey.counts ≡ head_length (frames b) + 2 * length (output_words (2 ^ inputs b) (frames b) (response b) (frames b))
+    nexts_are : nexts_from layout counts ≡ head_length (frames b) + 2 * length (output_words (2 ^ inputs b) (frames b) (response b) (frames b))
     unfolding nexts_from
     nexts_are =
         let K : ℕ = 2 ^ inputs b in
         let S : ℕ → ℕ = count K (frames b) (response b) in
-        let all : total layout.frames (λ t. get_or survey.counts t 0) * layout.fan ≡ length (output_words K (frames b) (response b) (frames b)) =
+        let all : total layout.frames (λ t. get_or counts t 0) * layout.fan ≡ length (output_words K (frames b) (response b) (frames b)) =
         ap₂ ◌*◌ states_are (is_laid.fan_is ∙ ap (λ (n : ℕ). 2 ^ n) bits_are) ∙ sym (total_mul (frames b) K S) ∙ sym (entries_length K (frames b) S (folded_machine b).out) in
         ap₂ (λ (T n : ℕ). head_length T + 2 * n) frames_is all
 
-    pub nexts_fit : (r₂ : List ℕ) → length r₂ ≡ length r → NextsFit layout s survey.counts r₂ (nexts_from layout survey.counts)
+    pub nexts_fit : (r₂ : List ℕ) → length r₂ ≡ length r → NextsFit layout s counts r₂ (nexts_from layout counts)
     nexts_fit r₂ long = record {
       y = response b;
       laid = is_laid;
       explored = explored;
       counted = counted;
       scratch_room = scratch_room;
-      room = laid_out (λ n m T _. nexts_from layout survey.counts + 2 * length (next_words (2 ^ n) T (response b) T) ≤ length r₂)
-          (nexts_room b r₂ (head_length (frames b)) (nexts_from layout survey.counts) (omega (arith, table_room, long)) (head_length_lem (frames b)) nexts_are);
+      room = laid_out (λ n m T _. nexts_from layout counts + 2 * length (next_words (2 ^ n) T (response b) T) ≤ length r₂)
+          (nexts_room b r₂ (head_length (frames b)) (nexts_from layout counts) (omega (arith, table_room, long)) (head_length_lem (frames b)) nexts_are);
     }
 
     -- and all is written
     pub written : (r₁ r₂ r₃ ms : List ℕ) (at : ℕ) (e : at ≡ head_length (frames b)) (long : length r₁ ≡ length r) (longer : length r₂ ≡ length r) → r₁ ≡ stored 2 r 0 (head_words b)
-        → Wrote layout ns s ws survey.counts r₁ at ms r₂ → NextsPut layout s survey.counts r₂ (nexts_from layout survey.counts) r₃
+        → Wrote layout ns s ws counts r₁ at ms r₂ → NextsPut layout s counts r₂ (nexts_from layout counts) r₃
         → r₃ ≡ folded_bytes b ++ drop (length (folded_bytes b)) r
     unfolding writable nexts_fit
     written r₁ r₂ r₃ ms at e long longer e₁ o n =
         let K : ℕ = 2 ^ inputs b in
         let f : 2 ^ layout.bits ≡ K = ap (λ (n : ℕ). 2 ^ n) bits_are in
-        table_stored b r r₁ r₂ r₃ at (nexts_from layout survey.counts) table_room (e ∙ head_length_lem (frames b)) (nexts_are ∙ ap (λ (a : ℕ). a + 2 * length (output_words K (frames b) (response b) (frames b))) (sym e)) e₁
+        table_stored b r r₁ r₂ r₃ at (nexts_from layout counts) table_room (e ∙ head_length_lem (frames b)) (nexts_are ∙ ap (λ (a : ℕ). a + 2 * length (output_words K (frames b) (response b) (frames b))) (sym e)) e₁
         ((o (writable r₁ at long e)).0 ∙ ap₂ (λ (K T : ℕ). stored 2 r₁ at (output_words K T (response b) T)) f frames_is)
-        (n (nexts_fit r₂ longer) ∙ ap₂ (λ (K T : ℕ). stored 2 r₂ (nexts_from layout survey.counts) (next_words K T (response b) T)) f frames_is)
+        (n (nexts_fit r₂ longer) ∙ ap₂ (λ (K T : ℕ). stored 2 r₂ (nexts_from layout counts) (next_words K T (response b) T)) f frames_is)
         ∙ folded_written b r

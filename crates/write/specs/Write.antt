@@ -18,7 +18,6 @@ use Rattle.records.specs.Records.{nodes_in}
 use Rattle.descend.specs.declared.Job.{Job}
 use Rattle.explore.specs.declared.Layout.{Layout}
 use Rattle.explore.specs.Explore.{layer_at, Laid, Explored, CountsTo, Subject, Given}
-use Rattle.survey.specs.declared.Survey.{Survey}
 use Rattle.survey.specs.Survey.{work_length, LayoutOf, Known}
 use Rattle.write.specs.declared.Writing.{Writing}
 
@@ -126,10 +125,10 @@ unfoldable pub nexts_from : Layout → (counts : List ℕ) → ℕ
 nexts_from layout counts = head_length layout.frames + 2 * (total layout.frames (λ t. get_or counts t 0) * layout.fan)
 
 -- a table can be written: all is known of an accepted circuit b, and the result r has room
-pub record Tabled (b : List ℕ) (survey : Survey) (ns : List Node) (s ws r : List ℕ) : Type 0 where
+pub record Tabled (b counts : List ℕ) (ns : List Node) (s ws r : List ℕ) : Type 0 where
   pub accepted : Accepted b
   pub records : ℕ
-  pub known : Known b records ns s ws survey.counts
+  pub known : Known b records ns s ws counts
   pub enough : scratch_needed b ≤ length s
   pub space : work_length ≤ length ws
   pub room : length (folded_bytes b) ≤ length r

@@ -17,7 +17,7 @@ use descend::{Job, trace};
 use explore::{Layout, Limits as Explore};
 use nodes::Node;
 use source::{Source, connected_outputs};
-use survey::{Survey, layout_of};
+use survey::{Counts, layout_of};
 use table::Limits;
 use table::head::{connected_at, head_length};
 use words::{store, store_all};
@@ -57,9 +57,9 @@ pub fn put_head(circuit: &[u8], source: Source, counts: &[u16], res: &mut [u8])
         source.outputs as u16,
         source.frames as u16,
     ];
-    store_all(&sizes, 3, res, 0);
+    store_all(&sizes, res, 0);
     let layers = source.frames + 1;
-    store_all(counts, layers, res, Limits::SIZES);
+    store_all(&counts[..layers], res, Limits::SIZES);
     put_connected(circuit, source, res);
 }
 
@@ -68,9 +68,7 @@ fn put_zeros(res: &mut [u8], at: usize, count: usize)
     requires { at + 2 * count ≤ length res.old }
     ensures { res.new ≡ stored 2 res.old at (replicate count 0) }
 {
-    for i in 0..count {
-        store(res, at + 2 * i, 0);
-    }
+    res[at..at + 2 * count].fill(0);
 }
 
 // Stores all next states, layer by layer. Those of the last frame are all state 0, and stand nowhere in the scratch.
@@ -84,7 +82,7 @@ pub fn put_nexts(scratch: &[u16], layout: Layout, counts: &[u16], res: &mut [u8]
     let mut end = at;
     for t in 0..last {
         let count = counts[t] as usize * layout.fan;
-        store_all(&scratch[half + from..], count, res, end);
+        store_all(&scratch[half + from..half + from + count], res, end);
         from = from * layout.fan + 1;
         end += 2 * count;
     }
@@ -97,9 +95,7 @@ fn word_of(work: &[u32], from: usize, outputs: usize) -> u16
     ensures { result ≡ word_in work.now from outputs }
 {
     let mut word: u16 = 0;
-    let mut k = outputs;
-    while 0 < k {
-        k -= 1;
+    for k in (0..outputs).rev() {
         word = 2 * word + (work[from + k] == 1) as u16;
     }
     word
@@ -186,6 +182,7 @@ pub fn put_outputs(
     ensures { Wrote layout nodes.now scratch.now work.old counts.now res.old to work.new res.new }
 {
     let mut writing = first_row(to);
+    // not `for` in `for`: the contracts speak of one row after the other (`next_row`)
     while writing.layer < layout.frames {
         let job = row_job(scratch, layout, writing);
         trace(nodes, work, job);
@@ -193,23 +190,6 @@ pub fn put_outputs(
         let next = next_row(counts, layout, writing);
         writing = next;
     }
-}
-
-// The counts that a survey found.
-fn counts_of(found: Survey) -> [u16; Explore::LAYERS]
-    ensures { result ≡ found.counts }
-{
-    found.counts
-}
-
-// Stores the head, and answers where the outputs begin.
-fn put_front(circuit: &[u8], res: &mut [u8], found: Survey, source: Source) -> usize
-    requires { SourceOf circuit.now source × CountsTo (inputs (sourced source circuit.now)) (outputs (sourced source circuit.now)) (frames (sourced source circuit.now)) (response (sourced source circuit.now)) found.counts (frames (sourced source circuit.now) - 1) × (head_length (frames (sourced source circuit.now)) ≤ length res.old) }
-    ensures { (result ≡ head_length (frames (sourced source circuit.now))) × (res.new ≡ stored 2 res.old 0 (head_words (sourced source circuit.now))) }
-{
-    let counts = counts_of(found);
-    put_head(circuit, source, &counts, res);
-    head_length(source.frames)
 }
 
 // Where the next states begin: behind the head, and a word of outputs for each entry.
@@ -225,32 +205,23 @@ fn nexts_from(counts: &[u16], layout: Layout) -> usize
     head_length(frames) + 2 * (states * layout.fan)
 }
 
-// Stores all next states, behind the outputs.
-fn put_back(scratch: &[u16], res: &mut [u8], layout: Layout, found: Survey)
-    requires { NextsFit layout scratch.now found.counts res.old (nexts_from layout found.counts) }
-    ensures { NextsPut layout scratch.now found.counts res.old (nexts_from layout found.counts) res.new }
-{
-    let counts = counts_of(found);
-    let at = nexts_from(&counts, layout);
-    put_nexts(scratch, layout, &counts, res, at);
-}
-
 // Writes the table of an accepted circuit, or of a network by its source, that was surveyed with enough records. The rest of the result stays as it was.
 pub fn write_table(
     circuit: &[u8],
-    found: Survey,
+    counts: Counts,
     nodes: &[Node],
     scratch: &[u16],
     work: &mut [u32],
     res: &mut [u8],
     source: Source,
 )
-    requires { SourceOf circuit.now source × Tabled (sourced source circuit.now) found nodes.now scratch.now work.old res.old }
+    requires { SourceOf circuit.now source × Tabled (sourced source circuit.now) counts nodes.now scratch.now work.old res.old }
     ensures { res.new ≡ folded_bytes (sourced source circuit.now) ++ drop (length (folded_bytes (sourced source circuit.now))) res.old }
 {
-    let at = put_front(circuit, res, found, source);
+    put_head(circuit, source, &counts, res);
     let layout = layout_of(source);
-    let counts = counts_of(found);
+    let at = head_length(source.frames);
     put_outputs(nodes, scratch, work, &counts, layout, res, at);
-    put_back(scratch, res, layout, found);
+    let nexts = nexts_from(&counts, layout);
+    put_nexts(scratch, layout, &counts, res, nexts);
 }

@@ -15,4 +15,4 @@ bytes_needed-bytes-requires c =
 pub returns : goal.returns
 returns c =
     let W = well _ _ c.requires.0 in
-    plan_is (sourced c.args.source c.args.circuit.now) c.args.survey.counts _ _ _ _ _ c.requires.1 W.headed.sizes.frames_from c.requires.2 W.head_is.inputs_is W.head_is.outputs_is W.head_is.frames_is c.of.ensures c.bytes_needed-bytes.ensures
+    plan_is (sourced c.args.source c.args.circuit.now) c.args.counts _ _ _ _ c.requires.1 W.headed.sizes.frames_from c.requires.2 W.head_is.inputs_is W.head_is.outputs_is W.head_is.frames_is c.bytes_needed-bytes.ensures

@@ -9,7 +9,3 @@ use Rattle.build.proofs.build.Given as goal
 abbrev pub invariant-loop-s : goal.invariant-loop-s
 invariant-loop-s l =
     Turning (sourced l.source l.circuit) l.shape.room (length l.fn.nodes) (length l.fn.work) l.s l.nodes l.work
-
-abbrev pub decreases-loop-s : goal.decreases-loop-s
-decreases-loop-s l =
-    l.count - l.s

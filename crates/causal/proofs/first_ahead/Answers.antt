@@ -16,7 +16,7 @@ use Rattle.lanes.proofs.Laws.{room_ready}
 use Rattle.causal.specs.Played.{Firsts}
 use Rattle.causal.proofs.Parts.{output_few}
 use Rattle.causal.proofs.Played.{outputs_played, placed}
-use Rattle.causal.proofs.Pass.{Pass, pass_start, pass_more, pass_end, pass_early}
+use Rattle.causal.proofs.Pass.{Pass, pass_start, pass_more, pass_some, pass_none, pass_early}
 use Rattle.causal.proofs.first_ahead.Goals as goal
 
 pub power-count-requires : goal.power-count-requires
@@ -52,7 +52,7 @@ loop-at-init c =
       count,
       search rules,
       search rules,
-      pass_start b p.headed c.args.from c.requires.from_bound c.args.source.total p.head_is.total_is,
+      pass_start b p.headed c.args.from (omega arith) c.args.source.total p.head_is.total_is,
       λ h. absurd (omega arith),
       c.first_uses-firsts.ensures,
       room_ready c.args.circuit.now _ c.room-lanes.ensures,
@@ -94,7 +94,7 @@ returns-then-found-from c =
     let on : Pass (sourced c.args.source c.args.circuit.now) c.args.from c.first_differing-found.result (c.loop-at.at + lane_count) =
     pass_more (sourced c.args.source c.args.circuit.now) known.headed c.args.from c.loop-at.found c.loop-at.at c.first_differing-found.result c.loop-at.invariant.5 c.first_differing-found.ensures.first_differing
     in
-    pass_early (sourced c.args.source c.args.circuit.now) known.headed c.args.from c.requires.by_index c.first_differing-found.result _ (omega (arith, c.if-found-from.true)) on
+    pass_early (sourced c.args.source c.args.circuit.now) known.headed c.args.from c.requires.by_index c.first_differing-found.result _ (omega (arith, c.if-found-from.true)) c.requires.from_bound on
 
 pub loop-at-preserved : goal.loop-at-preserved
 loop-at-preserved c =
@@ -116,9 +116,16 @@ loop-at-preserved c =
       c.store_signals.ensures.ready,
     )
 
-pub returns : goal.returns
-returns c =
+pub returns-then-found-source : goal.returns-then-found-source
+returns-then-found-source c =
     let known : WellFormed (sourced c.args.source c.args.circuit.now) (head_of c.args.source) =
     well _ _ c.requires.source_of
     in
-    pass_end (sourced c.args.source c.args.circuit.now) known.headed c.args.from c.requires.by_index c.loop-at.found c.loop-at.at _ c.loop-at.invariant.2 (omega arith) c.loop-at.invariant.5
+    pass_some _ known.headed c.args.from c.requires.by_index c.loop-at.found c.loop-at.at _ c.loop-at.invariant.2 (omega arith) c.loop-at.invariant.5 (omega (arith, known.head_is.total_is))
+
+pub returns-else-found-source : goal.returns-else-found-source
+returns-else-found-source c =
+    let known : WellFormed (sourced c.args.source c.args.circuit.now) (head_of c.args.source) =
+    well _ _ c.requires.source_of
+    in
+    pass_none _ known.headed c.args.from c.requires.by_index c.loop-at.found c.loop-at.at _ c.loop-at.invariant.2 (omega arith) c.loop-at.invariant.5 (omega (arith, known.head_is.total_is))

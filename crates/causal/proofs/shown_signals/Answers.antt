@@ -1,28 +1,14 @@
--- `causal::shown_signals` meets its contract. The invariant: the signals of the places before q are stored.
+-- `causal::shown_signals` meets its contract: signal q is the one that place q shows.
 -- Assumes nothing.
-use mathlib.Core.Path.{refl}
-use native.Mathlib.Omega.{arith}
-use lib.ListN.{length-set}
+use Rattle.std.proofs.Common.{rules, ◌≡◌, ◌<◌}
 use Rattle.circuit.specs.Limits.{most_signals}
 use Rattle.source.specs.Source.{shown_signal}
-use Rattle.causal.proofs.Places.{stored_more}
+use Rattle.lanes.proofs.Made.{made_at}
 use Rattle.causal.proofs.shown_signals.Goals as goal
-
-pub loop-q-init : goal.loop-q-init
-loop-q-init c =
-    (omega arith, refl, λ i h. absurd (omega arith))
-
-pub shown_signal-requires : goal.shown_signal-requires
-shown_signal-requires c =
-    c.requires
-
-pub loop-q-preserved : goal.loop-q-preserved
-loop-q-preserved c = (
-  omega arith,
-  simp length-set c.loop-q.invariant.1,
-  stored_more (shown_signal c.args.source) most_signals c.loop-q.shown c.loop-q.q c.shown_signal.result (omega arith) c.loop-q.invariant.2 c.shown_signal.ensures,
-)
 
 pub returns : goal.returns
 returns c =
-    record { as_many = c.loop-q.invariant.1; are = λ q h. c.loop-q.invariant.2 q (omega arith) }
+    record {
+      as_many = c.from_fn.ensures.items.long;
+      are = made_at _ _ _ 0 (λ q y. (y ≡ shown_signal c.args.source q) × (y < most_signals)) (λ q y f k. (search rules, search rules)) _ c.from_fn.ensures.items;
+    }

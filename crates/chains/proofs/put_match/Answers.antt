@@ -2,55 +2,19 @@
 -- Assumes nothing.
 use mathlib.Core.Path.{◌≡◌, sym, ap, ◌∙◌}
 use mathlib.Core.List.{[]}
-use Prim.Native.Nat.{ℕ, ◌+◌, ◌≤◌}
+use Prim.Native.Nat.{ℕ, ◌+◌}
 use native.Mathlib.Omega.{arith}
-use lib.ListN.{length}
 use Rattle.circuit.specs.Lists.{grown, listed}
 use Rattle.unfolded.specs.Unfolded.{chain, input_literal, matching}
 use Rattle.circuit.proofs.Lists.{listed_length, listed_more}
-use Rattle.unfolded.proofs.Gates.{chain_length}
 use Rattle.chains.specs.Chains.{gates_stored}
-use Rattle.chains.proofs.Stored.{gates_none, fits_still, chain_more}
+use Rattle.chains.proofs.Stored.{gates_none, chain_more}
 use Rattle.chains.proofs.put_match.Goals as goal
 
 pub loop-i-init : goal.loop-i-init
 unfolding chain grown
 loop-i-init c =
     (omega arith, sym (gates_none _ _ _))
-
-pub overflow_add-k : goal.overflow_add-k
-overflow_add-k c =
-    omega (arith, c.requires.fits, c.requires.t_lt_most_frames)
-
-pub chain_end-left-requires : goal.chain_end-left-requires
-chain_end-left-requires c =
-    (c.requires.fits.base_to, omega arith, omega (arith, c.requires.fits, c.requires.t_lt_most_frames))
-
-pub input_literal-right-requires : goal.input_literal-right-requires
-input_literal-right-requires c =
-    (c.requires.fits.inputs_to, c.requires.t_lt_most_frames.0, c.loop-i-test.true)
-
-pub overflow_add-k-in-loop-i : goal.overflow_add-k-in-loop-i
-overflow_add-k-in-loop-i c =
-    omega (arith, c.requires.fits, c.requires.t_lt_most_frames)
-
-pub put_gate-requires : goal.put_gate-requires
-put_gate-requires c =
-    let many : length (chain (c.args.target.base + c.args.k) 1 (listed [] (input_literal c.args.target.inputs c.args.t c.args.w) c.loop-i.i)) ≡ c.loop-i.i =
-    chain_length _ 1 _ ∙ listed_length _ c.loop-i.i
-    in
-    let within : c.args.k + length (chain (c.args.target.base + c.args.k) 1 (listed [] (input_literal c.args.target.inputs c.args.t c.args.w) c.loop-i.i))
-    ≤ c.args.target.gates =
-    omega (arith, many, c.loop-i.invariant.0, c.requires.t_lt_most_frames)
-    in
-    record {
-      fits = fits_still _ c.args.res.now _ _ _ c.requires.fits c.loop-i.invariant.1 (within);
-      k_lt_gates = (omega (arith, c.requires.t_lt_most_frames), omega (arith, c.chain_end-left.ensures.1), c.input_literal-right.ensures.1);
-    }
-
-pub overflow_step-i : goal.overflow_step-i
-overflow_step-i c =
-    omega (arith, c.requires.fits, c.requires.t_lt_most_frames)
 
 pub loop-i-preserved : goal.loop-i-preserved
 loop-i-preserved c =

@@ -8,11 +8,11 @@ use Rattle.commit.proofs.commit.Goals as goal
 
 pub returns-clause-verdict : goal.returns-clause-verdict
 returns-clause-verdict c =
-    commit_answered c.args.circuit.now (plan_numbers c.args.plan) _ _ _ _ _ _ _ _ c.wanted.ensures c.fold_wanted.ensures
+    commit_answered _ _ _ _ _ _ _ _ _ c.fold_wanted.ensures (plan_numbers c.args.plan) c.numbers-numbers.ensures
 
 pub returns-clause-res : goal.returns-clause-res
 returns-clause-res c =
-    commit_written c.args.circuit.now (plan_numbers c.args.plan) _ _ _ _ _ _ _ _ c.wanted.ensures c.fold_wanted.ensures
+    commit_written _ _ _ _ _ _ _ _ _ c.fold_wanted.ensures (plan_numbers c.args.plan) c.numbers-numbers.ensures
 
 pub returns-clause-scratch : goal.returns-clause-scratch
 returns-clause-scratch c =
@@ -24,7 +24,7 @@ returns-clause-nodes c =
 
 pub returns-clause-promised : goal.returns-clause-promised
 returns-clause-promised c =
-    commit_promised c.args.circuit.now (plan_numbers c.args.plan) _ _ _ _ _ _ _ _ c.wanted.ensures c.fold_wanted.ensures
+    commit_promised _ _ _ _ _ _ _ _ _ c.fold_wanted.ensures
 
 pub returns-clause-committing : goal.returns-clause-committing
 returns-clause-committing c =

@@ -1,5 +1,6 @@
 -- `commit::commit_numbers` meets its contract: the plan with these numbers is wanted.
 -- Assumes nothing.
+use mathlib.Core.Path.{refl}
 use lib.ListN.{length}
 use Rattle.folded.proofs.Plans.{committing}
 use Rattle.commit.proofs.Committed.{commit_answered, commit_written, commit_promised}
@@ -7,11 +8,11 @@ use Rattle.commit.proofs.commit_numbers.Goals as goal
 
 pub returns-clause-verdict : goal.returns-clause-verdict
 returns-clause-verdict c =
-    commit_answered c.args.circuit.now c.args.numbers.now _ _ _ _ _ _ _ _ c.of.ensures c.fold_wanted.ensures
+    commit_answered _ _ _ _ _ _ _ _ _ c.fold_wanted.ensures c.args.numbers.now refl
 
 pub returns-clause-res : goal.returns-clause-res
 returns-clause-res c =
-    commit_written c.args.circuit.now c.args.numbers.now _ _ _ _ _ _ _ _ c.of.ensures c.fold_wanted.ensures
+    commit_written _ _ _ _ _ _ _ _ _ c.fold_wanted.ensures c.args.numbers.now refl
 
 pub returns-clause-scratch : goal.returns-clause-scratch
 returns-clause-scratch c =
@@ -23,7 +24,7 @@ returns-clause-nodes c =
 
 pub returns-clause-promised : goal.returns-clause-promised
 returns-clause-promised c =
-    commit_promised c.args.circuit.now c.args.numbers.now _ _ _ _ _ _ _ _ c.of.ensures c.fold_wanted.ensures
+    commit_promised _ _ _ _ _ _ _ _ _ c.fold_wanted.ensures
 
 pub returns-clause-committing : goal.returns-clause-committing
 returns-clause-committing c =

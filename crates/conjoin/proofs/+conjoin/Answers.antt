@@ -1,37 +1,44 @@
-use mathlib.Core.Path.{◌∙◌}
+use mathlib.Core.Path.{refl, ◌∙◌}
 use native.Mathlib.Omega.{arith}
-use Rattle.conjoin.proofs.Turn.{known_is, cached_is, to_level, left_falls, low_ready, none_is, high_ready, join_ready, joined_is}
+use Rattle.conjoin.proofs.Turn.{known_is, known_real, cached_is, cached_real, to_level, left_falls, low_ready, low_none_is, high_ready, high_none_is, join_ready, lacking_is, joined_is}
 use Rattle.conjoin.proofs.+conjoin.Goals as goal
 
 -- what is known at once, or from the cache
-pub returns-then-r : goal.returns-then-r
-returns-then-r t c = known_is c.args.shape.inputs c.args.shape.room c.args.shape.cache c.args.nodes.now c.args.work.now c.args.pair c.args.left c.requires c.known-r.result c.known-r.ensures c.if-r.true
+pub returns-in-Some-clause-is : goal.returns-in-Some-clause-is
+returns-in-Some-clause-is t c = known_is c.requires c.in-Some.ensures.is (known_real c.requires c.in-Some.id c.in-Some.ensures.real)
 
-pub returns-then-c : goal.returns-then-c
-returns-then-c t c = cached_is c.args.shape.inputs c.args.shape.room c.args.shape.cache c.args.nodes.now c.args.work.now c.args.pair c.args.left c.requires c.slot_of-slot.result c.slot_of-slot.ensures c.look-c.result c.look-c.ensures c.if-c.true
+pub returns-in-Some-look-clause-is : goal.returns-in-Some-look-clause-is
+returns-in-Some-look-clause-is t c = cached_is c.requires c.slot_of-slot.ensures c.in-Some-look.ensures
+
+pub returns-in-Some-look-clause-real : goal.returns-in-Some-look-clause-real
+returns-in-Some-look-clause-real t c = cached_real c.requires c.slot_of-slot.ensures c.in-Some-look.ensures
 
 -- the low half
 pub overflow_sub-shape : goal.overflow_sub-shape
-overflow_sub-shape t c = to_level c.args.shape.inputs c.args.shape.room c.args.shape.cache c.args.nodes.now c.args.work.now c.args.pair c.args.left c.requires c.slot_of-slot.result c.slot_of-slot.ensures c.known-r.result c.known-r.ensures c.if-r.false c.node_of-x.result c.node_of-y.result c.node_of-x.ensures c.node_of-y.ensures c.top_of-level.result c.top_of-level.ensures
+overflow_sub-shape t c = to_level c.requires c.slot_of-slot.ensures c.in_default.ensures.is c.node_of-x.ensures c.node_of-y.ensures c.top_of-level.ensures
 
-pub conjoin-low-requires : goal.conjoin-low-requires
-conjoin-low-requires t c =
-    (omega (arith, c.decreases, left_falls c.args.shape.inputs c.args.shape.room c.args.shape.cache c.args.nodes.now c.args.work.now c.args.pair c.args.left c.requires c.slot_of-slot.result c.slot_of-slot.ensures c.known-r.result c.known-r.ensures c.if-r.false c.node_of-x.result c.node_of-y.result c.node_of-x.ensures c.node_of-y.ensures c.top_of-level.result c.top_of-level.ensures), low_ready c.args.shape.inputs c.args.shape.room c.args.shape.cache c.args.nodes.now c.args.work.now c.args.pair c.args.left c.requires c.slot_of-slot.result c.slot_of-slot.ensures c.known-r.result c.known-r.ensures c.if-r.false c.node_of-x.result c.node_of-y.result c.node_of-x.ensures c.node_of-y.ensures c.top_of-level.result c.top_of-level.ensures c.halve-h.result c.halve-h.ensures)
+pub conjoin-requires : goal.conjoin-requires
+conjoin-requires t c = (omega (arith, c.decreases, left_falls c.requires c.slot_of-slot.ensures c.in_default.ensures.is c.node_of-x.ensures c.node_of-y.ensures c.top_of-level.ensures), low_ready c.requires c.slot_of-slot.ensures c.in_default.ensures.is c.node_of-x.ensures c.node_of-y.ensures c.top_of-level.ensures c.halve-halves.ensures)
 
-pub returns-then-low : goal.returns-then-low
-returns-then-low t c = none_is c.args.shape.inputs c.args.shape.room c.args.shape.cache c.args.nodes.now c.args.work.now c.args.pair c.args.left c.requires c.slot_of-slot.result c.slot_of-slot.ensures c.known-r.result c.known-r.ensures c.if-r.false c.node_of-x.result c.node_of-y.result c.node_of-x.ensures c.node_of-y.ensures c.top_of-level.result c.top_of-level.ensures c.halve-h.result c.halve-h.ensures c.conjoin-low.result c.conjoin-low.new.nodes c.conjoin-low.new.work c.conjoin-low.auto.nodes c.conjoin-low.auto.work c.conjoin-low.ensures c.if-low.true
+pub returns-in_err-low-clause-is : goal.returns-in_err-low-clause-is
+returns-in_err-low-clause-is t c = rw c.from_residual.ensures (low_none_is c.requires c.slot_of-slot.ensures c.in_default.ensures.is c.node_of-x.ensures c.node_of-y.ensures c.top_of-level.ensures c.halve-halves.ensures c.conjoin.new.nodes c.conjoin.auto.nodes c.conjoin.auto.work c.in_err-low.ensures.is refl)
 
 -- the high half
 pub overflow_sub-shape-2 : goal.overflow_sub-shape-2
-overflow_sub-shape-2 t c = to_level c.args.shape.inputs c.args.shape.room c.args.shape.cache c.args.nodes.now c.args.work.now c.args.pair c.args.left c.requires c.slot_of-slot.result c.slot_of-slot.ensures c.known-r.result c.known-r.ensures c.if-r.false c.node_of-x.result c.node_of-y.result c.node_of-x.ensures c.node_of-y.ensures c.top_of-level.result c.top_of-level.ensures
+overflow_sub-shape-2 t c = to_level c.requires c.slot_of-slot.ensures c.in_default.ensures.is c.node_of-x.ensures c.node_of-y.ensures c.top_of-level.ensures
 
-pub conjoin-high-requires : goal.conjoin-high-requires
-conjoin-high-requires t c =
-    (omega (arith, c.decreases, left_falls c.args.shape.inputs c.args.shape.room c.args.shape.cache c.args.nodes.now c.args.work.now c.args.pair c.args.left c.requires c.slot_of-slot.result c.slot_of-slot.ensures c.known-r.result c.known-r.ensures c.if-r.false c.node_of-x.result c.node_of-y.result c.node_of-x.ensures c.node_of-y.ensures c.top_of-level.result c.top_of-level.ensures), high_ready c.args.shape.inputs c.args.shape.room c.args.shape.cache c.args.nodes.now c.args.work.now c.args.pair c.args.left c.requires c.slot_of-slot.result c.slot_of-slot.ensures c.known-r.result c.known-r.ensures c.if-r.false c.node_of-x.result c.node_of-y.result c.node_of-x.ensures c.node_of-y.ensures c.top_of-level.result c.top_of-level.ensures c.halve-h.result c.halve-h.ensures c.conjoin-low.result c.conjoin-low.new.nodes c.conjoin-low.new.work c.conjoin-low.auto.nodes c.conjoin-low.auto.work c.conjoin-low.ensures c.if-low.false)
+pub conjoin-requires-2 : goal.conjoin-requires-2
+conjoin-requires-2 t c = (omega (arith, c.decreases, left_falls c.requires c.slot_of-slot.ensures c.in_default.ensures.is c.node_of-x.ensures c.node_of-y.ensures c.top_of-level.ensures), high_ready c.requires c.slot_of-slot.ensures c.in_default.ensures.is c.node_of-x.ensures c.node_of-y.ensures c.top_of-level.ensures c.halve-halves.ensures c.conjoin.new.nodes c.conjoin.auto.nodes c.conjoin.auto.work c.in_ok-low.ensures.is c.in_ok-low.ensures.real)
+
+pub returns-in_err-high-clause-is : goal.returns-in_err-high-clause-is
+returns-in_err-high-clause-is t c = rw c.from_residual-in_err-high.ensures (high_none_is c.requires c.slot_of-slot.ensures c.in_default.ensures.is c.node_of-x.ensures c.node_of-y.ensures c.top_of-level.ensures c.halve-halves.ensures c.conjoin.new.nodes c.conjoin.auto.nodes c.conjoin.auto.work c.in_ok-low.ensures.is c.in_ok-low.ensures.real c.conjoin-2.new.nodes (c.conjoin-2.auto.nodes ∙ c.conjoin.auto.nodes) (c.conjoin-2.auto.work ∙ c.conjoin.auto.work) c.in_err-high.ensures.is refl)
 
 -- their join
-pub join-made-requires : goal.join-made-requires
-join-made-requires t c = join_ready c.args.shape.inputs c.args.shape.room c.args.shape.cache c.args.nodes.now c.args.work.now c.args.pair c.args.left c.requires c.slot_of-slot.result c.slot_of-slot.ensures c.known-r.result c.known-r.ensures c.if-r.false c.node_of-x.result c.node_of-y.result c.node_of-x.ensures c.node_of-y.ensures c.top_of-level.result c.top_of-level.ensures c.halve-h.result c.halve-h.ensures c.conjoin-low.result c.conjoin-low.new.nodes c.conjoin-low.new.work c.conjoin-low.auto.nodes c.conjoin-low.auto.work c.conjoin-low.ensures c.if-low.false c.conjoin-high.result c.conjoin-high.new.nodes c.conjoin-high.new.work (c.conjoin-high.auto.nodes ∙ c.conjoin-low.auto.nodes) (c.conjoin-high.auto.work ∙ c.conjoin-low.auto.work) c.conjoin-high.ensures
+pub join-requires : goal.join-requires
+join-requires t c = join_ready c.requires c.slot_of-slot.ensures c.in_default.ensures.is c.node_of-x.ensures c.node_of-y.ensures c.top_of-level.ensures c.halve-halves.ensures c.conjoin.new.nodes c.conjoin.auto.nodes c.conjoin.auto.work c.in_ok-low.ensures.is c.in_ok-low.ensures.real c.conjoin-2.new.nodes (c.conjoin-2.auto.nodes ∙ c.conjoin.auto.nodes) (c.conjoin-2.auto.work ∙ c.conjoin.auto.work) c.in_ok-high.ensures.is c.in_ok-high.ensures.real
 
-pub returns : goal.returns
-returns t c = joined_is c.args.shape.inputs c.args.shape.room c.args.shape.cache c.args.nodes.now c.args.work.now c.args.pair c.args.left c.requires c.slot_of-slot.result c.slot_of-slot.ensures c.known-r.result c.known-r.ensures c.if-r.false c.node_of-x.result c.node_of-y.result c.node_of-x.ensures c.node_of-y.ensures c.top_of-level.result c.top_of-level.ensures c.halve-h.result c.halve-h.ensures c.conjoin-low.result c.conjoin-low.new.nodes c.conjoin-low.new.work c.conjoin-low.auto.nodes c.conjoin-low.auto.work c.conjoin-low.ensures c.if-low.false c.conjoin-high.result c.conjoin-high.new.nodes c.conjoin-high.new.work (c.conjoin-high.auto.nodes ∙ c.conjoin-low.auto.nodes) (c.conjoin-high.auto.work ∙ c.conjoin-low.auto.work) c.conjoin-high.ensures c.join-made.result c.join-made.new.nodes c.keep.new.work c.join-made.ensures c.keep.ensures
+pub returns-in_err-made-clause-is : goal.returns-in_err-made-clause-is
+returns-in_err-made-clause-is t c = rw c.from_residual-in_err-made.ensures (lacking_is c.requires c.slot_of-slot.ensures c.in_default.ensures.is c.node_of-x.ensures c.node_of-y.ensures c.top_of-level.ensures c.halve-halves.ensures c.conjoin.new.nodes c.conjoin.auto.nodes c.conjoin.auto.work c.in_ok-low.ensures.is c.in_ok-low.ensures.real c.conjoin-2.new.nodes (c.conjoin-2.auto.nodes ∙ c.conjoin.auto.nodes) (c.conjoin-2.auto.work ∙ c.conjoin.auto.work) c.in_ok-high.ensures.is c.join.new.nodes c.in_err-made.ensures.is)
+
+pub returns-clause-is : goal.returns-clause-is
+returns-clause-is t c = joined_is c.requires c.slot_of-slot.ensures c.in_default.ensures.is c.node_of-x.ensures c.node_of-y.ensures c.top_of-level.ensures c.halve-halves.ensures c.conjoin.new.nodes c.conjoin.auto.nodes c.conjoin.auto.work c.in_ok-low.ensures.is c.in_ok-low.ensures.real c.conjoin-2.new.nodes (c.conjoin-2.auto.nodes ∙ c.conjoin.auto.nodes) (c.conjoin-2.auto.work ∙ c.conjoin.auto.work) c.in_ok-high.ensures.is c.join.new.nodes c.in_ok-made.ensures.is c.keep.ensures

@@ -16,7 +16,7 @@ use Rattle.layered.specs.Search.{tally, total}
 use Rattle.table.specs.Table.{states, entries_below, outputs_at, layer_part}
 use Rattle.table.proofs.Offsets.{Laid, laid, row_small}
 use Rattle.unfolded.specs.Counted.{ones, frame_needs}
-use Rattle.table.proofs.Parts.{count_in, part_is, part_in, part_length}
+use Rattle.table.proofs.Parts.{count_in, part_is, part_in}
 use Rattle.counting.proofs.Needs.{cond_most, ones_are}
 use Rattle.counting.proofs.frame_needs.Goals as goal
 use Rattle.counting.proofs.frame_needs.Goals.{Start}
@@ -62,9 +62,6 @@ module _ (s : Start) (n : ℕ) (en : (n ≡ states (b₀ s) s.args.t) × (n < 65
     part-whole : part ≡ layer_part (b₀ s) (outputs_at (b₀ s)) s.args.t
     part-whole = part_is (b₀ s) _ _ _ _ from_is (ap (λ (k : ℕ). s.args.layout.outputs + 2 * m + 2 * k) edges_are)
 
-    part-few : length part ≤ 33554432
-    part-few = omega (arith, edges_few, edges_are, ap length part-whole, part_length (b₀ s) (outputs_at (b₀ s)) s.args.t (omega (arith, lay s)) s.requires.layout_value.2)
-
     -- the bits 1 in it
     ones_is : (z : ℕ) → z ≡ total (length part / 2) (λ e. tally s.args.sizes.outputs (bit (word_at part (2 * e)))) → z ≡ ones (b₀ s) s.args.t
     ones_is z ez =
@@ -85,53 +82,19 @@ module _ (s : Start) (n : ℕ) (en : (n ≡ states (b₀ s) s.args.t) × (n < 65
 pub states_of-requires : goal.states_of-requires
 states_of-requires c = count_in c.args.table.now c.requires.table_headed c.args.t (omega (arith, c.requires.layout_value.2))
 
-pub overflow_mul-edges : goal.overflow_mul-edges
-overflow_mul-edges c = omega (arith, edges_few (goal.at.overflow_mul-edges c).Start _ c.states_of.ensures)
-
-pub entries_below-requires : goal.entries_below-requires
-entries_below-requires c =
-    let l = lay (goal.at.entries_below-requires c).Start in record {
-      words_value = (l.words_is, l.words_to);
-      layer_le_most_frames = (omega (arith, l.frames_is, c.requires.layout_value.2, l.frames_to), omega (arith, count_in c.args.table.now c.requires.table_headed c.args.t (omega (arith, c.requires.layout_value.2))));
-    }
+pub entries_below-requires-clause-layer_le_most_frames : goal.entries_below-requires-clause-layer_le_most_frames
+entries_below-requires-clause-layer_le_most_frames c =
+    let l = lay (goal.at.entries_below-requires-clause-layer_le_most_frames c).Start in
+    (omega (arith, l.frames_is, c.requires.layout_value.2, l.frames_to), omega (arith, count_in c.args.table.now c.requires.table_headed c.args.t (omega (arith, c.requires.layout_value.2))))
 
 pub overflow_add-from : goal.overflow_add-from
 overflow_add-from c = omega (arith, within (goal.at.overflow_add-from c).Start _ c.states_of.ensures _ c.entries_below.ensures, c.well_formed)
-
-pub overflow_mul-to : goal.overflow_mul-to
-overflow_mul-to c = omega (arith, edges_few (goal.at.overflow_mul-to c).Start _ c.states_of.ensures)
 
 pub overflow_add-to : goal.overflow_add-to
 overflow_add-to c = omega (arith, within (goal.at.overflow_add-to c).Start _ c.states_of.ensures _ c.entries_below.ensures, c.well_formed)
 
 pub slice_bounds-ones_in-end : goal.slice_bounds-ones_in-end
 slice_bounds-ones_in-end c = within (goal.at.slice_bounds-ones_in-end c).Start _ c.states_of.ensures _ c.entries_below.ensures
-
-pub ones_in-ones-requires : goal.ones_in-ones-requires
-ones_in-ones-requires c =
-    let s = (goal.at.ones_in-ones-requires c).Start in
-    (omega (arith, outputs_are s, s.requires.table_headed.sized), part-few s _ c.states_of.ensures _ c.entries_below.ensures)
-
-pub gathered-entering-requires : goal.gathered-entering-requires
-gathered-entering-requires c = omega (arith, (lay (goal.at.gathered-entering-requires c).Start).frames_is, c.requires.layout_value.2)
-
-pub overflow_mul-result : goal.overflow_mul-result
-overflow_mul-result c = omega (arith, matches-few (goal.at.overflow_mul-result c).Start)
-
-pub overflow_add-result : goal.overflow_add-result
-overflow_add-result c =
-    let s = (goal.at.overflow_add-result c).Start in
-    omega (arith, gathered-few s _ c.states_of.ensures _ c.gathered-entering.ensures, c.ones_in-ones.ensures.1)
-
-pub overflow_add-result-2 : goal.overflow_add-result-2
-overflow_add-result-2 c =
-    let s = (goal.at.overflow_add-result-2 c).Start in
-    omega (arith, edges_few s _ c.states_of.ensures, gathered-few s _ c.states_of.ensures _ c.gathered-entering.ensures, c.ones_in-ones.ensures.1)
-
-pub overflow_add-result-3 : goal.overflow_add-result-3
-overflow_add-result-3 c =
-    let s = (goal.at.overflow_add-result-3 c).Start in
-    omega (arith, matches-few s, edges_few s _ c.states_of.ensures, gathered-few s _ c.states_of.ensures _ c.gathered-entering.ensures, c.ones_in-ones.ensures.1)
 
 pub returns : goal.returns
 unfolding frame_needs

@@ -1,7 +1,7 @@
 -- `counting::ones_of` meets its contract. The invariant: the bits 1 so far are counted.
 -- Assumes nothing.
 use mathlib.Core.Path.{◌≡◌, sym, ap, ◌∙◌}
-use Prim.Native.Nat.{ℕ, ◌≤◌}
+use Prim.Native.Nat.{ℕ}
 use native.Mathlib.Omega.{arith}
 use Rattle.circuit.specs.Lists.{bit}
 use Rattle.layered.specs.Search.{tally}
@@ -15,20 +15,8 @@ unfolding tally
 loop-j-init c =
     (omega arith, omega arith)
 
-pub is_set-requires : goal.is_set-requires
-is_set-requires c =
-    omega (arith, c.loop-j-test.true, c.requires)
-
 pub overflow_add-ones : goal.overflow_add-ones
-overflow_add-ones c =
-    let few : c.loop-j.ones ≤ 16 =
-    omega (arith, c.loop-j.invariant.0, c.loop-j.invariant.1, tally_at_most (bit c.args.word) c.loop-j.j, c.requires)
-    in
-    omega (arith, few)
-
-pub overflow_step-j : goal.overflow_step-j
-overflow_step-j c =
-    omega (arith, c.loop-j-test.true, c.requires)
+overflow_add-ones c = omega (arith, c.loop-j.invariant.0, c.loop-j.invariant.1, tally_at_most (bit c.args.word) c.loop-j.j, c.requires)
 
 pub loop-j-preserved : goal.loop-j-preserved
 loop-j-preserved c =
@@ -40,8 +28,7 @@ loop-j-preserved c =
 
 pub returns : goal.returns
 returns c =
-    let few : c.loop-j.ones ≤ 16 =
-    omega (arith, c.loop-j.invariant.0, c.loop-j.invariant.1, tally_at_most (bit c.args.word) c.loop-j.j, c.requires)
-    in
-    let e : c.loop-j.j ≡ c.args.count = omega (arith, c.loop-j-test.false) in
-    (c.loop-j.invariant.1 ∙ ap (λ (j : ℕ). tally j (bit c.args.word)) e, few)
+    let e : c.loop-j.j ≡ c.args.count = omega (arith, c.loop-j-test.false) in (
+      c.loop-j.invariant.1 ∙ ap (λ (j : ℕ). tally j (bit c.args.word)) e,
+      omega (arith, c.loop-j.invariant.0, c.loop-j.invariant.1, tally_at_most (bit c.args.word) c.loop-j.j, c.requires),
+    )

@@ -3,19 +3,16 @@ use Rattle.descend.proofs.Laws.{tracing_first, followable, expandable, tracing_o
 use Rattle.descend.proofs.trace.Goals as goal
 
 pub loop-i-init : goal.loop-i-init
-loop-i-init c = record { i_in = omega arith; tracing = λ t. tracing_first c.args.nodes.now c.args.work.now c.args.job t }
+loop-i-init c = λ t. tracing_first c.args.nodes.now c.args.work.now c.args.job t
 
 pub follow-f-requires : goal.follow-f-requires
-follow-f-requires c = followable c.args.nodes.now c.args.work.now c.args.job c.requires c.loop-i.i c.loop-i.work (c.loop-i.invariant.tracing c.requires) c.loop-i-test.true c.id_at.result c.id_at.ensures
+follow-f-requires c = followable c.args.nodes.now c.args.work.now c.args.job c.requires c.loop-i.i c.loop-i.work (c.loop-i.invariant c.requires) c.loop-i-test.true c.id_at.result c.id_at.ensures
 
 pub expand-requires : goal.expand-requires
-expand-requires c = expandable c.args.nodes.now c.args.work.now c.args.job c.requires c.loop-i.i c.loop-i.work (c.loop-i.invariant.tracing c.requires) c.loop-i-test.true c.id_at.result c.id_at.ensures c.follow-f.result c.follow-f.ensures c.spread_of.result c.spread_of.ensures
+expand-requires c = expandable c.args.nodes.now c.args.work.now c.args.job c.requires c.loop-i.i c.loop-i.work (c.loop-i.invariant c.requires) c.loop-i-test.true c.id_at.result c.id_at.ensures c.follow-f.result c.follow-f.ensures c.spread_of.result c.spread_of.ensures
 
 pub loop-i-preserved : goal.loop-i-preserved
-loop-i-preserved c = record {
-  i_in = omega (arith, c.loop-i-test.true);
-  tracing = λ t. tracing_on c.args.nodes.now c.args.work.now c.args.job t c.loop-i.i c.loop-i.work (c.loop-i.invariant.tracing t) c.loop-i-test.true c.id_at.result c.id_at.ensures c.follow-f.result c.follow-f.ensures c.spread_of.result c.spread_of.ensures c.expand.new.work c.expand.auto.work c.expand.ensures;
-}
+loop-i-preserved c = λ t. tracing_on c.args.nodes.now c.args.work.now c.args.job t c.loop-i.i c.loop-i.work (c.loop-i.invariant t) c.loop-i-test.true c.id_at.result c.id_at.ensures c.follow-f.result c.follow-f.ensures c.spread_of.result c.spread_of.ensures c.expand.new.work c.expand.auto.work c.expand.ensures
 
 pub returns : goal.returns
-returns c = tracing_ends c.args.nodes.now c.args.work.now c.args.job c.requires c.loop-i.i c.loop-i.work (c.loop-i.invariant.tracing c.requires) c.loop-i-test.false
+returns c = tracing_ends c.args.nodes.now c.args.work.now c.args.job c.requires c.loop-i.i c.loop-i.work (c.loop-i.invariant c.requires) (omega arith)

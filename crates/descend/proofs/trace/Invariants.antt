@@ -1,14 +1,7 @@
-use Rattle.std.proofs.Common.{◌-◌, ◌≤◌}
 use Rattle.descend.specs.Descend.{Traceable}
 use Rattle.descend.proofs.Laws.{Tracing}
 use Rattle.descend.proofs.trace.Given as goal
 
 -- the first i ids are traced
 abbrev pub invariant-loop-i : goal.invariant-loop-i
-invariant-loop-i l = record {
-  i_in : l.i ≤ l.job.count;
-  tracing : (t : Traceable l.nodes l.fn.work l.job) → Tracing l.nodes l.fn.work l.job t l.i l.work;
-}
-
-abbrev pub decreases-loop-i : goal.decreases-loop-i
-decreases-loop-i l = l.job.count - l.i
+invariant-loop-i l = (t : Traceable l.nodes l.fn.work l.job) → Tracing l.nodes l.fn.work l.job t l.i l.work

@@ -11,6 +11,8 @@ use lib.Dec.{eqb}
 use borrow.Author.Tests.{eq-eqb, ne_eqb}
 use Rattle.words.specs.Words.{word_at}
 use Rattle.layered.proofs.Search.{least_is, below_suc}
+use Rattle.distinguish.specs.Distinguish.{below}
+use Rattle.distinguish.proofs.Below.{is_below, not_below}
 use Rattle.distinguish.proofs.first_word.Goals as goal
 
 -- the outputs for the word w differ
@@ -23,7 +25,8 @@ loop-word-init c =
 
 pub returns-then-read : goal.returns-then-read
 returns-then-read c =
-    sym (least_is _ c.loop-word.word _ (omega (arith, c.loop-word.invariant.0)) c.loop-word.invariant.1 (λ _. ap not (ne_eqb _ _ (λ e. c.if-read.true (c.read.ensures.0 ∙ e ∙ sym c.read-in-loop-word.ensures.0)))))
+    let e = least_is _ c.loop-word.word _ (omega (arith, c.loop-word.invariant.0)) c.loop-word.invariant.1 (λ _. ap not (ne_eqb _ _ (λ e. c.if-read.true (c.read.ensures.0 ∙ e ∙ sym c.read-in-loop-word.ensures.0)))) in
+    is_below c.args.words c.loop-word.word c.loop-word-test.true ∙ ap (below c.args.words) (sym e)
 
 pub loop-word-preserved : goal.loop-word-preserved
 loop-word-preserved c =
@@ -31,4 +34,5 @@ loop-word-preserved c =
 
 pub returns : goal.returns
 returns c =
-    sym (least_is _ c.args.words _ (le_refl _) (λ i h. c.loop-word.invariant.1 i (omega arith)) (λ h. absurd (omega arith)))
+    let e = least_is _ c.args.words _ (le_refl _) (λ i h. c.loop-word.invariant.1 i (omega arith)) (λ h. absurd (omega arith)) in
+    not_below c.args.words c.args.words (le_refl _) ∙ ap (below c.args.words) (sym e)

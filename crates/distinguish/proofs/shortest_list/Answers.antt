@@ -1,6 +1,6 @@
 -- `distinguish::shortest_list` meets its contract. The invariant: no list of 1 to k words separates the states, and there are `rest` of k words.
 -- Assumes nothing.
-use mathlib.Core.Path.{◌≡◌, sym, ap, ap₂, ◌∙◌, subst}
+use mathlib.Core.Path.{◌≡◌, refl, sym, ap, ap₂, ◌∙◌, subst}
 use Prim.Native.Nat.{suc, ◌+◌, ◌-◌, ◌*◌, ◌^◌, ◌≤◌, ◌<◌}
 use native.Mathlib.Nat.{pow-zero, pow-suc}
 use native.Mathlib.Numerals.{add-one}
@@ -9,7 +9,8 @@ use Rattle.sizes.specs.Sizes.{inputs, frames}
 use Rattle.layered.specs.Histories.{history_words}
 use Rattle.table.specs.Table.{machine}
 use Rattle.table.proofs.Offsets.{Laid, laid}
-use Rattle.distinguish.specs.Distinguish.{first_list, distinguishing}
+use Rattle.distinguish.specs.Distinguish.{distinguishing}
+use Rattle.distinguish.proofs.Below.{below_some, below_none}
 use Rattle.distinguish.proofs.Separating.{NoneOf, none_longer, shortest_here, shortest_none}
 use Rattle.distinguish.proofs.Searching.{lists_few}
 use Rattle.distinguish.proofs.shortest_list.Goals as goal
@@ -18,8 +19,8 @@ pub loop-k-init : goal.loop-k-init
 loop-k-init c =
     (omega arith, sym (pow-zero _), (λ i h. absurd (omega arith)))
 
-pub first_list-number-requires : goal.first_list-number-requires
-first_list-number-requires c =
+pub first_list-requires : goal.first_list-requires
+first_list-requires c =
     let stands : Laid c.args.table.now c.args.layout =
     laid c.args.table.now c.args.layout c.requires.0.headed c.requires.1
     in
@@ -46,43 +47,37 @@ overflow_mul-rest c =
     let few : (2 ^ inputs c.args.table.now) ^ suc c.loop-k.k ≤ 65536 = lists_few c.args.table.now c.requires.0 _ (omega (arith, within)) in
     omega (arith, lists-are, few)
 
-pub returns-then-number-rest : goal.returns-then-number-rest
+pub returns-in-Some : goal.returns-in-Some
 unfolding distinguishing
-returns-then-number-rest c =
+returns-in-Some c =
+    let K = 2 ^ inputs c.args.table.now in
     let stands : Laid c.args.table.now c.args.layout =
     laid c.args.table.now c.args.layout c.requires.0.headed c.requires.1
     in
     let within : c.loop-k.k < frames c.args.table.now - c.args.pair.layer =
     omega (arith, stands)
     in
-    let lists-are : c.loop-k.rest * c.args.layout.words ≡ (2 ^ inputs c.args.table.now) ^ suc c.loop-k.k =
-    ap₂ ◌*◌ c.loop-k.invariant.1 stands.words_is ∙ sym (pow-suc (2 ^ inputs c.args.table.now) c.loop-k.k)
-    in
-    let number_is : c.first_list-number.result ≡ first_list (2 ^ inputs c.args.table.now) (machine c.args.table.now) c.args.pair.layer c.args.pair.first c.args.pair.second (suc c.loop-k.k) =
-    c.first_list-number.ensures ∙ ap (first_list (2 ^ inputs c.args.table.now) (machine c.args.table.now) c.args.pair.layer c.args.pair.first c.args.pair.second) (add-one c.loop-k.k)
-    in
-    let K = 2 ^ inputs c.args.table.now in record {
-      words = ap (λ j. history_words K j c.first_list-number.result) (add-one c.loop-k.k)
-          ∙ shortest_here (machine c.args.table.now) K c.args.pair.layer c.args.pair.first c.args.pair.second c.loop-k.k (frames c.args.table.now - c.args.pair.layer) c.first_list-number.result within number_is
-          (omega (arith, lists-are, c.if-number-rest.true)) c.loop-k.invariant.2;
+    let n = rw (add-one c.loop-k.k) at (below_some _ _ _ c.in-Some.ensures) in
+    record {
+      words = ap (λ j. history_words K j c.in-Some.number) (add-one c.loop-k.k)
+          ∙ shortest_here (machine c.args.table.now) K c.args.pair.layer c.args.pair.first c.args.pair.second c.loop-k.k (frames c.args.table.now - c.args.pair.layer) c.in-Some.number within n.0
+          (omega (arith, n)) c.loop-k.invariant.2;
       few = omega (arith, within);
     }
 
 pub loop-k-preserved : goal.loop-k-preserved
 loop-k-preserved c =
+    let K = 2 ^ inputs c.args.table.now in
     let stands : Laid c.args.table.now c.args.layout =
     laid c.args.table.now c.args.layout c.requires.0.headed c.requires.1
     in
-    let lists-are : c.loop-k.rest * c.args.layout.words ≡ (2 ^ inputs c.args.table.now) ^ suc c.loop-k.k =
-    ap₂ ◌*◌ c.loop-k.invariant.1 stands.words_is ∙ sym (pow-suc (2 ^ inputs c.args.table.now) c.loop-k.k)
+    let lists-are : c.loop-k.rest * c.args.layout.words ≡ K ^ suc c.loop-k.k =
+    ap₂ ◌*◌ c.loop-k.invariant.1 stands.words_is ∙ sym (pow-suc K c.loop-k.k)
     in
-    let number_is : c.first_list-number.result ≡ first_list (2 ^ inputs c.args.table.now) (machine c.args.table.now) c.args.pair.layer c.args.pair.first c.args.pair.second (suc c.loop-k.k) =
-    c.first_list-number.ensures ∙ ap (first_list (2 ^ inputs c.args.table.now) (machine c.args.table.now) c.args.pair.layer c.args.pair.first c.args.pair.second) (add-one c.loop-k.k)
-    in
-    let K = 2 ^ inputs c.args.table.now in (
+    let n = rw (add-one c.loop-k.k) at (below_none _ _ (sym c.in_default.is ∙ c.first_list.ensures)) in (
       omega arith,
       lists-are ∙ ap (λ j. K ^ j) (sym (add-one c.loop-k.k)),
-      none_longer (machine c.args.table.now) K c.args.pair.layer c.args.pair.first c.args.pair.second c.loop-k.k c.first_list-number.result number_is (omega (arith, lists-are, c.if-number-rest.false)) c.loop-k.invariant.2,
+      none_longer (machine c.args.table.now) K c.args.pair.layer c.args.pair.first c.args.pair.second c.loop-k.k _ refl n c.loop-k.invariant.2,
     )
 
 pub returns : goal.returns

@@ -4,7 +4,7 @@ use mathlib.Core.Path.{◌≡◌, refl, sym, ap, ◌∙◌}
 use mathlib.Core.List.{List, [], ◌∷◌, ◌++◌, append_assoc}
 use Prim.Native.Nat.{ℕ, zero, suc, ◌-◌, ◌/◌, ◌%◌, ◌<◌}
 use native.Mathlib.Omega.{arith}
-use lib.ListN.{length, drop, set, length-set}
+use lib.ListN.{length, drop, set}
 use Rattle.layered.specs.Histories.{history_words}
 use Rattle.distinguish.proofs.store_words.Goals as goal
 
@@ -19,20 +19,14 @@ store-last : (K k h : ℕ) (v whole : List ℕ) → k < length v → history_wor
 unfolding history_words
 store-last K k h v whole l e = ap (λ d. history_words K k (h / K) ++ d) (drop-set v k (h % K) l) ∙ sym (append_assoc (history_words K k (h / K)) (h % K ∷ []) (drop (suc k) v)) ∙ e
 
-pub loop-left-init : goal.loop-left-init
-loop-left-init c =
-    (omega arith, refl, refl)
-
 pub loop-left-preserved : goal.loop-left-preserved
 loop-left-preserved c =
-    let e : suc (c.loop-left.left - 1) ≡ c.loop-left.left = omega arith in (
-      omega arith,
-      length-set c.loop-left.res (c.loop-left.left - 1) (c.loop-left.number % c.args.words) ∙ c.loop-left.invariant.1,
-      store-last c.args.words (c.loop-left.left - 1) c.loop-left.number c.loop-left.res _ (omega arith) (ap (λ k. history_words c.args.words k c.loop-left.number ++ drop k c.loop-left.res) e ∙ c.loop-left.invariant.2),
-    )
+    let e : suc (c.loop-left.left - 1) ≡ c.loop-left.left = omega arith in
+    store-last c.args.words (c.loop-left.left - 1) c.loop-left.number c.loop-left.res _ (omega arith)
+    (ap (λ k. history_words c.args.words k c.loop-left.number ++ drop k c.loop-left.res) e ∙ c.loop-left.invariant)
 
 pub returns : goal.returns
 unfolding history_words
 returns c =
     let e : c.loop-left.left ≡ 0 = omega arith in
-    sym (ap (λ k. history_words c.args.words k c.loop-left.number ++ drop k c.loop-left.res) e) ∙ c.loop-left.invariant.2
+    sym (ap (λ k. history_words c.args.words k c.loop-left.number ++ drop k c.loop-left.res) e) ∙ c.loop-left.invariant

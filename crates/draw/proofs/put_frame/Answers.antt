@@ -17,14 +17,13 @@ use Rattle.unfolded.specs.Unfolded.{chains_from, matching, Frame, match_gates, e
 use Rattle.unfolded.proofs.Counts.{edge_count, frame_count}
 use Rattle.chains.specs.Chains.{Fits, target_of, gates_stored, edge_of}
 use Rattle.chains.specs.declared.Target.{Target}
-use Rattle.chains.proofs.Stored.{fits_still}
 use Rattle.gathers.specs.Gathers.{gather_gates, gather_literals}
 use Rattle.gathers.specs.declared.Key.TheVariants.{NextState, OutputBit}
 use Rattle.gathers.specs.declared.Gathering.{Gathering}
 use Rattle.draw.specs.Limits.{most_drawn_states}
 use Rattle.draw.specs.Draw.{frame_at, source_of, StatesKept}
 use Rattle.draw.specs.declared.Source.{Source}
-use Rattle.draw.proofs.Frames.{matches_are, matches_count, edges_are, nexts_are, next_literals, outs_are, out_literals, outs_count, next_is_not_output, nexts_stand, outputs_stand, nexts_part, outputs_part, parts_stored, frame_ends, frame_room, frame_edges, few_states, few_drawn, states_count, states_next, states_left}
+use Rattle.draw.proofs.Frames.{matches_are, matches_count, edges_are, nexts_are, next_literals, outs_are, out_literals, outs_count, nexts_stand, outputs_stand, nexts_part, outputs_part, parts_stored, frame_ends, frame_room, frame_edges, few_states, few_drawn, states_count, states_next, states_left}
 use Rattle.draw.proofs.put_frame.Goals as goal
 use Rattle.draw.proofs.put_frame.Goals.{Start}
 
@@ -117,9 +116,6 @@ module _ (s : Start) (v₁ : List ℕ) (j : ℕ)
         ∙ ap (gates_stored s.args.target.gates s.args.source.first s.args.res.now)
         (matches_are (b₀ s) (head s) (t₀ s) (early s) s.args.target (aim s) (d₀ s) s.args.source.first (first_is s))
 
-    fits₁ : Fits s.args.target v₁
-    fits₁ = fits_still s.args.target s.args.res.now v₁ s.args.source.first (match_gates (F₀ s)) (fits₀ s) stored₁ (omega (arith, room s, frame_count (F₀ s)))
-
     -- the first gate of the gather chains
     abbrev g₂ : ℕ
     g₂ = j + s.args.source.edges
@@ -150,9 +146,6 @@ module _ (s : Start) (v₁ : List ℕ) (j : ℕ)
             (edges_are (b₀ s) (head s) (t₀ s) (early s) s.args.target (aim s) (d₀ s) s.args.source.first (first_is s) j ej
             (head s).sized.inputs_from s.args.states.now (states_count (b₀ s) (head s).one_first (t₀ s) (early s)) s.requires.states_kept.kept _ (edges-is s))
 
-        fits₂ : Fits s.args.target v₂
-        fits₂ = fits_still s.args.target v₁ v₂ j (edge_gates (F₀ s)) fits₁ stored₂ (omega (arith, ej, matches s, frame_count (F₀ s), room s))
-
         -- ---- after the next states, whose entries are p₃: the result is v₃, the literals are ls₃, and the next gate is o
 
         module _ (p₃ : List ℕ) (e₃ : p₃ ≡ take (2 * s.args.source.edges) (drop s.args.source.nexts (b₀ s))) where
@@ -178,9 +171,6 @@ module _ (s : Start) (v₁ : List ℕ) (j : ℕ)
             where
               stored₃ : v₃ ≡ gates_stored s.args.target.gates g₂ v₂ (next_gates (F₀ s))
               stored₃ = ev₃ ∙ ap (gates_stored s.args.target.gates g₂ v₂) chains₃-are
-
-              fits₃ : Fits s.args.target v₃
-              fits₃ = fits_still s.args.target v₂ v₃ g₂ (next_gates (F₀ s)) fits₂ stored₃ nexts_in_lem
 
               states₃ : StatesKept (b₀ s) (suc (t₀ s)) (ls₃ ++ drop s.args.source.drawn s.args.states.now)
               states₃ =
@@ -224,24 +214,16 @@ module _ (s : Start) (v₁ : List ℕ) (j : ℕ)
 
 -- ---- the answers
 
-pub put_matches-edges-requires : goal.put_matches-edges-requires
-put_matches-edges-requires c =
-    let s = (goal.at.put_matches-edges-requires c).Start in record {
-      fits = fits₀ s;
-      t_lt_most_frames = (omega (arith, early s, (head s).sized), omega (arith, room s, matches s, frame_count (F₀ s)));
-    }
+pub put_matches-edges-requires-clause-t_lt_most_frames : goal.put_matches-edges-requires-clause-t_lt_most_frames
+put_matches-edges-requires-clause-t_lt_most_frames c =
+    let s = (goal.at.put_matches-edges-requires-clause-t_lt_most_frames c).Start in
+    (omega (arith, early s, (head s).sized), omega (arith, room s, matches s, frame_count (F₀ s)))
 
-pub put_edges-requires : goal.put_edges-requires
-put_edges-requires c =
-    let s = (goal.at.put_edges-requires c).Start in
-    let e = c.put_matches-edges.ensures in record {
-      fits = fits₁ s _ _ e.gates e.end;
-      matches_le_k = (
-        omega (arith, e.end),
-        omega (arith, e.end, matches s, edge-length s, frame_count (F₀ s), room s),
-        edges_few s,
-      );
-    }
+pub put_edges-requires-clause-matches_le_k : goal.put_edges-requires-clause-matches_le_k
+put_edges-requires-clause-matches_le_k c =
+    let s = (goal.at.put_edges-requires-clause-matches_le_k c).Start in
+    let e = c.put_matches-edges.ensures in
+    (omega (arith, e.end), omega (arith, e.end, matches s, edge-length s, frame_count (F₀ s), room s), edges_few s)
 
 pub entries_from-nexts-requires : goal.entries_from-nexts-requires
 entries_from-nexts-requires c = omega (arith, entries-stand (goal.at.entries_from-nexts-requires c).Start)
@@ -258,32 +240,36 @@ slice_bounds-put_gathers-end c = drawn-few (goal.at.slice_bounds-put_gathers-end
 pub slice_bounds-put_gathers-end-2 : goal.slice_bounds-put_gathers-end-2
 slice_bounds-put_gathers-end-2 c = let s = (goal.at.slice_bounds-put_gathers-end-2 c).Start in sym (length-take-le s.args.source.drawn s.args.states.now (drawn-few s))
 
-pub put_gathers-gathers-requires : goal.put_gathers-gathers-requires
-put_gathers-gathers-requires c =
-    let s = (goal.at.put_gathers-gathers-requires c).Start in
+pub put_gathers-gathers-requires-clause-entries_bound : goal.put_gathers-gathers-requires-clause-entries_bound
+put_gathers-gathers-requires-clause-entries_bound c =
+    let s = (goal.at.put_gathers-gathers-requires-clause-entries_bound c).Start in
     let e = c.put_matches-edges.ensures in
-    let n = c.entries_from-nexts.ensures in record {
-      fits = fits₂ s _ _ e.gates e.end _ c.put_edges.ensures;
-      literals_len_bound = (λ e. absurd (next_is_not_output e));
-      entries_bound = entries-in s _ _ e.gates e.end _ (nexts_at (b₀ s)) (p₃-is s _ _ e.gates e.end _ c.put_edges.ensures _ n) (nexts_stand (b₀ s) (head s));
-      literals_bound = omega (arith, ap length (chains₃-are s _ _ e.gates e.end _ c.put_edges.ensures _ n), nexts_in_lem s _ _ e.gates e.end);
-    }
+    entries-in s _ _ e.gates e.end _ (nexts_at (b₀ s)) (p₃-is s _ _ e.gates e.end _ c.put_edges.ensures _ c.entries_from-nexts.ensures) (nexts_stand (b₀ s) (head s))
+
+pub put_gathers-gathers-requires-clause-literals_bound : goal.put_gathers-gathers-requires-clause-literals_bound
+put_gathers-gathers-requires-clause-literals_bound c =
+    let s = (goal.at.put_gathers-gathers-requires-clause-literals_bound c).Start in
+    let e = c.put_matches-edges.ensures in
+    omega (arith, ap length (chains₃-are s _ _ e.gates e.end _ c.put_edges.ensures _ c.entries_from-nexts.ensures), nexts_in_lem s _ _ e.gates e.end)
 
 pub entries_from-words-requires : goal.entries_from-words-requires
 entries_from-words-requires c = omega (arith, entries-stand (goal.at.entries_from-words-requires c).Start)
 
-pub put_gathers-requires : goal.put_gathers-requires
-put_gathers-requires c =
-    let s = (goal.at.put_gathers-requires c).Start in
+pub put_gathers-requires-clause-entries_bound : goal.put_gathers-requires-clause-entries_bound
+put_gathers-requires-clause-entries_bound c =
+    let s = (goal.at.put_gathers-requires-clause-entries_bound c).Start in
     let e = c.put_matches-edges.ensures in
     let n = c.entries_from-nexts.ensures in
     let g = c.put_gathers-gathers.ensures in
-    let w = c.entries_from-words.ensures in record {
-      fits = fits₃ s _ _ e.gates e.end _ c.put_edges.ensures _ n _ _ _ g.gates g.ends g.end;
-      literals_len_bound = (λ _. omega (arith, s.requires.outputs_len, (fits₀ s).outputs_to));
-      entries_bound = entries-in s _ _ e.gates e.end _ (outputs_at (b₀ s)) (p₅-is s _ _ e.gates e.end _ c.put_edges.ensures _ n _ _ _ g.gates g.ends g.end _ w) (outputs_stand (b₀ s) (head s));
-      literals_bound = outs_in s _ _ e.gates e.end _ c.put_edges.ensures _ n _ _ _ g.gates g.ends g.end _ w;
-    }
+    entries-in s _ _ e.gates e.end _ (outputs_at (b₀ s)) (p₅-is s _ _ e.gates e.end _ c.put_edges.ensures _ n _ _ _ g.gates g.ends g.end _ c.entries_from-words.ensures) (outputs_stand (b₀ s) (head s))
+
+pub put_gathers-requires-clause-literals_bound : goal.put_gathers-requires-clause-literals_bound
+put_gathers-requires-clause-literals_bound c =
+    let s = (goal.at.put_gathers-requires-clause-literals_bound c).Start in
+    let e = c.put_matches-edges.ensures in
+    let n = c.entries_from-nexts.ensures in
+    let g = c.put_gathers-gathers.ensures in
+    outs_in s _ _ e.gates e.end _ c.put_edges.ensures _ n _ _ _ g.gates g.ends g.end _ c.entries_from-words.ensures
 
 pub returns : goal.returns
 returns c =

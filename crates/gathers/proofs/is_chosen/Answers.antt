@@ -5,10 +5,6 @@ use Rattle.gathers.specs.Gathers.{chosen}
 use Rattle.gathers.specs.declared.Key.{Key}
 use Rattle.gathers.proofs.is_chosen.Goals as goal
 
-pub is_set-requires : goal.is_set-requires
-is_set-requires c =
-    c.requires c.in-OutputBit.is
-
 pub returns-in-NextState : goal.returns-in-NextState
 unfolding chosen
 returns-in-NextState c =

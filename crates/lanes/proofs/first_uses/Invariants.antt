@@ -11,7 +11,3 @@ use Rattle.lanes.proofs.first_uses.Given as goal
 abbrev pub invariant-loop-g : goal.invariant-loop-g
 invariant-loop-g l =
     (l.g ≤ gates l.circuit) × (length l.firsts ≡ 1 + most_bits) × FirstUses l.circuit l.g l.firsts
-
-abbrev pub decreases-loop-g : goal.decreases-loop-g
-decreases-loop-g l =
-    l.g

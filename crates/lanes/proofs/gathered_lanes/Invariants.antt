@@ -10,7 +10,3 @@ use Rattle.lanes.proofs.gathered_lanes.Given as goal
 abbrev pub invariant-loop-j : goal.invariant-loop-j
 invariant-loop-j l =
     (l.j ≤ length l.histories) × (l.lanes ≡ packed (take (length l.histories - l.j) (drop l.j (lane l.place l.histories))))
-
-abbrev pub decreases-loop-j : goal.decreases-loop-j
-decreases-loop-j l =
-    l.j

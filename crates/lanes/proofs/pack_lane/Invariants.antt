@@ -10,7 +10,3 @@ use Rattle.lanes.proofs.pack_lane.Given as goal
 abbrev pub invariant-loop-k : goal.invariant-loop-k
 invariant-loop-k l =
     (l.k ≤ l.count) × (l.word ≡ packed (take (l.count - l.k) (drop (l.at + l.k) (lane l.j l.lanes))))
-
-abbrev pub decreases-loop-k : goal.decreases-loop-k
-decreases-loop-k l =
-    l.k

@@ -9,7 +9,9 @@ use borrow.Author.Tests.{lt-ltb, le-ltb}
 use lib.Dec.{ltb}
 use lib.ListN.{get_or}
 use Rattle.layered.proofs.Search.{below_suc, least_is}
-use Rattle.circuit.specs.Circuit.{frame_of}
+use Rattle.circuit.specs.Found.{found}
+use Rattle.circuit.specs.Circuit.{frame_of, all_outputs}
+use Rattle.circuit.proofs.Found.{found_here, found_nowhere}
 use Rattle.circuit.specs.WellFormed.{WellFormed}
 use Rattle.circuit.proofs.Frames.{not_after_first, not_after_next}
 use Rattle.circuit.proofs.Ahead.{output_parts}
@@ -55,7 +57,8 @@ returns-then-frame-latest c =
     reaches_is c.args.circuit.now c.args.source c.requires c.store_signals.new.latest c.output_frame-frame.result c.shown_signal.result c.loop-q.q
     c.store_signals.ensures c.loop-q-test.true c.output_frame-frame.ensures.frame c.shown_signal.ensures.0
     in
-    sym (least_is _ c.loop-q.q _ (omega (arith, known)) c.loop-q.invariant.1 (λ h. test ∙ lt-ltb _ _ c.if-frame-latest.true))
+    let l = least_is (all_outputs (sourced c.args.source c.args.circuit.now)) c.loop-q.q _ (omega (arith, known)) c.loop-q.invariant.1 (λ h. test ∙ lt-ltb _ _ c.if-frame-latest.true) in
+    found_here _ _ (omega (arith, known)) ∙ ap (found _) (sym l)
 
 pub loop-q-preserved : goal.loop-q-preserved
 loop-q-preserved c =
@@ -73,4 +76,5 @@ returns c =
     let known : WellFormed (sourced c.args.source c.args.circuit.now) (head_of c.args.source) =
     well _ _ c.requires
     in
-    sym (least_is _ c.args.source.total _ (omega (arith, known)) (λ i h. c.loop-q.invariant.1 i (omega (arith, c.loop-q.invariant.0))) (λ h. absurd (omega (arith, known))))
+    let l = least_is (all_outputs (sourced c.args.source c.args.circuit.now)) c.args.source.total _ (omega (arith, known)) (λ i h. c.loop-q.invariant.1 i (omega (arith, c.loop-q.invariant.0))) (λ h. absurd (omega (arith, known))) in
+    found_nowhere _ _ (omega (arith, known)) ∙ ap (found _) (sym l)

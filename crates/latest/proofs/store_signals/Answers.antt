@@ -42,8 +42,8 @@ loop-g-preserved c =
     let room : n < length c.loop-g.latest = omega (arith, gate, known, c.loop-g.invariant.1) in (
       omega (arith, gate, known),
       simp length-set c.loop-g.invariant.1,
-      length-set c.loop-g.latest n c.later.result ∙ c.loop-g.invariant.2,
-      ap (λ (x : ℕ). take (c.args.source.own.base + (c.loop-g.g + 1)) (set c.loop-g.latest n x)) c.later.ensures
+      length-set c.loop-g.latest n c.max.result ∙ c.loop-g.invariant.2,
+      ap (λ (x : ℕ). take (c.args.source.own.base + (c.loop-g.g + 1)) (set c.loop-g.latest n x)) c.max.ensures
           ∙ latest_more _ c.args.circuit.now c.loop-g.latest c.loop-g.g n c.read_gate-gate.result.left c.read_gate-gate.result.right room c.loop-g.invariant.3
           c.read_gate-gate.ensures.left_is c.read_gate-gate.ensures.right_is left_in right_in (c.args.source.own.base + (c.loop-g.g + 1)) (omega arith),
     )

@@ -1,180 +1,95 @@
 -- `reach::reach` meets its contract: each return is a case of the definition.
 -- Assumes nothing.
-use mathlib.Core.Path.{◌≡◌, ap, ◌∙◌}
-use Prim.Native.Nat.{ℕ, suc, ◌+◌, ◌*◌, ◌≤◌}
-use native.Mathlib.Numerals.{add-one}
-use native.Mathlib.Omega.{arith}
-use lib.ListN.{length}
-use Rattle.verdict.specs.Judgements.{figures}
-use Rattle.verdict.proofs.Laws.{accepts}
+use Rattle.std.proofs.Common.{◌≡◌, refl, sym, ap, ◌∙◌, suc, ◌+◌, ◌*◌, length, add-one, arith}
+use Rattle.std.specs.Prelude.{Err}
+use Rattle.verdict.specs.declared.Refusal.TheVariants.{Room}
+use Rattle.verdict.proofs.Laws.{stop}
 use Rattle.table.specs.Table.{states_below}
 use Rattle.table.specs.Sound.{Sound}
 use Rattle.table.proofs.Accepted.{sound}
 use Rattle.table.proofs.Offsets.{Laid, laid}
-use Rattle.reach.specs.Reach.{reach_bytes, room_checked, reach_checked}
 use Rattle.paths.specs.Places.{all_states}
 use Rattle.paths.proofs.Places.{head_is}
+use Rattle.reach.specs.Reach.{reach_bytes, reach_checked}
 use Rattle.reach.proofs.Bytes.{bytes_length}
-use Rattle.reach.proofs.Outcomes.{room_enough, table_answer, room_answer, refused, accepted}
+use Rattle.reach.proofs.Outcomes.{too_few, enough, refused, accepted}
 use Rattle.reach.proofs.reach.Goals as goal
+use Rattle.reach.proofs.reach.Goals.{In_ok-check, After-read-layout, After-states_below-states, After-head_bytes}
 
-pub returns-in_default : goal.returns-in_default
-returns-in_default c =
-    let o = refused c.args.table.now c.args.res.now c.check-judged.result (table_answer c.args.table.now _ c.check-judged.result c.in_default.field-0 c.check-judged.ensures.verdict c.in_default.is) c.in_default.field-0 c.in_default.is in
-    record { verdict = o.0; res = o.1.0; reached = o.1.1.0; folded = o.1.1.1 }
+legal : (c : In_ok-check) → Sound c.args.table.now
+legal c = sound _ _ (sym c.in_ok-check.ensures.verdict)
+
+layout_is : (c : After-read-layout) → Laid c.args.table.now c.read-layout.result
+layout_is c = laid _ _ (sound _ _ (sym c.in_ok-check.ensures.verdict)).headed c.read-layout.ensures
+
+states_are : (c : After-states_below-states) → c.states_below-states.result ≡ all_states c.args.table.now
+unfolding all_states
+states_are c =
+    let l = laid _ _ (sound _ _ (sym c.in_ok-check.ensures.verdict)).headed c.read-layout.ensures in
+    c.states_below-states.ensures.0 ∙ ap (states_below c.args.table.now) (add-one c.read-layout.result.frames ∙ ap suc l.frames_is)
+
+bytes_are : (c : After-head_bytes) → c.states_below-states.result ≡ all_states c.args.table.now → c.head_bytes.result + 2 * (4 * c.states_below-states.result) ≡ length (reach_bytes c.args.table.now)
+bytes_are c e =
+    let b = c.args.table.now in
+    let S = sound b _ (sym c.in_ok-check.ensures.verdict) in
+    omega (arith, c.head_bytes.ensures, (laid _ _ S.headed c.read-layout.ensures).frames_is, head_is b, bytes_length b S)
+
+pub returns-in_err-check-clause-verdict : goal.returns-in_err-check-clause-verdict
+unfolding reach_checked
+returns-in_err-check-clause-verdict c = stop _ _ _ _ c.from_residual.ensures.1 c.in_err-check.ensures.verdict
+
+pub returns-in_err-check-clause-res : goal.returns-in_err-check-clause-res
+unfolding reach_checked
+returns-in_err-check-clause-res c = let r = c.in_err-check.field-0.0 in refused _ _ r (stop (Err r) r _ _ refl c.in_err-check.ensures.verdict)
 
 pub read-layout-requires : goal.read-layout-requires
-read-layout-requires c =
-    let legal : Sound c.args.table.now =
-    sound c.args.table.now c.in-Accepted.field-0 (accepts c.check-judged.result _ _ c.check-judged.ensures.verdict c.in-Accepted.is)
-    in
-    legal.headed
+read-layout-requires c = (legal (goal.at.read-layout-requires c).In_ok-check).headed
 
 pub overflow_add-layout : goal.overflow_add-layout
-overflow_add-layout c =
-    let legal : Sound c.args.table.now =
-    sound c.args.table.now c.in-Accepted.field-0 (accepts c.check-judged.result _ _ c.check-judged.ensures.verdict c.in-Accepted.is)
-    in
-    let layout : Laid c.args.table.now c.read-layout.result =
-    laid c.args.table.now c.read-layout.result legal.headed c.read-layout.ensures
-    in
-    omega (arith, layout.frames_to)
+overflow_add-layout c = omega (arith, layout_is (goal.at.overflow_add-layout c).After-read-layout)
 
 pub states_below-states-requires : goal.states_below-states-requires
-states_below-states-requires c =
-    let legal : Sound c.args.table.now =
-    sound c.args.table.now c.in-Accepted.field-0 (accepts c.check-judged.result _ _ c.check-judged.ensures.verdict c.in-Accepted.is)
-    in
-    let layout : Laid c.args.table.now c.read-layout.result =
-    laid c.args.table.now c.read-layout.result legal.headed c.read-layout.ensures
-    in
-    let l = layout in (omega (arith, l.frames_to), omega (arith, l.end_at, l.nexts-at, l.outputs-at))
+states_below-states-requires c = let l = layout_is (goal.at.states_below-states-requires c).After-read-layout in (omega arith, omega arith)
 
 pub head_bytes-requires : goal.head_bytes-requires
-head_bytes-requires c =
-    let legal : Sound c.args.table.now =
-    sound c.args.table.now c.in-Accepted.field-0 (accepts c.check-judged.result _ _ c.check-judged.ensures.verdict c.in-Accepted.is)
-    in
-    let layout : Laid c.args.table.now c.read-layout.result =
-    laid c.args.table.now c.read-layout.result legal.headed c.read-layout.ensures
-    in
-    layout.frames_to
+head_bytes-requires c = (layout_is (goal.at.head_bytes-requires c).After-read-layout).frames_to
 
 pub overflow_mul-bytes : goal.overflow_mul-bytes
-overflow_mul-bytes c =
-    let legal : Sound c.args.table.now =
-    sound c.args.table.now c.in-Accepted.field-0 (accepts c.check-judged.result _ _ c.check-judged.ensures.verdict c.in-Accepted.is)
-    in
-    let layout : Laid c.args.table.now c.read-layout.result =
-    laid c.args.table.now c.read-layout.result legal.headed c.read-layout.ensures
-    in
-    let few : c.states_below-states.result ≤ 65536 * 17 =
-    omega (arith, c.states_below-states.ensures.1, layout.frames_to)
-    in
-    omega (arith, few)
+overflow_mul-bytes c = omega (arith, c.states_below-states.ensures.1, layout_is (goal.at.overflow_mul-bytes c).After-read-layout)
 
 pub overflow_mul-bytes-2 : goal.overflow_mul-bytes-2
-overflow_mul-bytes-2 c =
-    let legal : Sound c.args.table.now =
-    sound c.args.table.now c.in-Accepted.field-0 (accepts c.check-judged.result _ _ c.check-judged.ensures.verdict c.in-Accepted.is)
-    in
-    let layout : Laid c.args.table.now c.read-layout.result =
-    laid c.args.table.now c.read-layout.result legal.headed c.read-layout.ensures
-    in
-    let few : c.states_below-states.result ≤ 65536 * 17 =
-    omega (arith, c.states_below-states.ensures.1, layout.frames_to)
-    in
-    omega (arith, few)
+overflow_mul-bytes-2 c = omega (arith, c.states_below-states.ensures.1, layout_is (goal.at.overflow_mul-bytes-2 c).After-read-layout)
 
 pub overflow_add-bytes : goal.overflow_add-bytes
-overflow_add-bytes c =
-    let legal : Sound c.args.table.now =
-    sound c.args.table.now c.in-Accepted.field-0 (accepts c.check-judged.result _ _ c.check-judged.ensures.verdict c.in-Accepted.is)
-    in
-    let layout : Laid c.args.table.now c.read-layout.result =
-    laid c.args.table.now c.read-layout.result legal.headed c.read-layout.ensures
-    in
-    let few : c.states_below-states.result ≤ 65536 * 17 =
-    omega (arith, c.states_below-states.ensures.1, layout.frames_to)
-    in
-    omega (arith, few, c.head_bytes.ensures, layout.frames_to)
+overflow_add-bytes c = omega (arith, c.states_below-states.ensures.1, c.head_bytes.ensures, layout_is (goal.at.overflow_add-bytes c).After-read-layout)
 
-pub returns-in_default-roomy : goal.returns-in_default-roomy
-unfolding all_states room_checked
-returns-in_default-roomy c =
-    let legal : Sound c.args.table.now =
-    sound c.args.table.now c.in-Accepted.field-0 (accepts c.check-judged.result _ _ c.check-judged.ensures.verdict c.in-Accepted.is)
-    in
-    let layout : Laid c.args.table.now c.read-layout.result =
-    laid c.args.table.now c.read-layout.result legal.headed c.read-layout.ensures
-    in
-    let states_are : c.states_below-states.result ≡ all_states c.args.table.now =
-    c.states_below-states.ensures.0 ∙ ap (states_below c.args.table.now) (add-one c.read-layout.result.frames ∙ ap suc layout.frames_is)
-    in
-    let bytes_are : c.head_bytes.result + 2 * (4 * c.states_below-states.result) ≡ length (reach_bytes c.args.table.now) =
-    let b = c.args.table.now in
-    omega (arith, c.head_bytes.ensures, layout.frames_is, head_is b, states_are, bytes_length b legal)
-    in
-    let room-judged : figures c.refuse_if-roomy.result ≡ room_checked (length (reach_bytes c.args.table.now)) (length c.args.res.now) =
-    c.refuse_if-roomy.ensures ∙ ap (λ (n : ℕ). room_checked n (length c.args.res.now)) bytes_are
-    in
-    let judged : figures c.refuse_if-roomy.result ≡ reach_checked c.args.table.now (length c.args.res.now) =
-    room_answer c.args.table.now (length c.args.res.now) c.in-Accepted.field-0 c.check-judged.result c.refuse_if-roomy.result c.check-judged.ensures.verdict c.in-Accepted.is room-judged
-    in
-    let o = refused c.args.table.now c.args.res.now c.refuse_if-roomy.result judged c.in_default-roomy.field-0 c.in_default-roomy.is in
-    record { verdict = o.0; res = o.1.0; reached = o.1.1.0; folded = o.1.1.1 }
+pub returns-then-res-bytes-clause-verdict : goal.returns-then-res-bytes-clause-verdict
+returns-then-res-bytes-clause-verdict c =
+    let at = goal.at.returns-then-res-bytes-clause-verdict c in
+    too_few _ _ _ _ c.in_ok-check.ensures.verdict (bytes_are at.After-head_bytes (states_are at.After-states_below-states)) c.if-res-bytes.true
+
+pub returns-then-res-bytes-clause-res : goal.returns-then-res-bytes-clause-res
+returns-then-res-bytes-clause-res c =
+    let at = goal.at.returns-then-res-bytes-clause-res c in
+    refused _ _ (Room _) (too_few _ _ _ _ c.in_ok-check.ensures.verdict (bytes_are at.After-head_bytes (states_are at.After-states_below-states)) c.if-res-bytes.true)
 
 pub write_numbers-requires : goal.write_numbers-requires
-unfolding all_states room_checked
 write_numbers-requires c =
-    let legal : Sound c.args.table.now =
-    sound c.args.table.now c.in-Accepted.field-0 (accepts c.check-judged.result _ _ c.check-judged.ensures.verdict c.in-Accepted.is)
-    in
-    let layout : Laid c.args.table.now c.read-layout.result =
-    laid c.args.table.now c.read-layout.result legal.headed c.read-layout.ensures
-    in
-    let states_are : c.states_below-states.result ≡ all_states c.args.table.now =
-    c.states_below-states.ensures.0 ∙ ap (states_below c.args.table.now) (add-one c.read-layout.result.frames ∙ ap suc layout.frames_is)
-    in
-    let bytes_are : c.head_bytes.result + 2 * (4 * c.states_below-states.result) ≡ length (reach_bytes c.args.table.now) =
-    let b = c.args.table.now in
-    omega (arith, c.head_bytes.ensures, layout.frames_is, head_is b, states_are, bytes_length b legal)
-    in
-    let room-judged : figures c.refuse_if-roomy.result ≡ room_checked (length (reach_bytes c.args.table.now)) (length c.args.res.now) =
-    c.refuse_if-roomy.ensures ∙ ap (λ (n : ℕ). room_checked n (length c.args.res.now)) bytes_are
-    in
-    let enough : (length (reach_bytes c.args.table.now) ≤ (length c.args.res.now)) × (c.in-Accepted-roomy.field-0 ≡ length (reach_bytes c.args.table.now)) =
-    room_enough _ (length c.args.res.now) c.in-Accepted-roomy.field-0 c.refuse_if-roomy.result room-judged c.in-Accepted-roomy.is
-    in
+    let at = goal.at.write_numbers-requires c in
+    let S = legal at.In_ok-check in
+    let s = states_are at.After-states_below-states in
     record {
-      sound = legal;
-      layout_value = (c.read-layout.ensures, states_are, omega (arith, enough.0, bytes_length c.args.table.now legal, states_are));
+      sound = S;
+      layout_value = (c.read-layout.ensures, s, omega (arith, c.if-res-bytes.false, bytes_are at.After-head_bytes s, bytes_length c.args.table.now S));
     }
 
-pub returns : goal.returns
-unfolding all_states room_checked
-returns c =
-    let legal : Sound c.args.table.now =
-    sound c.args.table.now c.in-Accepted.field-0 (accepts c.check-judged.result _ _ c.check-judged.ensures.verdict c.in-Accepted.is)
-    in
-    let layout : Laid c.args.table.now c.read-layout.result =
-    laid c.args.table.now c.read-layout.result legal.headed c.read-layout.ensures
-    in
-    let states_are : c.states_below-states.result ≡ all_states c.args.table.now =
-    c.states_below-states.ensures.0 ∙ ap (states_below c.args.table.now) (add-one c.read-layout.result.frames ∙ ap suc layout.frames_is)
-    in
-    let bytes_are : c.head_bytes.result + 2 * (4 * c.states_below-states.result) ≡ length (reach_bytes c.args.table.now) =
-    let b = c.args.table.now in
-    omega (arith, c.head_bytes.ensures, layout.frames_is, head_is b, states_are, bytes_length b legal)
-    in
-    let room-judged : figures c.refuse_if-roomy.result ≡ room_checked (length (reach_bytes c.args.table.now)) (length c.args.res.now) =
-    c.refuse_if-roomy.ensures ∙ ap (λ (n : ℕ). room_checked n (length c.args.res.now)) bytes_are
-    in
-    let judged : figures c.refuse_if-roomy.result ≡ reach_checked c.args.table.now (length c.args.res.now) =
-    room_answer c.args.table.now (length c.args.res.now) c.in-Accepted.field-0 c.check-judged.result c.refuse_if-roomy.result c.check-judged.ensures.verdict c.in-Accepted.is room-judged
-    in
-    let enough : (length (reach_bytes c.args.table.now) ≤ (length c.args.res.now)) × (c.in-Accepted-roomy.field-0 ≡ length (reach_bytes c.args.table.now)) =
-    room_enough _ (length c.args.res.now) c.in-Accepted-roomy.field-0 c.refuse_if-roomy.result room-judged c.in-Accepted-roomy.is
-    in
-    let o = accepted c.args.table.now c.args.res.now c.refuse_if-roomy.result judged c.in-Accepted-roomy.field-0 _ c.in-Accepted-roomy.is enough.1 c.write_numbers.ensures in
-    record { verdict = o.0; res = o.1.0; reached = o.1.1.0; folded = o.1.1.1 }
+pub returns-clause-verdict : goal.returns-clause-verdict
+returns-clause-verdict c =
+    let at = goal.at.returns-clause-verdict c in
+    enough _ _ _ _ c.in_ok-check.ensures.verdict (bytes_are at.After-head_bytes (states_are at.After-states_below-states)) c.if-res-bytes.false
+
+pub returns-clause-res : goal.returns-clause-res
+returns-clause-res c =
+    let at = goal.at.returns-clause-res c in
+    let n = bytes_are at.After-head_bytes (states_are at.After-states_below-states) in
+    accepted _ _ _ _ (enough _ _ _ _ c.in_ok-check.ensures.verdict n c.if-res-bytes.false) n c.write_numbers.ensures

@@ -1,14 +1,14 @@
 -- `refine::refine` meets its contract. The invariant: the candidates so far have their numbers, `fresh` is how many there are, and the buckets are
 -- theirs.
 -- Assumes nothing.
-use mathlib.Core.Path.{◌≡◌, sym, ap, ◌∙◌, subst}
+use mathlib.Core.Path.{◌≡◌, refl, sym, ap, ◌∙◌, subst}
 use mathlib.Core.Bool.{Bool}
 use mathlib.Core.List.{List}
 use Prim.Native.Nat.{ℕ, ◌+◌, ◌≤◌, ◌<◌}
 use native.Mathlib.Omega.{arith}
-use lib.ListN.{length, get_or, set}
+use lib.ListN.{length, get_or, set, replicate}
 use Rattle.diagrams.specs.Numbering.{first_same}
-use Rattle.refine.specs.Limits.{bucket_count}
+use Rattle.refine.specs.Limits.{bucket_count, link_count}
 use Rattle.refine.specs.Rows.{number_in, same_row, Placed}
 use Rattle.refine.specs.Buckets.{row_hash, test_in, hash_in, bucket, Linked}
 use Rattle.refine.specs.declared.Rows.{Rows}
@@ -74,7 +74,7 @@ module _ (s₀ s w : List ℕ) (rows : Rows) (c fresh : ℕ) (P : Placed s₀ w 
 
 pub loop-c-init : goal.loop-c-init
 loop-c-init c =
-    (omega arith, numbered_none c.args.scratch.now c.args.work.now c.args.rows, bucketed_none _ _ (row_hashed (number_in c.args.scratch.now c.args.rows) c.args.work.now c.args.rows) c.no_buckets-buckets.result c.no_links-links.result c.no_buckets-buckets.ensures c.no_links-links.ensures)
+    (omega arith, numbered_none c.args.scratch.now c.args.work.now c.args.rows, bucketed_none _ _ (row_hashed (number_in c.args.scratch.now c.args.rows) c.args.work.now c.args.rows) (replicate bucket_count 0) (replicate link_count 0) refl refl)
 
 pub row_hash-hash-requires : goal.row_hash-hash-requires
 row_hash-hash-requires c = record {

@@ -1,112 +1,42 @@
 -- `refute::clash` meets its contract.
 -- Assumes nothing.
+use mathlib.Core.Path.{◌≡◌}
 use Prim.Native.Nat.{suc, ◌^◌, ◌<◌}
-use native.Mathlib.Nat.{le_refl}
 use native.Mathlib.Omega.{arith}
 use Rattle.trial.proofs.Places.{few_frames, head_in}
-use Rattle.refute.proofs.Pairs.{history_small, shift_few, pair_clashes}
+use Rattle.refute.proofs.Pairs.{history_small, pair_clashes}
 use Rattle.refute.proofs.clash.Goals as goal
+use Rattle.refute.proofs.clash.Goals.{Else-not-is_history-2}
 
-pub returns-then-sought-t : goal.returns-then-sought-t
-returns-then-sought-t c =
-    record { by = λ l. absurd (omega arith) }
+-- both are histories of the table
+first_in : (c : Else-not-is_history-2) → (c.args.first.frame < c.args.trial.sought.frames) × (c.args.first.history < c.args.trial.sought.words ^ suc c.args.first.frame)
+first_in c = let h = c.is_history.ensures c.if-not-is_history.false in (h.0, history_small _ _ _ c.args.trial.held _ _ h.1)
 
-pub returns-then-sought-s : goal.returns-then-sought-s
-returns-then-sought-s c =
-    record { by = λ l. absurd (omega arith) }
-
-pub overflow_mul-inputs : goal.overflow_mul-inputs
-overflow_mul-inputs c =
-    omega (arith, shift_few _ _ _ c.requires.held c.args.a.frame (omega arith))
-
-pub overflow_shr-g : goal.overflow_shr-g
-overflow_shr-g c =
-    omega (arith, shift_few _ _ _ c.requires.held c.args.a.frame (omega arith))
-
-pub returns-then-g-inputs-gt0 : goal.returns-then-g-inputs-gt0
-returns-then-g-inputs-gt0 c =
-    record { by = λ l. absurd (omega arith) }
-
-pub overflow_mul-inputs-2 : goal.overflow_mul-inputs-2
-overflow_mul-inputs-2 c =
-    omega (arith, shift_few _ _ _ c.requires.held c.args.b.frame (omega arith))
-
-pub overflow_shr-h : goal.overflow_shr-h
-overflow_shr-h c =
-    omega (arith, shift_few _ _ _ c.requires.held c.args.b.frame (omega arith))
-
-pub returns-then-h-inputs-gt0 : goal.returns-then-h-inputs-gt0
-returns-then-h-inputs-gt0 c =
-    record { by = λ l. absurd (omega arith) }
+second_in : (c : Else-not-is_history-2) → (c.args.second.frame < c.args.trial.sought.frames) × (c.args.second.history < c.args.trial.sought.words ^ suc c.args.second.frame)
+second_in c = let h = c.is_history-else-not-is_history.ensures c.if-not-is_history-2.false in (h.0, history_small _ _ _ c.args.trial.held _ _ h.1)
 
 pub come-one-requires : goal.come-one-requires
-come-one-requires c =
-    let told : (c.args.a.frame < c.args.sought.frames) × (c.args.b.frame < c.args.sought.frames) × (c.args.a.history < c.args.sought.words ^ suc c.args.a.frame) × (c.args.b.history < c.args.sought.words ^ suc c.args.b.frame) =
-    (omega arith, omega arith, history_small _ _ _ c.requires.held c.args.a.frame c.args.a.history (λ l. omega (arith, c.if-g-inputs-gt0.false)), history_small _ _ _ c.requires.held c.args.b.frame c.args.b.history (λ l. omega (arith, c.if-h-inputs-gt0.false)))
-    in
-    record {
-      held = c.requires.held;
-      candidate = c.requires.candidate;
-      t_lt_frames = ((told).0, (told).2);
-    }
+come-one-requires c = first_in (goal.at.come-one-requires c).Else-not-is_history-2
 
 pub come-zero-requires : goal.come-zero-requires
-come-zero-requires c =
-    let told : (c.args.a.frame < c.args.sought.frames) × (c.args.b.frame < c.args.sought.frames) × (c.args.a.history < c.args.sought.words ^ suc c.args.a.frame) × (c.args.b.history < c.args.sought.words ^ suc c.args.b.frame) =
-    (omega arith, omega arith, history_small _ _ _ c.requires.held c.args.a.frame c.args.a.history (λ l. omega (arith, c.if-g-inputs-gt0.false)), history_small _ _ _ c.requires.held c.args.b.frame c.args.b.history (λ l. omega (arith, c.if-h-inputs-gt0.false)))
-    in
-    record {
-      held = c.requires.held;
-      candidate = c.requires.candidate;
-      t_lt_frames = ((told).1, (told).3);
-    }
+come-zero-requires c = second_in (goal.at.come-zero-requires c).Else-not-is_history-2
 
-pub returns-then-one-zero : goal.returns-then-one-zero
-returns-then-one-zero c =
-    record { by = λ l. absurd (omega arith) }
+pub connected_of-requires-clause-last_in_bounds : goal.connected_of-requires-clause-last_in_bounds
+connected_of-requires-clause-last_in_bounds c = head_in _ _ _ c.args.trial.held
 
-pub connected_of-requires : goal.connected_of-requires
-connected_of-requires c =
-    let told : (c.args.a.frame < c.args.sought.frames) × (c.args.b.frame < c.args.sought.frames) × (c.args.a.history < c.args.sought.words ^ suc c.args.a.frame) × (c.args.b.history < c.args.sought.words ^ suc c.args.b.frame) =
-    (omega arith, omega arith, history_small _ _ _ c.requires.held c.args.a.frame c.args.a.history (λ l. omega (arith, c.if-g-inputs-gt0.false)), history_small _ _ _ c.requires.held c.args.b.frame c.args.b.history (λ l. omega (arith, c.if-h-inputs-gt0.false)))
-    in
-    record {
-      last_value = (c.requires.held.frames_are, few_frames _ _ _ c.requires.held, (told).0);
-      last_in_bounds = head_in _ _ _ c.requires.held;
-    }
-
-pub connected_of-requires-2 : goal.connected_of-requires-2
-connected_of-requires-2 c =
-    let told : (c.args.a.frame < c.args.sought.frames) × (c.args.b.frame < c.args.sought.frames) × (c.args.a.history < c.args.sought.words ^ suc c.args.a.frame) × (c.args.b.history < c.args.sought.words ^ suc c.args.b.frame) =
-    (omega arith, omega arith, history_small _ _ _ c.requires.held c.args.a.frame c.args.a.history (λ l. omega (arith, c.if-g-inputs-gt0.false)), history_small _ _ _ c.requires.held c.args.b.frame c.args.b.history (λ l. omega (arith, c.if-h-inputs-gt0.false)))
-    in
-    record {
-      last_value = (c.requires.held.frames_are, few_frames _ _ _ c.requires.held, (told).1);
-      last_in_bounds = head_in _ _ _ c.requires.held;
-    }
-
-pub returns-then-ones-zeros-eq0 : goal.returns-then-ones-zeros-eq0
-returns-then-ones-zeros-eq0 c =
-    record { by = λ l. absurd (omega arith) }
-
-pub returns-then-one-zero-2 : goal.returns-then-one-zero-2
-returns-then-one-zero-2 c =
-    let told : (c.args.a.frame < c.args.sought.frames) × (c.args.b.frame < c.args.sought.frames) × (c.args.a.history < c.args.sought.words ^ suc c.args.a.frame) × (c.args.b.history < c.args.sought.words ^ suc c.args.b.frame) =
-    (omega arith, omega arith, history_small _ _ _ c.requires.held c.args.a.frame c.args.a.history (λ l. omega (arith, c.if-g-inputs-gt0.false)), history_small _ _ _ c.requires.held c.args.b.frame c.args.b.history (λ l. omega (arith, c.if-h-inputs-gt0.false)))
-    in
-    record {
-      by = λ _. pair_clashes _ _ _ c.args.chosen.now c.requires.held c.args.a.frame c.args.a.history c.args.b.frame c.args.b.history (told).0 (told).1 (told).2 (told).3
-          c.come-one.result c.come-zero.result c.come-one.ensures.comes c.come-zero.ensures.comes c.come-zero.ensures.bounds.2 _ _ c.connected_of.ensures.0 c.connected_of-2.ensures.0
-          (omega (arith, c.if-one-zero.false)) (omega (arith, c.if-ones-zeros-eq0.false)) _ (omega (arith, c.if-one-zero-2.true)) (le_refl _);
-    }
+pub connected_of-requires-2-clause-last_in_bounds : goal.connected_of-requires-2-clause-last_in_bounds
+connected_of-requires-2-clause-last_in_bounds c = head_in _ _ _ c.args.trial.held
 
 pub returns : goal.returns
 returns c =
-    let told : (c.args.a.frame < c.args.sought.frames) × (c.args.b.frame < c.args.sought.frames) × (c.args.a.history < c.args.sought.words ^ suc c.args.a.frame) × (c.args.b.history < c.args.sought.words ^ suc c.args.b.frame) =
-    (omega arith, omega arith, history_small _ _ _ c.requires.held c.args.a.frame c.args.a.history (λ l. omega (arith, c.if-g-inputs-gt0.false)), history_small _ _ _ c.requires.held c.args.b.frame c.args.b.history (λ l. omega (arith, c.if-h-inputs-gt0.false)))
-    in
+    let d = (goal.at.returns c).Else-not-is_history-2 in
+    let f = first_in d in
+    let s = second_in d in
     record {
-      by = λ _. pair_clashes _ _ _ c.args.chosen.now c.requires.held c.args.a.frame c.args.a.history c.args.b.frame c.args.b.history (told).0 (told).1 (told).2 (told).3
-          c.come-one.result c.come-zero.result c.come-one.ensures.comes c.come-zero.ensures.comes c.come-zero.ensures.bounds.2 _ _ c.connected_of.ensures.0 c.connected_of-2.ensures.0
-          (omega (arith, c.if-one-zero.false)) (omega (arith, c.if-ones-zeros-eq0.false)) _ (le_refl _) (omega (arith, c.if-one-zero-2.false));
+      by = λ used e. let q : c.max.result ≡ used = cc in (
+        omega (arith, c.max.ensures, c.come-one.ensures.bounds.1, c.come-zero.ensures.bounds.1),
+        pair_clashes _ _ _ c.args.trial.chosen.now c.args.trial.held c.args.first.frame c.args.first.history c.args.second.frame c.args.second.history f.0 s.0 f.1 s.1
+            c.come-one.result c.come-zero.result c.come-one.ensures.comes c.come-zero.ensures.comes c.come-zero.ensures.bounds.2 _ _ c.connected_of.ensures.0 c.connected_of-2.ensures.0
+            (omega (arith, c.if-one-zero.false)) (omega (arith, c.if-ones-zeros-eq0.false)) used (omega (arith, c.max.ensures)) (omega (arith, c.max.ensures)),
+      );
     }

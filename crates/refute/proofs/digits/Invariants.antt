@@ -9,7 +9,3 @@ use Rattle.refute.proofs.digits.Given as goal
 abbrev pub invariant-loop-i : goal.invariant-loop-i
 invariant-loop-i l =
     (l.i ≤ l.entries) × (l.rest ≡ l.c / l.states ^ (l.entries - l.i)) × ((e : ℕ) → l.i ≤ e → e < l.entries → get_or l.chosen e 0 ≡ digit_of l.states l.entries l.c e) × (length l.chosen ≡ 12)
-
-abbrev pub decreases-loop-i : goal.decreases-loop-i
-decreases-loop-i l =
-    l.i

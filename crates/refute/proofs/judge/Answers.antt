@@ -1,24 +1,16 @@
 -- `refute::judge` meets its contract.
 -- Assumes nothing.
-use mathlib.Core.Path.{ap, ◌∙◌}
-use Prim.Native.Nat.{ℕ}
-use native.Mathlib.Omega.{arith}
-use lib.ListN.{length, length-replicate}
-use Rattle.trial.specs.Collected.{refuted}
+use mathlib.Core.Path.{refl}
+use native.Mathlib.Nat.{le_refl}
+use Rattle.refute.specs.Searched.{refuted}
+use Rattle.refute.proofs.Searching.{decided_fits, decided_refuted}
 use Rattle.refute.proofs.judge.Goals as goal
 
-pub returns-then-recalled-sought : goal.returns-then-recalled-sought
-returns-then-recalled-sought c =
-    record {
-      judged = refuted (omega arith) (c.recall-recalled.ensures.refuses.by (omega arith));
-      long = ap length c.nothing-none.ensures ∙ length-replicate {A = ℕ} 12 0;
-      at = c.recall-recalled.ensures.at;
-    }
+pub returns-in-Some : goal.returns-in-Some
+returns-in-Some c = let r = c.recall.ensures c.in-Some.refuted c.in-Some.is in refuted _ refl r.0 r.1
 
-pub keep-place-requires : goal.keep-place-requires
-keep-place-requires c =
-    record {
-      held = c.requires.held;
-      candidate = c.requires.candidate;
-      seen_len = c.requires.seen_len.0;
-    }
+pub returns-in-Ok : goal.returns-in-Ok
+returns-in-Ok c = decided_fits _ _ _ _ c.try_all.ensures _ c.in-Ok.is
+
+pub returns-in-Err : goal.returns-in-Err
+returns-in-Err c = refuted _ refl (le_refl _) (decided_refuted _ _ _ _ c.try_all.ensures _ c.in-Err.is)

@@ -1,9 +1,8 @@
--- `refute::mate` meets its contract.
+-- `refute::mate` meets its contract. The invariant: `count` histories have s words.
 -- Assumes nothing.
 use mathlib.Core.Path.{◌≡◌}
-use Prim.Native.Nat.{◌^◌, ◌≤◌}
+use Prim.Native.Nat.{◌^◌}
 use Rattle.refute.proofs.mate.Given as goal
 
 abbrev pub invariant-loop-s : goal.invariant-loop-s
-invariant-loop-s l =
-    (l.s ≤ l.frames) × (l.count ≡ l.sought.words ^ l.s)
+invariant-loop-s l = l.count ≡ l.trial.sought.words ^ l.s

@@ -16,5 +16,5 @@ seen table mask = masked (λ _. mask) (machine table)
 
 abbrev pub invariant-loop-t : goal.invariant-loop-t
 invariant-loop-t l =
-    (l.t ≤ l.frames) × (length l.res ≡ length l.initial.res) × (l.position.layer ≡ l.t) × (l.position.state < states l.table l.t)
+    (l.t ≤ length l.words) × (length l.res ≡ length l.initial.res) × (l.position.layer ≡ l.t) × (l.position.state < states l.table l.t)
     × (shown l.table l.mask l.words ≡ take l.t l.res ++ feed (seen l.table l.mask) l.t l.position.state (drop l.t l.words)) × (drop l.t l.res ≡ drop l.t l.initial.res)

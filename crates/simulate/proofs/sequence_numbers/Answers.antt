@@ -1,8 +1,7 @@
 -- `simulate::sequence_numbers` meets its contract. The invariant: the numbers of the first k sequences are stored.
 -- Assumes nothing.
-use mathlib.Core.Path.{refl, sym, ap, ◌∙◌}
-use Prim.Native.Nat.{◌^◌}
-use native.Mathlib.Nat.{zero-mul, suc-mul}
+use mathlib.Core.Path.{refl, ap, ◌∙◌}
+use Prim.Native.Nat.{◌*◌, ◌^◌}
 use native.Mathlib.Omega.{arith}
 use lib.ListN.{length-set}
 use Rattle.layered.specs.Histories.{history_number}
@@ -12,11 +11,11 @@ use Rattle.simulate.proofs.sequence_numbers.Goals as goal
 
 pub loop-k-init : goal.loop-k-init
 loop-k-init c =
-    (omega arith, refl, sym (zero-mul c.args.frames), λ i h. absurd (omega arith))
+    (omega arith, refl, λ i h. absurd (omega arith))
 
 pub sequence_number-requires : goal.sequence_number-requires
 sequence_number-requires c =
-    let f = part_fed c.args.inputs c.args.frames c.args.count c.args.words.now _ c.requires.inputs_le_most_bits.1 c.requires.fed c.loop-k.k c.loop-k-test.true (part_is c.args.frames c.loop-k.k c.loop-k.at c.args.words.now c.loop-k.invariant.2) in
+    let f = part_fed c.args.inputs c.args.frames c.args.count c.args.words.now _ c.requires.inputs_le_most_bits.1 c.requires.fed c.loop-k.k c.loop-k-test.true (part_is c.args.frames c.loop-k.k (c.loop-k.k * c.args.frames) c.args.words.now refl) in
     record {
       inputs_le_most_bits = (c.requires.inputs_le_most_bits.0, f.0);
       fed = f.1;
@@ -26,11 +25,10 @@ pub loop-k-preserved : goal.loop-k-preserved
 loop-k-preserved c = (
   omega (arith, c),
   simp length-set c.loop-k.invariant.1,
-  omega (arith, c.loop-k.invariant.2, suc-mul c.loop-k.k c.args.frames),
   front_more c.loop-k.numbers c.loop-k.k c.sequence_number.result (λ k. history_number (2 ^ c.args.inputs) 0 (sequence_at c.args.frames c.args.words.now k))
-      (omega (arith, c, c.requires)) c.loop-k.invariant.3 (c.sequence_number.ensures ∙ ap (history_number (2 ^ c.args.inputs) 0) (part_is c.args.frames c.loop-k.k c.loop-k.at c.args.words.now c.loop-k.invariant.2)),
+      (omega (arith, c, c.requires)) c.loop-k.invariant.2 (c.sequence_number.ensures ∙ ap (history_number (2 ^ c.args.inputs) 0) (part_is c.args.frames c.loop-k.k (c.loop-k.k * c.args.frames) c.args.words.now refl)),
 )
 
 pub returns : goal.returns
 returns c k h =
-    c.loop-k.invariant.3 k (omega arith)
+    c.loop-k.invariant.2 k (omega arith)

@@ -1,17 +1,11 @@
--- `sizes::check_sequence` meets its contract: its judgements follow one another as the definition's do.
+-- `sizes::check_sequence` meets its contract: a refusal of the words is the definition's, after a count that is right.
 -- Assumes nothing.
-use mathlib.Core.Path.{refl, ap₂, ◌∙◌}
-use mathlib.Core.Bool.{not}
-use lib.Dec.{ltb, eqb}
-use lib.ListN.{length}
-use Rattle.verdict.specs.Judgements.{answer, refuse, and_then}
-use Rattle.verdict.proofs.Laws.{refuse_then}
-use Rattle.sizes.specs.Sizes.{words_checked, sequence_checked}
+use Rattle.std.proofs.Common.{arith}
+use Rattle.std.proofs.lemmas.Grind.{common_steps}
+use Rattle.verdict.proofs.Laws.{refusal_number, told}
+use Rattle.sizes.specs.Sizes.{sequence_checked}
 use Rattle.sizes.proofs.check_sequence.Goals as goal
 
-pub returns : goal.returns
+pub returns-in_err-check_words : goal.returns-in_err-check_words
 unfolding sequence_checked
-returns c =
-    c.and_then-2.ensures
-    ∙ ap₂ and_then c.refuse_if-counted.ensures (c.and_then.ensures ∙ ap₂ and_then c.check_words-small.ensures c.refuse_if-roomy.ensures)
-    ∙ refuse_then (not (eqb (length c.args.words.now) c.args.frames)) 12 (length c.args.words.now) (and_then (words_checked c.args.inputs c.args.words.now) (refuse (ltb c.args.room c.args.frames) 7 c.args.frames (answer 0 c.args.frames))) refl
+returns-in_err-check_words c = told _ _ _ c.from_residual.ensures.1 (grind (arith, common_steps, refusal_number))

@@ -23,12 +23,12 @@ loop-t-init c =
     let z : length c.args.words.now ≡ length c.args.words.now - 0 = omega arith in
     (omega arith, ap (refuse_first (large c.args.inputs c.args.words.now) 9 (λ i. i) (answer 0 0) 0) z)
 
-pub overflow_cast-words : goal.overflow_cast-words
-overflow_cast-words c =
+pub overflow_cast-word : goal.overflow_cast-word
+overflow_cast-word c =
     omega (arith, c.type_inv.words c.loop-t.t)
 
-pub returns-then-limit-words : goal.returns-then-limit-words
-returns-then-limit-words c =
+pub returns-then-limit-word : goal.returns-then-limit-word
+returns-then-limit-word c =
     sym (c.loop-t.invariant.1 ∙ first_here _ _ _ _ _ _ (omega arith)
     (le-leb (2 ^ c.args.inputs) (get_or c.args.words.now c.loop-t.t 0) (omega (arith, c.power-limit.ensures))))
 

@@ -17,7 +17,3 @@ large n words t = leb (2 ^ n) (get_or words t 0)
 abbrev pub invariant-loop-t : goal.invariant-loop-t
 invariant-loop-t l =
     (l.t ≤ length l.words) × (words_checked l.inputs l.words ≡ refuse_first (large l.inputs l.words) 9 (λ i. i) (answer 0 0) l.t (length l.words - l.t))
-
-abbrev pub decreases-loop-t : goal.decreases-loop-t
-decreases-loop-t l =
-    length l.words - l.t

@@ -1,4 +1,4 @@
--- `source::connected_outputs` meets its contract. The invariant: the word is that of the last j outputs of the frame.
+-- `source::connected_outputs` meets its contract. The invariant: the word is that of the outputs of the frame from j on.
 -- Assumes nothing.
 use mathlib.Core.Path.{◌≡◌}
 use mathlib.Core.Bool.{Bool}
@@ -17,4 +17,4 @@ flags b t = listed [] (connects b t) (outputs b)
 
 abbrev pub invariant-loop-j : goal.invariant-loop-j
 invariant-loop-j l =
-    (l.j ≤ l.count) × (l.word ≡ packed (take l.j (drop (l.count - l.j) (flags (sourced l.source l.circuit) l.t))))
+    (l.j ≤ l.source.outputs) × (l.word ≡ packed (take (l.source.outputs - l.j) (drop l.j (flags (sourced l.source l.circuit) l.t))))

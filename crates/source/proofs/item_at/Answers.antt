@@ -1,31 +1,20 @@
--- `source::item_at` meets its contract. The invariant: no output before output k stands there.
+-- `source::item_at` meets its contract: the first output that names the place, or of a circuit as it stands the one with its number.
 -- Assumes nothing.
-use mathlib.Core.Path.{◌≡◌}
-use mathlib.Core.Bool.{false}
-use native.Mathlib.Omega.{arith}
-use lib.Dec.{eqb}
-use lib.ListN.{get_or}
-use borrow.Author.Tests.{eq-eqb, ne_eqb}
-use Rattle.layered.proofs.Search.{below_suc}
-use Rattle.source.proofs.Standing.{item_whole, item_found, item_none}
+use Rattle.std.proofs.Common.{rules, tests, ◌≡◌, ◌∙◌, ap, eqb, take, arith}
+use Rattle.std.specs.List.{position}
+use Rattle.std.proofs.lemmas.Iterator.{YieldsList-from_slice}
+use Rattle.std.proofs.lemmas.Iterator.Search.{position_from_yields_List}
+use Rattle.circuit.specs.Found.{found}
+use Rattle.circuit.proofs.Found.{then_some_found}
+use Rattle.source.proofs.Standing.{item_whole, item_position}
 use Rattle.source.proofs.item_at.Goals as goal
 
 pub returns-then-source : goal.returns-then-source
-returns-then-source c =
-    item_whole _ _ c.if-source.true
-
-pub loop-k-init : goal.loop-k-init
-loop-k-init c =
-    (omega arith, λ i h. absurd (omega arith))
-
-pub returns-then-source-k : goal.returns-then-source-k
-returns-then-source-k c =
-    item_found _ _ c.if-source.false c.loop-k.k c.loop-k-test.true c.loop-k.invariant.1 (eq-eqb _ _ c.if-source-k.true)
-
-pub loop-k-preserved : goal.loop-k-preserved
-loop-k-preserved c =
-    (omega (arith, c.loop-k-test.true), λ i h. below_suc {P = λ i. eqb (get_or c.args.source.shown i 0) c.args.q ≡ false} c.loop-k.invariant.1 (ne_eqb _ _ c.if-source-k.false) i (omega arith))
+returns-then-source c = c.then_some.ensures ∙ then_some_found _ _ ∙ ap (found _) (item_whole c.args.source c.args.q c.if-source.true)
 
 pub returns : goal.returns
 returns c =
-    item_none _ _ c.if-source.false (λ i h. c.loop-k.invariant.1 i (omega (arith, c.loop-k-test.false)))
+    let p : c.position.result ≡ position (λ x. eqb x c.args.q) (take c.args.source.own.total c.args.source.shown) =
+    position_from_yields_List (λ x. eqb x c.args.q) _ _ c.position.result c.position.ensures.ran (YieldsList-from_slice _ c.iter.ensures.rest) (λ x b q k. search (rules, tests))
+    in
+    p ∙ item_position c.args.source c.args.q c.if-source.false (omega arith)

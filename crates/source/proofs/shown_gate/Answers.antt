@@ -3,49 +3,39 @@
 use mathlib.Core.Path.{refl, sym, ◌∙◌}
 use Prim.Native.Nat.{◌+◌, ◌-◌, ◌<◌}
 use native.Mathlib.Omega.{arith}
-use Rattle.source.specs.Source.{SourceOf, spread}
-use Rattle.source.proofs.Sources.{item_most, few_items, shows_none, shows_item}
+use Rattle.circuit.proofs.Found.{is_found, none_is}
+use Rattle.source.specs.Source.{spread}
+use Rattle.source.proofs.Sources.{few_items, none_there, shows_none, shows_item}
+use Rattle.source.proofs.shown_gate.Goals.{In-Some}
 use Rattle.source.proofs.shown_gate.Goals as goal
 
-pub is_connected-requires : goal.is_connected-requires
-is_connected-requires c =
-    let source : SourceOf c.args.circuit.now c.args.source =
-    spread c.requires.0 c.requires.1
-    in
-    (source, c.requires.2)
-
 pub item_at-requires : goal.item_at-requires
-item_at-requires c =
-    let source : SourceOf c.args.circuit.now c.args.source =
-    spread c.requires.0 c.requires.1
-    in
-    few_items _ _ (source)
+item_at-requires c = few_items _ _ (spread c.requires.0 c.requires.1)
 
-pub returns-then-is_connected : goal.returns-then-is_connected
-returns-then-is_connected c =
-    shows_item _ _ c.requires.1 c.requires.0 c.args.q c.item_at.result c.requires.2 c.item_at.ensures (sym c.if-is_connected.true ∙ c.is_connected.ensures) _ refl refl
+pub is_connected-requires : goal.is_connected-requires
+is_connected-requires c = (spread c.requires.0 c.requires.1, c.requires.2)
 
-pub returns : goal.returns
-returns c =
-    shows_none _ _ c.requires.1 c.requires.0 c.args.q _ c.requires.2 refl (sym c.if-is_connected.false ∙ c.is_connected.ensures) _ refl refl
-
-pub overflow_add-shown : goal.overflow_add-shown
-overflow_add-shown c =
-    let few : c.args.source.base + (c.args.source.own.gates - c.args.source.own.total + c.item_at.result) < 65536 =
-    omega (arith, c.requires.1.network, c.requires.1.few, c.requires.1.base_is, c.requires.1.sizes.bits_to, c.item_at.ensures, item_most c.args.circuit.now c.args.source c.requires.0 c.args.q)
-    in
-    omega (arith, few)
+-- a signal of the gate that is shown, and of one more
+few : (c : In-Some) → c.args.source.base + (c.args.source.own.gates - c.args.source.own.total + c.in-Some.k) < 65536
+few c = omega (arith, c.requires.1.network, c.requires.1.few, c.requires.1.base_is, c.requires.1.sizes.bits_to, is_found _ _ _ c.in-Some.ensures)
 
 pub overflow_add-result : goal.overflow_add-result
-overflow_add-result c =
-    let few : c.args.source.base + (c.args.source.own.gates - c.args.source.own.total + c.item_at.result) < 65536 =
-    omega (arith, c.requires.1.network, c.requires.1.few, c.requires.1.base_is, c.requires.1.sizes.bits_to, c.item_at.ensures, item_most c.args.circuit.now c.args.source c.requires.0 c.args.q)
-    in
-    omega (arith, few)
+overflow_add-result c = omega (arith, few (goal.at.overflow_add-result c).In-Some)
+
+pub overflow_add-result-in-Some : goal.overflow_add-result-in-Some
+overflow_add-result-in-Some c = omega (arith, few (goal.at.overflow_add-result-in-Some c).In-Some)
 
 pub overflow_mul-result : goal.overflow_mul-result
-overflow_mul-result c =
-    let few : c.args.source.base + (c.args.source.own.gates - c.args.source.own.total + c.item_at.result) < 65536 =
-    omega (arith, c.requires.1.network, c.requires.1.few, c.requires.1.base_is, c.requires.1.sizes.bits_to, c.item_at.ensures, item_most c.args.circuit.now c.args.source c.requires.0 c.args.q)
-    in
-    omega (arith, few)
+overflow_mul-result c = omega (arith, few (goal.at.overflow_mul-result c).In-Some)
+
+pub returns-in-Some : goal.returns-in-Some
+returns-in-Some c =
+    shows_item _ _ c.requires.1 c.requires.0 c.args.q _ c.requires.2 (is_found _ _ _ c.in-Some.ensures).0 (sym c.if-is_connected.true ∙ c.is_connected.ensures) _ refl refl
+
+pub returns-in_default : goal.returns-in_default
+returns-in_default c =
+    shows_none _ _ c.requires.1 c.requires.0 c.args.q _ c.requires.2 refl (sym c.if-is_connected.false ∙ c.is_connected.ensures) _ refl refl
+
+pub returns-in_default-2 : goal.returns-in_default-2
+returns-in_default-2 c =
+    shows_none _ _ c.requires.1 c.requires.0 c.args.q _ c.requires.2 refl (none_there _ _ c.args.q _ c.requires.2 refl (spread c.requires.0 c.requires.1) (none_is _ _ c.in_default.ensures)) _ refl refl

@@ -1,15 +1,18 @@
 -- `source::shown_signal` meets its contract.
 -- Assumes nothing.
-use Prim.Native.Nat.{◌<◌}
+use mathlib.Core.Path.{refl}
 use native.Mathlib.Omega.{arith}
+use Rattle.circuit.proofs.Found.{is_found, none_is}
 use Rattle.source.proofs.Standing.{shown_none, shown_item}
 use Rattle.source.proofs.shown_signal.Goals as goal
 
-pub returns-then-own-k : goal.returns-then-own-k
-returns-then-own-k c =
-    (shown_none _ _ _ c.item_at-k.ensures c.if-own-k.true, omega arith)
+pub overflow_add-result-in-Some : goal.overflow_add-result-in-Some
+overflow_add-result-in-Some c = omega (arith, is_found _ _ _ c.in-Some.ensures, c.requires.1, c.requires.2)
 
-pub returns : goal.returns
-returns c =
-    let l : c.item_at-k.result < c.args.source.own.total = omega (arith, c.if-own-k.false) in
-    (shown_item _ _ _ c.item_at-k.ensures l, omega (arith, c.requires.1, c.requires.2))
+pub returns-in-Some : goal.returns-in-Some
+returns-in-Some c =
+    let f = is_found _ _ _ c.in-Some.ensures in
+    (shown_item c.args.source c.args.q _ f.0 (omega (arith, f)), omega (arith, f, c.requires.1, c.requires.2))
+
+pub returns-in-None : goal.returns-in-None
+returns-in-None c = (shown_none c.args.source c.args.q _ refl (none_is _ _ c.in-None.ensures), omega arith)

@@ -1,15 +1,9 @@
 -- `words::store_all` meets its contract. The invariant: the numbers so far are stored.
 -- Assumes nothing.
 use mathlib.Core.Path.{◌≡◌}
-use Prim.Native.Nat.{◌-◌, ◌≤◌}
 use lib.ListN.{take}
 use Rattle.words.specs.Words.{stored}
 use Rattle.words.proofs.store_all.Given as goal
 
 abbrev pub invariant-loop-i : goal.invariant-loop-i
-invariant-loop-i l =
-    (l.i ≤ l.count) × (l.bytes ≡ stored 2 l.initial.bytes l.at (take l.i l.numbers))
-
-abbrev pub decreases-loop-i : goal.decreases-loop-i
-decreases-loop-i l =
-    l.count - l.i
+invariant-loop-i l = l.bytes ≡ stored 2 l.initial.bytes l.at (take l.i l.numbers)

@@ -4,6 +4,7 @@ use mathlib.Core.Path.{◌≡◌, ap, ap₂, ◌∙◌}
 use mathlib.Core.List.{List, [], ◌∷◌}
 use Prim.Native.Nat.{ℕ, ◌+◌}
 use native.Mathlib.Omega.{arith}
+use lib.ListN.{length-take}
 use Rattle.words.specs.Words.{stored}
 use Rattle.sizes.specs.Sizes.{inputs, outputs, frames}
 use Rattle.table.specs.Table.{connected_at}
@@ -20,7 +21,7 @@ first-words n m t b e f g = ap₂ (λ (x : ℕ) (l : List ℕ). x ∷ l) e (ap�
 
 pub store_all-requires : goal.store_all-requires
 store_all-requires c =
-    (omega arith, omega (arith, head_length_lem (frames (sourced c.args.source c.args.circuit.now)), c.requires.circuit_in_bounds))
+    omega (arith, head_length_lem (frames (sourced c.args.source c.args.circuit.now)), c.requires.circuit_in_bounds)
 
 pub store_all-requires-2 : goal.store_all-requires-2
 store_all-requires-2 c =
@@ -29,10 +30,8 @@ store_all-requires-2 c =
     in
     let known : WellFormed ((sourced c.args.source c.args.circuit.now)) (head_of c.args.source) =
     well _ _ c.requires.source_of
-    in (
-      omega (arith, c.requires.counts_to.places, known),
-      omega (arith, head_length_lem (frames (sourced c.args.source c.args.circuit.now)), c.requires.circuit_in_bounds, c.store_all.auto.bytes, (known).head_is),
-    )
+    in
+    rw length-take (omega (arith, head_length_lem (frames (sourced c.args.source c.args.circuit.now)), c.requires.circuit_in_bounds, c.store_all.auto.bytes, known.head_is))
 
 pub put_connected-requires : goal.put_connected-requires
 put_connected-requires c =

@@ -24,7 +24,7 @@ store_all-requires c =
     let len : length c.loop-t.res ≡ length c.args.res.now = ap length c.loop-t.invariant.3 ∙ stored_length 2 _ _ _ (omega (arith, fits)) in
     let more : suc c.loop-t.t < c.args.layout.frames = omega (arith, c.loop-t-test.true) in
     let part : c.args.layout.half + layer_at c.args.layout.fan (suc c.loop-t.t) + get_or c.args.counts.now c.loop-t.t 0 * c.args.layout.fan ≤ length c.args.scratch.now = part_in _ _ _ _ _ c.requires c.loop-t.t more in
-    (rw (length-take, length-drop) (omega (arith, part, c.loop-t.invariant.1)), omega (arith, fits, len, c.loop-t.invariant.2))
+    rw (length-take, length-drop) (omega (arith, fits, len, part, c.loop-t.invariant.1, c.loop-t.invariant.2))
 
 pub loop-t-preserved : goal.loop-t-preserved
 loop-t-preserved c =
@@ -37,7 +37,7 @@ loop-t-preserved c =
     let n : ℕ = get_or c.args.counts.now t 0 * c.args.layout.fan in
     let v = nexts_in c.args.layout c.args.scratch.now c.args.counts.now in
     let e = nexts_layer c.args.layout c.args.scratch.now c.args.counts.now t in
-    let q = part_lent c.args.layout c.args.scratch.now t n (length c.args.scratch.now - (c.args.layout.half + c.loop-t.from)) c.loop-t.from c.loop-t.invariant.1 (omega (arith, part, c.loop-t.invariant.1)) in
+    let q = part_lent c.args.layout c.args.scratch.now t n c.loop-t.from c.loop-t.invariant.1 in
     let k : length (take n (drop (c.args.layout.half + layer_at c.args.layout.fan (suc t)) c.args.scratch.now)) ≡ n = length-take n _ ∙ omega (arith, part, length-drop (c.args.layout.half + layer_at c.args.layout.fan (suc t)) c.args.scratch.now) in (
       omega arith,
       next_from ∙ sym (layer_next c.args.layout.fan (suc t)) ∙ ap (λ (t : ℕ). layer_at c.args.layout.fan (suc t)) (sym (add-one t)),
@@ -110,6 +110,25 @@ overflow_add-end c =
 
 pub slice_bounds-store_all-start : goal.slice_bounds-store_all-start
 slice_bounds-store_all-start c =
+    let more : suc c.loop-t.t < c.args.layout.frames = omega (arith, c.loop-t-test.true) in
+    let part : c.args.layout.half + layer_at c.args.layout.fan (suc c.loop-t.t) + get_or c.args.counts.now c.loop-t.t 0 * c.args.layout.fan ≤ length c.args.scratch.now = part_in _ _ _ _ _ c.requires c.loop-t.t more in
+    omega (arith, part, c.loop-t.invariant.1)
+
+pub overflow_add-half-in-loop-t : goal.overflow_add-half-in-loop-t
+overflow_add-half-in-loop-t c =
+    let more : suc c.loop-t.t < c.args.layout.frames = omega (arith, c.loop-t-test.true) in
+    let from-few : (layer_at c.args.layout.fan (suc c.loop-t.t) ≤ 65536) × (layer_at c.args.layout.fan (suc c.loop-t.t) * c.args.layout.fan + 1 ≤ 131072) = from_to _ _ _ _ _ c.requires c.loop-t.t more in
+    let half-few : c.args.layout.half ≤ 65536 = half_to _ c.requires.laid in
+    omega (arith, from-few.0, half-few, c.loop-t.invariant.1)
+
+pub overflow_add-half-in-loop-t-2 : goal.overflow_add-half-in-loop-t-2
+overflow_add-half-in-loop-t-2 c =
+    let more : suc c.loop-t.t < c.args.layout.frames = omega (arith, c.loop-t-test.true) in
+    let part : c.args.layout.half + layer_at c.args.layout.fan (suc c.loop-t.t) + get_or c.args.counts.now c.loop-t.t 0 * c.args.layout.fan ≤ length c.args.scratch.now = part_in _ _ _ _ _ c.requires c.loop-t.t more in
+    omega (arith, part, c.loop-t.invariant.1, c.well_formed)
+
+pub slice_bounds-store_all-end : goal.slice_bounds-store_all-end
+slice_bounds-store_all-end c =
     let more : suc c.loop-t.t < c.args.layout.frames = omega (arith, c.loop-t-test.true) in
     let part : c.args.layout.half + layer_at c.args.layout.fan (suc c.loop-t.t) + get_or c.args.counts.now c.loop-t.t 0 * c.args.layout.fan ≤ length c.args.scratch.now = part_in _ _ _ _ _ c.requires c.loop-t.t more in
     omega (arith, part, c.loop-t.invariant.1)

@@ -1,41 +1,29 @@
--- `write::put_zeros` meets its contract. The invariant: the zeros so far are stored.
+-- `write::put_zeros` meets its contract: zero bytes are the bytes of zeros.
 -- Assumes nothing.
-use mathlib.Core.Path.{◌≡◌, sym, ap, ◌∙◌}
-use mathlib.Core.List.{[], ◌∷◌}
-use Prim.Native.Nat.{ℕ, ◌+◌, ◌*◌, ◌≤◌}
+use mathlib.Core.Path.{◌≡◌, refl, sym, ap, ap₂, ◌∙◌}
+use mathlib.Core.List.{List, ◌∷◌, ◌++◌}
+use Prim.Native.Nat.{ℕ, zero, suc, ◌+◌, ◌*◌, ◌-◌}
 use native.Mathlib.Omega.{arith}
-use lib.ListN.{length, replicate, length-replicate}
-use Rattle.words.specs.Words.{stored}
-use Rattle.words.proofs.Laws.{stored_none, stored_length, stored_behind}
-use Rattle.write.proofs.Nexts.{one_more}
+use borrow.Rule.Slice.PartMut.{put_mid}
+use lib.ListN.{length, replicate, take, drop, length-replicate}
+use Rattle.std.proofs.lemmas.Grind.{common_steps}
+use Rattle.std.proofs.lemmas.List.{drop-drop}
+use Rattle.words.specs.Words.{all_bytes, bytes_of, stored}
 use Rattle.write.proofs.put_zeros.Goals as goal
 
-pub loop-i-init : goal.loop-i-init
-loop-i-init c =
-    (omega arith, sym (stored_none 2 _ _))
+zero_bytes : (n : ℕ) → all_bytes 2 (replicate n 0) ≡ replicate (2 * n) 0
+unfolding all_bytes bytes_of
+zero_bytes zero = refl
+zero_bytes (suc n) = let e : 2 * suc n ≡ suc (suc (2 * n)) = omega arith in rw e (ap (λ (l : List ℕ). 0 ∷ 0 ∷ l) (zero_bytes n))
 
-pub store-requires : goal.store-requires
-store-requires c =
-    let room : c.args.at + 2 * length {A = ℕ} (replicate c.loop-i.i 0) ≤ length c.args.res.now =
-    omega (arith, c.requires, c.loop-i.invariant.0, length-replicate {A = ℕ} c.loop-i.i 0)
-    in
-    let len : length c.loop-i.res ≡ length c.args.res.now =
-    ap length c.loop-i.invariant.1 ∙ stored_length 2 _ _ _ (room)
-    in
-    omega (arith, c.requires, len)
-
-pub loop-i-preserved : goal.loop-i-preserved
-loop-i-preserved c =
-    let room : c.args.at + 2 * length {A = ℕ} (replicate c.loop-i.i 0) ≤ length c.args.res.now =
-    omega (arith, c.requires, c.loop-i.invariant.0, length-replicate {A = ℕ} c.loop-i.i 0)
-    in (
-      omega arith,
-      c.store.ensures
-          ∙ stored_behind 2 c.args.res.now c.loop-i.res c.args.at (replicate c.loop-i.i 0) (0 ∷ []) _ c.loop-i.invariant.1 (omega (arith, length-replicate {A = ℕ} c.loop-i.i 0)) (room)
-          ∙ ap (stored 2 c.args.res.now c.args.at) (one_more 0 c.loop-i.i),
-    )
+zeros_stored : (b r : List ℕ) (at n k : ℕ) → k ≡ 2 * n → r ≡ replicate k 0 → put_mid at k b r ≡ stored 2 b at (replicate n 0)
+unfolding stored
+zeros_stored b r at n k e f =
+    let l : k ≡ 2 * length {A = ℕ} (replicate n 0) = omega (arith, length-replicate {A = ℕ} n 0) in
+    ap₂ (λ (x y : List ℕ). take at b ++ (x ++ y)) (f ∙ ap (λ (k : ℕ). replicate k 0) e ∙ sym (zero_bytes n)) (drop-drop k at b ∙ ap (λ (m : ℕ). drop (at + m) b) l)
 
 pub returns : goal.returns
 returns c =
-    let e : c.loop-i.i ≡ c.args.count = omega arith in
-    c.loop-i.invariant.1 ∙ ap (λ (i : ℕ). stored 2 c.args.res.now c.args.at (replicate i 0)) e
+    let e : c.fill.new.self ≡ replicate (length c.fill.new.self) 0 = grind (arith, common_steps) in
+    let l : length c.fill.new.self ≡ c.args.at + 2 * c.args.count - c.args.at = grind (arith, common_steps) in
+    zeros_stored c.args.res.now c.fill.new.self c.args.at c.args.count _ (omega arith) (e ∙ ap (λ (k : ℕ). replicate k 0) l)

@@ -27,7 +27,3 @@ byte-is false = refl
 abbrev pub invariant-loop-k : goal.invariant-loop-k
 invariant-loop-k l =
     (l.k ≤ l.outputs) × (l.word ≡ packed (take (l.outputs - l.k) (drop l.k (bits_in l.work l.from l.outputs))))
-
-abbrev pub decreases-loop-k : goal.decreases-loop-k
-decreases-loop-k l =
-    l.k

@@ -1,18 +1,15 @@
--- `quiet::windows::check_windows` meets its contract. The invariant: what the definition says of all windows is what it says of those from i on.
+-- `quiet::windows::check_windows` meets its contract. The invariant: what the definition says of all windows is what it says of those that are left.
 -- Assumes nothing.
-use mathlib.Core.Path.{◌≡◌}
-use Prim.Native.Nat.{ℕ, ◌-◌, ◌≤◌}
-use lib.Dec.{ltb}
-use Rattle.verdict.specs.Judgements.{answer, refuse, refuse_first}
-use Rattle.verdict.specs.declared.Figures.{Figures}
-use Rattle.quiet.specs.Limits.{most_windows}
-use Rattle.quiet.specs.Windows.{is_bad, windows_checked}
+use Rattle.std.proofs.Common.{◌≡◌, ◌-◌, ◌*◌, ◌≤◌, drop}
+use Rattle.std.specs.Iterator.Adapters.{enumerate_source, enumerate_count}
+use Rattle.std.specs.Slice.Iter.{chunks_rest, chunks_size}
+use Rattle.verdict.specs.Judgements.{refuse_first}
+use Rattle.quiet.specs.Windows.{window_count, is_bad, windows_checked}
+use Rattle.quiet.proofs.Minutes.{none_bad}
 use Rattle.quiet.proofs.windows.check_windows.Given as goal
-
--- where none is bad
-abbrev rest : ℕ → Figures
-rest count = refuse (ltb most_windows count) 15 most_windows (answer 0 0)
 
 abbrev pub invariant-loop-i : goal.invariant-loop-i
 invariant-loop-i l =
-    (l.i ≤ l.count) × (windows_checked l.windows ≡ refuse_first (is_bad l.windows) 15 (λ i'. i') (rest l.count) l.i (l.count - l.i))
+    let k = enumerate_count l.i-iterator in
+    (k ≤ window_count l.windows) × (chunks_size (enumerate_source l.i-iterator) ≡ 2) × (chunks_rest (enumerate_source l.i-iterator) ≡ drop (2 * k) l.windows)
+    × (windows_checked l.windows ≡ refuse_first (is_bad l.windows) 15 (λ i. i) (none_bad l.windows) k (window_count l.windows - k))

@@ -21,18 +21,18 @@ loop-t-init c =
 
 pub overflow_cast-numbers : goal.overflow_cast-numbers
 overflow_cast-numbers c =
-    search (rules, c.list-counts.type_inv)
+    search rules
 
 pub loop-t-preserved : goal.loop-t-preserved
 loop-t-preserved c =
-    let x : ℕ = get_or c.list-counts.result c.loop-t.t 0 in
+    let x : ℕ = get_or c.args.self.counts c.loop-t.t 0 in
     let e : 3 + (c.loop-t.t + 1) ≡ suc (3 + c.loop-t.t) = omega arith in (
       omega arith,
       simp length-set c.loop-t.invariant.1,
       ap (λ (k : ℕ). take k (set c.loop-t.numbers (3 + c.loop-t.t) x)) e
           ∙ take-suc-set c.loop-t.numbers (3 + c.loop-t.t) x (omega (arith, c.loop-t.invariant.1))
           ∙ ap (λ (r : List ℕ). r ++ (x ∷ [])) c.loop-t.invariant.2
-          ∙ ap (λ (r : List ℕ). c.args.self.inputs ∷ c.args.self.outputs ∷ c.args.self.frames ∷ r) (sym (take-suc c.list-counts.result c.loop-t.t 0 (omega (arith, ap length c.list-counts.ensures))) ∙ ap (λ (k : ℕ). take k c.list-counts.result) (sym (add-one c.loop-t.t))),
+          ∙ ap (λ (r : List ℕ). c.args.self.inputs ∷ c.args.self.outputs ∷ c.args.self.frames ∷ r) (sym (take-suc c.args.self.counts c.loop-t.t 0 (omega arith)) ∙ ap (λ (k : ℕ). take k c.args.self.counts) (sym (add-one c.loop-t.t))),
     )
 
 pub returns : goal.returns
@@ -41,4 +41,4 @@ returns c =
     let e : c.loop-t.t ≡ 17 = omega arith in
     sym (take_all 21 (set c.loop-t.numbers 20 x) (simp length-set (omega (arith, c.loop-t.invariant.1))))
     ∙ take-suc-set c.loop-t.numbers 20 x (omega (arith, c.loop-t.invariant.1))
-    ∙ ap (λ (r : List ℕ). r ++ (x ∷ [])) (ap (λ (t : ℕ). take (3 + t) c.loop-t.numbers) (sym e) ∙ c.loop-t.invariant.2 ∙ ap₂ (front c.args.self) c.list-counts.ensures e)
+    ∙ ap (λ (r : List ℕ). r ++ (x ∷ [])) (ap (λ (t : ℕ). take (3 + t) c.loop-t.numbers) (sym e) ∙ c.loop-t.invariant.2 ∙ ap (front c.args.self c.args.self.counts) e ∙ ap (λ (r : List ℕ). c.args.self.inputs ∷ c.args.self.outputs ∷ c.args.self.frames ∷ r) (take_all 17 c.args.self.counts (omega arith)))
