@@ -9,7 +9,7 @@ ghost use Rattle.quiet.specs.Quiet.{quiet_stepped};
 ghost use Rattle.quiet.specs.Theorems.{QuietSteps, AfterSilence, QuietAccepts};
 
 use positions::Position;
-use steps::{Moved, Stepped, move_on};
+use steps::{Halted, Moved, Stepped, move_on};
 use table::head::check_head;
 use windows::{check_time, is_quiet};
 
@@ -26,13 +26,17 @@ impl Limits {
 // One step in a minute of the week, by value: the head, then windows and minute, then the move are judged.
 #[tactic(auto, using(crate::proofs::Timed::quiet_steps, crate::proofs::Timed::after_silence, crate::proofs::Timed::quiet_accepts))]
 pub fn step(table: &[u8], windows: &[u16], minute: u16, position: Position, word: u16) -> Stepped
-    ensures answer { step_figures position result ≡ quiet_stepped table.now windows.now minute position.layer position.state word }
+    ensures answer { step_figures result ≡ quiet_stepped table.now windows.now minute position.layer position.state word }
     ensures steps { QuietSteps table.now windows.now }
     ensures silence { AfterSilence table.now windows.now }
     ensures accepts { QuietAccepts table.now windows.now }
 {
-    check_head(table)?;
-    check_time(windows, minute)?;
+    if let Err(refusal) = check_head(table) {
+        return Err(Halted { refusal, position });
+    }
+    if let Err(refusal) = check_time(windows, minute) {
+        return Err(Halted { refusal, position });
+    }
     let moved = move_on(table, position, word)?;
     if is_quiet(windows, minute) {
         return Ok(Moved { output: 0, ..moved });
@@ -49,7 +53,7 @@ pub fn advance(
     position: &mut Position,
     word: u16,
 ) -> Stepped
-    ensures answer { step_figures position.old result ≡ quiet_stepped table.now windows.now minute position.old.layer position.old.state word }
+    ensures answer { step_figures result ≡ quiet_stepped table.now windows.now minute position.old.layer position.old.state word }
     ensures position { position.new ≡ position_of (quiet_stepped table.now windows.now minute position.old.layer position.old.state word) }
     ensures steps { QuietSteps table.now windows.now }
     ensures silence { AfterSilence table.now windows.now }

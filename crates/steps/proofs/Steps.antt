@@ -1,17 +1,16 @@
 -- Steps: of accepted tables, and what a step answers by its stages. Assumes nothing.
-use mathlib.Core.Path.{◌≡◌, refl, sym, ap, ◌∙◌}
+use mathlib.Core.Path.{◌≡◌, refl, ap, ◌∙◌}
 use mathlib.Core.List.{List, [], ◌∷◌, ◌++◌}
 use Prim.Native.Nat.{ℕ, suc, ◌+◌, ◌^◌, ◌≤◌, ◌<◌}
 use native.Mathlib.Nat.{zero-add}
 use native.Mathlib.Omega.{arith}
 use lib.ListN.{length}
 use borrow.Author.Tests.{le-ltb, lt-leb, ne_eqb}
-use Rattle.verdict.specs.Judgements.{Verdict, answer, refusal_figures, figures, and_then}
+use Rattle.verdict.specs.Judgements.{answer, refusal_figures, and_then}
 use Rattle.verdict.specs.declared.Figures.{Figures}
 use Rattle.verdict.specs.declared.Refusal.{Refusal}
-use Rattle.std.specs.Prelude.{Result, Ok, Err, IsErrAnd}
-use Rattle.std.proofs.lemmas.Result.{err_from_is_err_and}
-use Rattle.verdict.proofs.Laws.{never, refusal_number, stop, go_on}
+use Rattle.std.specs.Prelude.{Err}
+use Rattle.verdict.proofs.Laws.{never, refusal_number}
 use Rattle.sizes.specs.Sizes.{inputs, frames}
 use Rattle.layered.specs.States.{Words, none, more}
 use Rattle.layered.specs.Machines.{feed}
@@ -19,7 +18,7 @@ use Rattle.table.specs.Table.{states, machine, bad_next, checked}
 use Rattle.positions.specs.Positions.{place_checked, position_checked}
 use Rattle.positions.specs.declared.Position.{Position}
 use Rattle.steps.specs.Steps.{entry_checked, move_checked, step_checked, moved, handed_back, step_after, stepped, step_figures}
-use Rattle.steps.specs.declared.Moved.{Moved}
+use Rattle.steps.specs.declared.Halted.{Halted}
 use Rattle.steps.specs.declared.StepFigures.{StepFigures}
 use Rattle.layered.specs.Machines.{reached}
 use Rattle.steps.specs.Theorems.{steps_by, outputs_of, StepReaches, StepsFeed}
@@ -82,12 +81,8 @@ steps_feed b p e words r = walks b p e 0 0 (sound b p e).legal.start_is (omega a
 -- an answer by the stages of its judgement, of a step from a position
 module _ (b : List ℕ) (from : Position) (w : ℕ) where
   -- a stage that refuses, whatever comes after it: the position that was given is handed back
-  pub hands_back : (r : Refusal) (f g : Figures) → refusal_figures r ≡ f → step_figures from (Err r) ≡ step_after (and_then f g) b from.layer from.state w
+  pub hands_back : (r : Refusal) (f g : Figures) → refusal_figures r ≡ f → handed_back (refusal_figures r) from.layer from.state ≡ step_after (and_then f g) b from.layer from.state w
   hands_back r f g e = rw (← e, refusal_number r, refusal_number r)
-
-  pub stops : (x : Result Moved Refusal) (r : Refusal) (f g : Figures) → IsErrAnd x (λ y. y ≡ r) → refusal_figures r ≡ f
-      → step_figures from x ≡ step_after (and_then f g) b from.layer from.state w
-  stops x r f g h e = let p = err_from_is_err_and x h in ap (step_figures from) (p.1 ∙ ap Err p.2) ∙ hands_back r f g e
 
   -- after a stage that accepts, what comes after it answers
   pub goes_on : (f g : Figures) (p : ℕ) (y : StepFigures) → answer 0 p ≡ f → y ≡ step_after g b from.layer from.state w
@@ -95,5 +90,5 @@ module _ (b : List ℕ) (from : Position) (w : ℕ) where
   goes_on f g p y e h = rw (← e) h
 
 -- the answer x of a step that is accepted is no refusal
-pub not_refused : (b : List ℕ) (t s w : ℕ) (from : Position) (r : Refusal) → step_figures from (Err r) ≡ moved b t s w → ⊥
-not_refused b t s w from r e = never r 0 (ap (λ (f : StepFigures). answer f.number f.place) e)
+pub not_refused : (b : List ℕ) (t s w : ℕ) (h : Halted) → step_figures (Err h) ≡ moved b t s w → ⊥
+not_refused b t s w h e = never h.refusal 0 (ap (λ (f : StepFigures). answer f.number f.place) e)

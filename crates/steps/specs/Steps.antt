@@ -5,8 +5,8 @@ use Rattle.verdict.specs.declared.Figures.{Figures}
 use Rattle.positions.specs.Positions.{position_checked}
 use Rattle.positions.specs.declared.Position.{Position}
 use Rattle.table.specs.Table.{outputs_at, nexts_at, entry_at, machine, head_checked, bad_output, bad_next}
-use Rattle.verdict.specs.declared.Refusal.{Refusal}
 use Rattle.steps.specs.declared.Moved.{Moved}
+use Rattle.steps.specs.declared.Halted.{Halted}
 use Rattle.steps.specs.declared.StepFigures.{StepFigures}
 
 -- 5, of the one entry that is read, output before next
@@ -44,7 +44,7 @@ stepped b layer state word = step_after (step_checked b layer state word) b laye
 abbrev pub position_of : StepFigures → Position
 position_of f = record { layer = f.layer; state = f.state }
 
--- what document 01 gives each case of the answer to a step from a position
-abbrev pub step_figures : (given : Position) → Result Moved Refusal → StepFigures
-step_figures given (Ok m) = record { number = 0; place = 0; output = m.output; layer = m.position.layer; state = m.position.state }
-step_figures given (Err r) = handed_back (refusal_figures r) given.layer given.state
+-- what document 01 gives each case of a step's answer
+abbrev pub step_figures : Result Moved Halted → StepFigures
+step_figures (Ok m) = record { number = 0; place = 0; output = m.output; layer = m.position.layer; state = m.position.state }
+step_figures (Err h) = handed_back (refusal_figures h.refusal) h.position.layer h.position.state

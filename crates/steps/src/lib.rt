@@ -23,8 +23,23 @@ pub struct Moved {
     pub position: Position,
 }
 
+// A step that was refused: why, and the position that it was given, which it hands back.
+#[derive(Clone, Copy)]
+pub struct Halted {
+    pub refusal: Refusal,
+    pub position: Position,
+}
+
 // What a step answers.
-pub type Stepped = Result<Moved, Refusal>;
+pub type Stepped = Result<Moved, Halted>;
+
+impl From<Halted> for Refusal {
+    ghost from_gives = { λ halted refusal. refusal ≡ halted.refusal };
+
+    fn from(halted: Halted) -> Refusal {
+        halted.refusal
+    }
+}
 
 // Document 01's number and place, and the further values that a step returns.
 #[derive(Clone, Copy)]
@@ -36,11 +51,10 @@ pub struct StepFigures {
     pub state: usize,
 }
 
-impl StepFigures {
-    // Those of a step from a position, which a refusal hands back.
-    pub fn of(step: Stepped, position: Position) -> StepFigures
-        ensures { result ≡ step_figures position step }
-    {
+impl From<Stepped> for StepFigures {
+    ghost from_gives = { λ step figures. figures ≡ step_figures step };
+
+    fn from(step: Stepped) -> StepFigures {
         match step {
             Ok(moved) => StepFigures {
                 number: 0,
@@ -49,14 +63,14 @@ impl StepFigures {
                 layer: moved.position.layer,
                 state: moved.position.state,
             },
-            Err(refusal) => {
-                let Figures { number, place } = Figures::from(refusal);
+            Err(halted) => {
+                let Figures { number, place } = Figures::from(halted.refusal);
                 StepFigures {
                     number,
                     place,
                     output: 0,
-                    layer: position.layer,
-                    state: position.state,
+                    layer: halted.position.layer,
+                    state: halted.position.state,
                 }
             }
         }
@@ -68,7 +82,7 @@ fn read_entry(table: &[u8], layout: Layout, position: Position, word: usize) -> 
     requires table_headed { TableHeaded table.now }
     requires layout_value { layout ≡ layout_of table.now }
     requires layer_bound { (position.layer < frames table.now) × (position.state < states table.now position.layer) × (word < 2 ^ inputs table.now) }
-    ensures { step_figures position result ≡ step_after (entry_checked table.now position.layer position.state word) table.now position.layer position.state word }
+    ensures { step_figures result ≡ step_after (entry_checked table.now position.layer position.state word) table.now position.layer position.state word }
 {
     let layer = position.layer;
     let below = entries_below(table, layout.words, layer);
@@ -76,39 +90,46 @@ fn read_entry(table: &[u8], layout: Layout, position: Position, word: usize) -> 
     let output_at = layout.outputs + offset;
     let output = read(table, output_at);
     if is_stray(connected_of(table, layout.frames, layer), output) {
-        return Err(Refusal::Entry(output_at));
+        let refusal = Refusal::Entry(output_at);
+        return Err(Halted { refusal, position });
     }
     let next_at = layout.nexts + offset;
     let next = read(table, next_at);
-    if states_of(table, layer + 1) <= next {
-        return Err(Refusal::Entry(next_at));
+    let moved = Position {
+        layer: layer + 1,
+        state: next,
+    };
+    if states_of(table, moved.layer) <= next {
+        let refusal = Refusal::Entry(next_at);
+        return Err(Halted { refusal, position });
     }
     Ok(Moved {
         output: output as u16,
-        position: Position {
-            layer: layer + 1,
-            state: next,
-        },
+        position: moved,
     })
 }
 
 // The move of a step, in a table whose head is accepted: the position and the word, then the entry are judged.
 pub fn move_on(table: &[u8], position: Position, word: u16) -> Stepped
     requires { TableHeaded table.now }
-    ensures { step_figures position result ≡ step_after (move_checked table.now position.layer position.state word) table.now position.layer position.state word }
+    ensures { step_figures result ≡ step_after (move_checked table.now position.layer position.state word) table.now position.layer position.state word }
 {
     let layout = Layout::read(table);
-    check_position(table, layout, position, word as usize)?;
+    if let Err(refusal) = check_position(table, layout, position, word as usize) {
+        return Err(Halted { refusal, position });
+    }
     read_entry(table, layout, position, word as usize)
 }
 
 // One step: the head, then the move are judged.
 #[tactic(auto, using(crate::proofs::Steps::step_reaches, crate::proofs::Steps::steps_feed))]
 pub fn step(table: &[u8], position: Position, word: u16) -> Stepped
-    ensures answer { step_figures position result ≡ stepped table.now position.layer position.state word }
+    ensures answer { step_figures result ≡ stepped table.now position.layer position.state word }
     ensures reaches { StepReaches table.now }
     ensures feeds { StepsFeed table.now }
 {
-    check_head(table)?;
+    if let Err(refusal) = check_head(table) {
+        return Err(Halted { refusal, position });
+    }
     move_on(table, position, word)
 }

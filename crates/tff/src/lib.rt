@@ -125,7 +125,7 @@ pub extern "C" fn tff_step(table: &[u8], layer: u16, state: u16, word: u16, answ
         state: state as usize,
     };
     let step = steps::step(table, position, word);
-    put(&step_numbers(StepFigures::of(step, position)), answer);
+    put(&step_numbers(StepFigures::from(step)), answer);
 }
 
 #[unsafe(no_mangle)]
@@ -144,7 +144,7 @@ pub extern "C" fn tff_quiet_step(
         return;
     }
     let step = quiet::advance(table, windows, minute, position, word);
-    put(&quiet_numbers(StepFigures::of(step, *position)), answer);
+    put(&quiet_numbers(StepFigures::from(step)), answer);
 }
 
 #[unsafe(no_mangle)]

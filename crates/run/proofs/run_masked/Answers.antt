@@ -42,7 +42,7 @@ loop-t-init c =
 
 pub returns-in_err-moved : goal.returns-in_err-moved
 returns-in_err-moved c =
-    absurd (not_refused _ _ _ _ _ _ (step_moves c.args.table.now c.args.words.now c.requires.table_value c.requires.fed c.loop-t.t c.loop-t-test.true c.loop-t.position.layer c.loop-t.position.state _ c.in_err-moved.ensures.answer c.loop-t.invariant.2 c.loop-t.invariant.3))
+    absurd (not_refused _ _ _ _ _ (step_moves c.args.table.now c.args.words.now c.requires.table_value c.requires.fed c.loop-t.t c.loop-t-test.true c.loop-t.position.layer c.loop-t.position.state _ c.in_err-moved.ensures.answer c.loop-t.invariant.2 c.loop-t.invariant.3))
 
 pub loop-t-preserved : goal.loop-t-preserved
 loop-t-preserved c =
