@@ -3,7 +3,7 @@ use mathlib.Core.Path.{◌≡◌, sym, ap, ◌∙◌}
 use mathlib.Core.Logic.{⊎_elim}
 use mathlib.Core.List.{List}
 use Prim.Native.Nat.{ℕ, suc, ◌-◌, ◌/◌, ◌%◌, ◌^◌, ◌≤◌, ◌<◌}
-use native.Mathlib.Nat.{le_refl, le_trans, pow-zero, pow-suc, pow-le-pow_left, pow-le-pow_right, div-one, div-div-eq-div-mul, eq-or-lt_of_le}
+use native.Mathlib.Nat.{le_refl, le_trans, pow-suc, pow-le-pow_left, pow-le-pow_right, div-div-eq-div-mul, eq-or-lt_of_le}
 use native.Mathlib.Omega.{arith}
 use lib.ListN.{length, get_or, set}
 use lib.Seq.{get_or-set_same, get_or-set_other}

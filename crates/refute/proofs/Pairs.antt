@@ -3,12 +3,11 @@ use mathlib.Core.Path.{◌≡◌, refl, sym, ap, ◌∙◌, subst}
 use mathlib.Core.Bool.{Bool, true, false}
 use mathlib.Core.List.{List}
 use Prim.Native.Nat.{ℕ, suc, ◌+◌, ◌*◌, ◌-◌, ◌/◌, ◌%◌, ◌^◌, ◌≤◌, ◌<◌}
-use native.Mathlib.Nat.{mul-le-mul_left, div-lt_iff_lt-mul}
+use native.Mathlib.Nat.{mul-le-mul_left}
 use native.Mathlib.Numerals.{add-one}
 use native.Mathlib.Omega.{arith}
 use lib.Bits.{bit_and, and_lt, and_le_r}
 use lib.ListN.{get_or}
-use lib.Pow.{pow_pos}
 use Rattle.layered.proofs.Rows.{pow-mul}
 use Rattle.sizes.specs.Sizes.{outputs}
 use Rattle.circuit.specs.Lists.{bit}
@@ -27,6 +26,12 @@ pub history_small : (a : Sought) (bytes starts : List ℕ) → Held bytes starts
 history_small a bytes starts H t h l =
     let e : 2 ^ (a.inputs * (t + 1)) ≡ a.words ^ suc t = pow-mul 2 a.inputs (t + 1) ∙ ap (λ k. k ^ (t + 1)) (sym H.words_are) ∙ ap (λ j. a.words ^ j) (add-one t) in
     omega (arith, l, e)
+
+-- and its bits are few
+pub shift_few : (a : Sought) (bytes starts : List ℕ) → Held bytes starts a → (t : ℕ) → t < a.frames → a.inputs * (t + 1) ≤ 16
+shift_few a bytes starts H t l =
+    let b : t + 1 ≤ a.frames = omega arith in
+    omega (arith, mul-le-mul_left a.inputs b, few_bits a bytes starts H)
 
 module _ (a : Sought) (bytes starts chosen : List ℕ) (H : Held bytes starts a) (t g s h : ℕ) (lt : t < a.frames) (ls : s < a.frames)
     (lg : g < a.words ^ suc t) (lh : h < a.words ^ suc s) (x y : Visit)

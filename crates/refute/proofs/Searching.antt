@@ -92,11 +92,11 @@ module _ (B : Target) where
 -- what a decision tells in either case
 pub told_fits : (B : Target) (next : ℕ → ℕ) (L : ℕ) (r : Result (List ℕ) Refuted) → Decided B next L r → (ones : List ℕ) → r ≡ Ok ones
     → (length ones ≡ 12) × (Contradicted B next L → ⊥) × Ones B next L (λ e. get_or ones e 0)
-told_fits B next L r (told.Decided.refuted p e l C) ones q = absurd (cc)
+told_fits B next L r (told.Decided.refuted p e l C a) ones q = absurd (cc)
 told_fits B next L r (told.Decided.fits o e l N O) ones q = let s : o ≡ ones = cc in subst (λ x. (length x ≡ 12) × (Contradicted B next L → ⊥) × Ones B next L (λ e. get_or x e 0)) s (l, N, O)
 
 pub told_refuted : (B : Target) (next : ℕ → ℕ) (L : ℕ) (r : Result (List ℕ) Refuted) → Decided B next L r → (p : Refuted) → r ≡ Err p → (p.used ≤ L) × Contradicted B next p.used
-told_refuted B next L r (told.Decided.refuted p e l C) q h = let s : p ≡ q = cc in subst (λ x. (x.used ≤ L) × Contradicted B next x.used) s (l, C)
+told_refuted B next L r (told.Decided.refuted p e l C a) q h = let s : p ≡ q = cc in subst (λ x. (x.used ≤ L) × Contradicted B next x.used) s (l, C)
 told_refuted B next L r (told.Decided.fits o e l N O) q h = absurd (cc)
 
 -- trying all histories decides
@@ -109,7 +109,8 @@ decided_refuted B next L r (judged.Judged.refuted s e C) spot q = C
 decided_refuted B next L r (judged.Judged.fits o e l N O) spot q = absurd (cc)
 
 -- what is recalled is what two histories refute
-pub recalls : (B : Target) (next : ℕ → ℕ) (L : ℕ) (r : Option ℕ) (used at : ℕ) → Refuses B next L r → r ≡ Some used → Recalled B next L (Some (record { used = used; at = at }))
-recalls B next L r used at R q p e =
+pub recalls : (B : Target) (next : ℕ → ℕ) (L : ℕ) (r : Option ℕ) (used at : ℕ) → Refuses B next L r → r ≡ Some used → at < 64 → Recalled B next L (Some (record { used = used; at = at }))
+recalls B next L r used at R q b p e =
     let s : record { used = used; at = at } ≡ p = cc in
-    subst (λ (x : Refuted). (x.used ≤ L) × Contradicted B next x.used) s (R.by used q)
+    let c = R.by used q in
+    subst (λ (x : Refuted). (x.used ≤ L) × Contradicted B next x.used × (x.at < 64)) s (c.0, c.1, b)

@@ -13,13 +13,13 @@ Digits k L c r = (e : ℕ) → e < L → get_or r e 0 ≡ digit_of k L c e
 pub record Refuses (B : Target) (next : ℕ → ℕ) (L : ℕ) (r : Option ℕ) : Type 0 where
   pub by : (used : ℕ) → r ≡ Some used → (used ≤ L) × Contradicted B next used
 
--- the same of a refuted prefix
+-- the same of a refuted prefix, and of the place of a pair, of which there are 64
 abbrev pub Recalled : (B : Target) (next : ℕ → ℕ) (L : ℕ) (r : Option Refuted) → Type 0
-Recalled B next L r = (p : Refuted) → r ≡ Some p → (p.used ≤ L) × Contradicted B next p.used
+Recalled B next L r = (p : Refuted) → r ≡ Some p → (p.used ≤ L) × Contradicted B next p.used × (p.at < 64)
 
 -- a prefix is refuted, or nothing is contradicted, and r are the bits demanded 1
 pub data Decided (B : Target) (next : ℕ → ℕ) (L : ℕ) (r : Result (List ℕ) Refuted) : Type 0 where
-  refuted : (p : Refuted) → r ≡ Err p → p.used ≤ L → Contradicted B next p.used → Decided B next L r
+  refuted : (p : Refuted) → r ≡ Err p → p.used ≤ L → Contradicted B next p.used → p.at < 64 → Decided B next L r
   fits : (ones : List ℕ) → r ≡ Ok ones → length ones ≡ 12 → (Contradicted B next L → ⊥) → Ones B next L (λ e. get_or ones e 0) → Decided B next L r
 
 -- a search through the candidates of k states and L entries: the first that is not refuted, with the bits demanded 1, or all are refuted

@@ -155,7 +155,9 @@ fn mate(trial: Trial, spot: Spot) -> Option<Spot> {
 }
 
 // Stores the history that showed a contradiction with its mate, if one is found, the one that demands 1 first; answers the place of the pair.
-fn keep(trial: Trial, seen: &mut Seen, spot: Spot) -> usize {
+fn keep(trial: Trial, seen: &mut Seen, spot: Spot) -> usize
+    ensures { result < 64 }
+{
     let at = seen.next % Seen::PAIRS;
     if let Some(other) = mate(trial, spot) {
         let pair = if clash(trial, spot, other).is_some() {

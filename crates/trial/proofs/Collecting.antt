@@ -211,19 +211,19 @@ module _ (a : Sought) (bytes starts chosen : List ℕ) (H : Held bytes starts a)
 module _ (B : Target) (next : ℕ → ℕ) (L : ℕ) where
   pub clashed : (ones zeros : List ℕ) (t : ℕ) (r : Option ℕ) → Collected B next L ones zeros t r → (h : ℕ) → r ≡ Some h → Contradicted B next L
   clashed ones zeros t r (told.Collected.all e H) h q = absurd (cc)
-  clashed ones zeros t r (told.Collected.clash h C D) _ q = D
+  clashed ones zeros t r (told.Collected.clash h e b C) _ q = C
 
   pub gathered : (ones zeros : List ℕ) (t : ℕ) (r : Option ℕ) → Collected B next L ones zeros t r → r ≡ None → Halves B next L ones zeros (suc t) 0
   gathered ones zeros t r (told.Collected.all e H) q = H
-  gathered ones zeros t r (told.Collected.clash h e C) q = absurd (cc)
+  gathered ones zeros t r (told.Collected.clash h e b C) q = absurd (cc)
 
   pub walk_clashed : (ones zeros : List ℕ) (r : Option Spot) → Walked B next L ones zeros r → (spot : Spot) → r ≡ Some spot → Contradicted B next L
   walk_clashed ones zeros r (told.Walked.all e H) spot q = absurd (cc)
-  walk_clashed ones zeros r (told.Walked.clash s e C) spot q = C
+  walk_clashed ones zeros r (told.Walked.clash s e b C) spot q = C
 
   pub walk_gathered : (ones zeros : List ℕ) (r : Option Spot) → Walked B next L ones zeros r → r ≡ None → Halves B next L ones zeros B.T 0
   walk_gathered ones zeros r (told.Walked.all e H) q = H
-  walk_gathered ones zeros r (told.Walked.clash s e C) q = absurd (cc)
+  walk_gathered ones zeros r (told.Walked.clash s e b C) q = absurd (cc)
 
 module _ (a : Sought) (bytes starts chosen : List ℕ) (H : Held bytes starts a) (C : Candidate a chosen) where
   -- the histories of a frame are few

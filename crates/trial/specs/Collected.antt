@@ -25,12 +25,12 @@ module _ (B : Target) (next : ℕ → ℕ) (L : ℕ) where
   -- all histories of t + 1 words are collected, or one of them shows a contradiction
   pub data Collected (ones zeros : List ℕ) (t : ℕ) (r : Option ℕ) : Type 0 where
     all : r ≡ None → Halves ones zeros (suc t) 0 → Collected ones zeros t r
-    clash : (h : ℕ) → r ≡ Some h → Contradicted B next L → Collected ones zeros t r
+    clash : (h : ℕ) → r ≡ Some h → h < B.K ^ suc t → Contradicted B next L → Collected ones zeros t r
 
   -- all histories of all frames, or one shows a contradiction
   pub data Walked (ones zeros : List ℕ) (r : Option Spot) : Type 0 where
     all : r ≡ None → Halves ones zeros B.T 0 → Walked ones zeros r
-    clash : (spot : Spot) → r ≡ Some spot → Contradicted B next L → Walked ones zeros r
+    clash : (spot : Spot) → r ≡ Some spot → spot.frame < B.T → Contradicted B next L → Walked ones zeros r
 
   -- the candidate is refuted, or nothing is contradicted, and r are the bits demanded 1
   pub data Judged (r : Result (List ℕ) Spot) : Type 0 where

@@ -3,7 +3,7 @@
 use mathlib.Core.Path.{◌≡◌}
 use Prim.Native.Nat.{suc, ◌^◌, ◌<◌}
 use native.Mathlib.Omega.{arith}
-use Rattle.trial.proofs.Places.{few_frames, head_in}
+use Rattle.trial.proofs.Places.{head_in}
 use Rattle.refute.proofs.Pairs.{history_small, pair_clashes}
 use Rattle.refute.proofs.clash.Goals as goal
 use Rattle.refute.proofs.clash.Goals.{Else-not-is_history-2}

@@ -1,11 +1,8 @@
 -- `refute::search` meets its contract. The invariant: all candidates before c are refuted.
 -- Assumes nothing.
 use mathlib.Core.Path.{refl}
-use Prim.Native.Nat.{ℕ, ◌≤◌, ◌<◌}
+use Prim.Native.Nat.{◌≤◌}
 use native.Mathlib.Omega.{arith}
-use Rattle.merged.specs.Demands.{Contradicted, skipped}
-use Rattle.merged.specs.Merged.{digit_of}
-use Rattle.trial.specs.Tried.{target_of}
 use Rattle.refute.specs.Searched.{none}
 use Rattle.trial.proofs.Places.{few_entries}
 use Rattle.refute.proofs.Searching.{passed, ends, goes_on, digits_same, digits_chosen, told_fits, told_refuted}

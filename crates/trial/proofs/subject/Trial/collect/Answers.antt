@@ -67,7 +67,7 @@ bounds-zeros-e-in-loop-h c = (inside (goal.at.bounds-zeros-e-in-loop-h c).After-
 
 pub returns-then-one-zero-ne0 : goal.returns-then-one-zero-ne0
 returns-then-one-zero-ne0 c =
-    clash _ refl
+    clash _ refl (below (goal.at.returns-then-one-zero-ne0 c).After-come-visit)
     (turn_ends _ _ _ c.args.self.chosen.now c.args.self.held _ _ c.requires.t_lt_frames.0 (below (goal.at.returns-then-one-zero-ne0 c).After-come-visit) _ c.connected_of-mask.ensures.0 c.loop-h.ones c.loop-h.zeros
     c.loop-h.invariant.1 c.come-visit.result c.come-visit.ensures.comes c.come-visit.ensures.bounds (omega (arith, c.if-one-zero-ne0.true)))
 

@@ -1,8 +1,7 @@
 -- `trial::try_all` meets its contract.
 -- Assumes nothing.
-use mathlib.Core.Path.{◌≡◌, refl, ap, ◌∙◌}
-use Prim.Native.Nat.{ℕ}
-use lib.ListN.{length, length-replicate}
+use mathlib.Core.Path.{◌≡◌, refl}
+use lib.ListN.{length}
 use Rattle.trial.specs.Collected.{refuted}
 use Rattle.trial.proofs.Collecting.{none_both, judged, walk_clashed}
 use Rattle.trial.proofs.subject.Trial.try_all.Goals as goal

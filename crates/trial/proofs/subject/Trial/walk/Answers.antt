@@ -25,7 +25,7 @@ pub collect-requires : goal.collect-requires
 collect-requires c = record { t_lt_frames = (omega arith, counted (goal.at.collect-requires c).In-loop-t); halves = c.loop-t.invariant.2 }
 
 pub returns-in-Some : goal.returns-in-Some
-returns-in-Some c = clash _ refl (clashed _ _ _ _ _ _ _ c.collect.ensures _ c.in-Some.is)
+returns-in-Some c = clash _ refl (omega arith) (clashed _ _ _ _ _ _ _ c.collect.ensures _ c.in-Some.is)
 
 pub loop-t-preserved : goal.loop-t-preserved
 loop-t-preserved c = (
