@@ -1,13 +1,12 @@
 -- What is judged of a circuit whose states are counted. Assumes nothing.
-use mathlib.Core.Path.{◌≡◌, refl, sym, ap, ◌∙◌}
-use mathlib.Core.Bool.{Bool, ◌&&◌}
+use mathlib.Core.Path.{◌≡◌, sym, ap, ◌∙◌}
+use mathlib.Core.Bool.{false}
 use mathlib.Core.List.{List, [], ◌∷◌, ◌++◌}
 use Prim.Native.Nat.{ℕ}
 use native.Mathlib.Omega.{arith}
 use lib.ListN.{length, get_or, drop, length-append}
-use Rattle.std.proofs.Common.{nat_eq}
-use Rattle.std.specs.Cmp.Lexicographic.{pointwise}
 use Rattle.layered.specs.Search.{equal}
+use Rattle.layered.proofs.Search.{equal_false}
 use lib.Seq.{get_or-append_seam}
 use Rattle.sizes.specs.Sizes.{frames}
 use Rattle.table.specs.Table.{states}
@@ -27,10 +26,6 @@ bytes_are b plan e =
     sym (get_or-append_seam plan.counts plan.bytes [] 0) ∙ ap (λ (l : List ℕ). get_or l (length plan.counts) 0) d ∙ ap (λ (i : ℕ). get_or (c ++ (length t ∷ [])) i 0) n
     ∙ get_or-append_seam c (length t) [] 0
 
--- `==` of numbers is the test of equal lists
-pub same_test : (xs ys : List ℕ) → pointwise nat_eq xs ys ≡ equal xs ys
-unfolding equal
-same_test [] [] = refl
-same_test [] (y ∷ ys) = refl
-same_test (x ∷ xs) [] = refl
-same_test (x ∷ xs) (y ∷ ys) = ap (λ (t : Bool). nat_eq x y && t) (same_test xs ys)
+-- lists of two lengths are not equal
+pub other_length : (xs ys : List ℕ) → ¬ (length xs ≡ length ys) → false ≡ equal xs ys
+other_length xs ys n = sym (equal_false xs ys (λ e. n (ap length e)))

@@ -17,7 +17,7 @@ ghost use Rattle.distinguish.specs.Pairs.{PairOf};
 use positions::{Position, check_place};
 use table::head::{entries_below, states_of};
 use table::{Layout, check};
-use verdict::{Refusal, Verdict};
+use verdict::{Refusal, Verdict, and_then};
 use words::read;
 
 // Two states of a layer, and how many entries stand below the layer.
@@ -42,22 +42,23 @@ fn check_pair(table: &[u8], layout: Layout, layer: usize, first: usize, second: 
     requires { TableHeaded table.now × (layout ≡ layout_of table.now) }
     ensures { figures result ≡ pair_checked table.now layer first second }
 {
-    check_place(
+    let placed = check_place(
         table,
         layout,
         Position {
             layer,
             state: first,
         },
-    )?;
-    check_place(
+    );
+    let other = check_place(
         table,
         layout,
         Position {
             layer,
             state: second,
         },
-    )
+    );
+    and_then(placed, other)
 }
 
 // Where the entries of a state stand, in the array at `start`, with so many entries below its layer.

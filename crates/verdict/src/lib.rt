@@ -2,7 +2,7 @@
 #![tactic(auto)]
 
 ghost use Rattle.std.specs.Prelude.{◌≡◌};
-ghost use Rattle.verdict.specs.Judgements.{figures, refusal_figures};
+ghost use Rattle.verdict.specs.Judgements.{figures, refusal_figures, and_then};
 
 pub type Verdict = Result<usize, Refusal>;
 
@@ -77,5 +77,15 @@ impl From<Verdict> for Figures {
             Ok(place) => Figures { number: 0, place },
             Err(refusal) => Figures::from(refusal),
         }
+    }
+}
+
+// Two judgements one after the other: the first if it refuses, else the second.
+pub fn and_then(first: Verdict, next: Verdict) -> Verdict
+    ensures { figures result ≡ and_then (figures first) (figures next) }
+{
+    match first {
+        Ok(_) => next,
+        Err(_) => first,
     }
 }
