@@ -100,7 +100,7 @@ module _ (b s : List ℕ) (ys : List Node) where
 
   -- and where it accepts: s₁ is the scratch after it
   module _ (p : ℕ) (judged : answer 0 p ≡ scratch_checked b (length s)) where
-    judged_passed : scratch_checked b (length s) ≡ answer 0 0
+    pub judged_passed : scratch_checked b (length s) ≡ answer 0 0
     judged_passed = scratch_passed b (length s) (ap (λ (f : Figures). eqb f.number 0) (sym judged))
 
     pub headed_all : Formed b

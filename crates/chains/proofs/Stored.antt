@@ -14,7 +14,8 @@ use Rattle.circuit.specs.Lists.{listed}
 use Rattle.unfolded.specs.Unfolded.{chain, last_of, chains_from, ending}
 use Rattle.circuit.proofs.Lists.{listed_length, listed_more}
 use Rattle.unfolded.proofs.Gates.{chain_length, chains_more}
-use Rattle.chains.specs.Chains.{gates_stored, end_of}
+use Rattle.chains.specs.Chains.{Fits, gates_stored, end_of}
+use Rattle.chains.specs.declared.Target.{Target}
 
 -- ---- gates
 
@@ -27,6 +28,30 @@ rights gs = map (λ g. g.1) gs
 pub gates_none : (G k : ℕ) (v : List ℕ) → gates_stored G k v [] ≡ v
 unfolding gates_stored
 gates_none G k v = stored_none 2 _ _ ∙ stored_none 2 v _
+
+-- the result is as long as before
+pub gates_length : (G k : ℕ) (v : List ℕ) (gs : List (ℕ × ℕ)) → k + length gs ≤ G → 8 + 4 * G ≤ length v → length (gates_stored G k v gs) ≡ length v
+unfolding gates_stored
+gates_length G k v gs h room =
+    let l : length (lefts gs) ≡ length gs = length-map gs (λ g. g.0) in
+    let r : length (rights gs) ≡ length gs = length-map gs (λ g. g.1) in
+    let e : length (stored 2 v (8 + 2 * k) (lefts gs)) ≡ length v = stored_length 2 v (8 + 2 * k) (lefts gs) (omega arith) in
+    stored_length 2 _ (8 + 2 * (G + k)) (rights gs) (omega arith) ∙ e
+
+-- so there is room for what is to come
+pub fits_still : (target : Target) (v w : List ℕ) (k : ℕ) (gs : List (ℕ × ℕ)) → Fits target v → w ≡ gates_stored target.gates k v gs → k + length gs ≤ target.gates
+    → Fits target w
+fits_still target v w k gs F e h =
+    let l : length w ≡ length v = ap length e ∙ gates_length target.gates k v gs h F.room in
+    record {
+      inputs_from = F.inputs_from;
+      inputs_to = F.inputs_to;
+      words_are = F.words_are;
+      outputs_to = F.outputs_to;
+      base_to = F.base_to;
+      gates_to = F.gates_to;
+      room = omega (arith, F.room);
+    }
 
 -- more gates behind those that were stored
 pub gates_append : (G k : ℕ) (v : List ℕ) (gs hs : List (ℕ × ℕ)) (j : ℕ) → j ≡ k + length gs → j + length hs ≤ G → 8 + 4 * G ≤ length v

@@ -208,7 +208,7 @@ module _ (b : List ℕ) where
   unfolding drawing with_frame
   frame_ends t = length-append (drawing b t).gates _
 
-  gates_mono : (t u : ℕ) → t ≤ u → length (drawing b t).gates ≤ length (drawing b u).gates
+  pub gates_mono : (t u : ℕ) → t ≤ u → length (drawing b t).gates ≤ length (drawing b u).gates
   gates_mono t u h = le_ind (λ u. length (drawing b t).gates ≤ length (drawing b u).gates) (le_refl _) (λ u _ p. omega (arith, frame_ends u)) u h
 
   -- the gates of a frame are among all

@@ -51,6 +51,12 @@ joined_lacking R D E l x y at n d e (Making.there b i j k) = absurd (omega arith
 joined_lacking R D E l x y at n d e (Making.free b z a P) = absurd (omega arith)
 joined_lacking R D E l x y at n d e (Making.no_room z f a) = Making.lacking n d refl f a
 
+-- what is found lies inside
+pub sought_inside : (R : ℕ) (D : Nodes) (l x y at : ℕ) → at ≢ R → Sought R D l x y at → at < R
+sought_inside R D l x y at n (Making.there b i j k) = b
+sought_inside R D l x y at n (Making.free b z a P) = b
+sought_inside R D l x y at n (Making.no_room z f a) = absurd (n z)
+
 -- ---- the search by ids
 
 -- the id after a place is that of the next place

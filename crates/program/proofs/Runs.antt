@@ -41,7 +41,7 @@ module _ (b : List ℕ) (w : ℕ) (e : answer 0 w ≡ fold_checked b scratch_len
   unfolding program_lines
   accepted_lines = rw (← e)
 
-  fits : w ≤ result_lent
+  pub fits : w ≤ result_lent
   fits = let a = accepted b scratch_lent nodes_lent result_lent w (sym e) in omega (arith, a.place_is, a.room_enough)
 
   -- it is within the result

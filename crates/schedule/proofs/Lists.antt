@@ -48,7 +48,7 @@ repeated_is list k h =
 -- ---- two lists, joined
 
 -- the index of the first found in either
-abbrev joined_at : (a : ℕ) (p : ℕ → Bool) (c : ℕ) (q : ℕ → Bool) → ℕ
+abbrev pub joined_at : (a : ℕ) (p : ℕ → Bool) (c : ℕ) (q : ℕ → Bool) → ℕ
 joined_at a p c q = cond (ltb (least a p) a) (least a p) (a + least c q)
 
 -- what is found in the first, in the second, or in neither
@@ -86,7 +86,7 @@ module _ (test : ℕ → Bool) (a : ℕ) (p : ℕ → Bool) (c : ℕ) (q : ℕ �
           (below_or i a)
 
   -- so it is judged
-  joined_judged : (number : ℕ) → refuse_first test number (λ k. k) (answer 0 0) 0 (a + c) ≡ cond (ltb (joined_at a p c q) (a + c)) (answer number (joined_at a p c q)) (answer 0 0)
+  pub joined_judged : (number : ℕ) → refuse_first test number (λ k. k) (answer 0 0) 0 (a + c) ≡ cond (ltb (joined_at a p c q) (a + c)) (answer number (joined_at a p c q)) (answer 0 0)
   joined_judged number = subst (λ k. refuse_first test number (λ k. k) (answer 0 0) 0 (a + c) ≡ cond (ltb k (a + c)) (answer number k) (answer 0 0)) joined_least (go (ltb (least (a + c) test) (a + c)) refl)
     where
       go : (t : Bool) → ltb (least (a + c) test) (a + c) ≡ t → refuse_first test number (λ k. k) (answer 0 0) 0 (a + c) ≡ cond t (answer number (least (a + c) test)) (answer 0 0)
@@ -100,10 +100,10 @@ module _ (c : List ℕ) (n m T : ℕ) (ins outs : List ℕ) where
   abbrev d : ℕ
   d = length outs
 
-  abbrev outside_at : ℕ
+  abbrev pub outside_at : ℕ
   outside_at = joined_at a (λ k. leb (n * T) (get_or ins k 0)) d (λ k. leb (m * T) (get_or outs k 0))
 
-  abbrev taken_at : ℕ
+  abbrev pub taken_at : ℕ
   taken_at = joined_at a (is_repeated ins) d (is_repeated outs)
 
   outside_judged : refuse_first (is_outside n m T ins outs) 19 (λ k. k) (answer 0 0) 0 (a + d) ≡ cond (ltb outside_at (a + d)) (answer 19 outside_at) (answer 0 0)
