@@ -9,7 +9,8 @@ use borrow.Author.Tests.{le-ltb, lt-leb, ne_eqb}
 use Rattle.verdict.specs.Judgements.{answer, refusal_figures, and_then}
 use Rattle.verdict.specs.declared.Figures.{Figures}
 use Rattle.verdict.specs.declared.Refusal.{Refusal}
-use Rattle.std.specs.Prelude.{Err}
+use Rattle.std.specs.Prelude.{Result, Err, IsErrAnd}
+use Rattle.std.proofs.lemmas.Result.{err_from_is_err_and}
 use Rattle.verdict.proofs.Laws.{never, refusal_number}
 use Rattle.sizes.specs.Sizes.{inputs, frames}
 use Rattle.layered.specs.States.{Words, none, more}
@@ -18,6 +19,7 @@ use Rattle.table.specs.Table.{states, machine, bad_next, checked}
 use Rattle.positions.specs.Positions.{place_checked, position_checked}
 use Rattle.positions.specs.declared.Position.{Position}
 use Rattle.steps.specs.Steps.{entry_checked, move_checked, step_checked, moved, handed_back, step_after, stepped, step_figures}
+use Rattle.steps.specs.declared.Moved.{Moved}
 use Rattle.steps.specs.declared.Halted.{Halted}
 use Rattle.steps.specs.declared.StepFigures.{StepFigures}
 use Rattle.layered.specs.Machines.{reached}
@@ -83,6 +85,11 @@ module _ (b : List ℕ) (from : Position) (w : ℕ) where
   -- a stage that refuses, whatever comes after it: the position that was given is handed back
   pub hands_back : (r : Refusal) (f g : Figures) → refusal_figures r ≡ f → handed_back (refusal_figures r) from.layer from.state ≡ step_after (and_then f g) b from.layer from.state w
   hands_back r f g e = rw (← e, refusal_number r, refusal_number r)
+
+  -- and what `?` passes on is that refusal
+  pub stops : (x : Result Moved Halted) (r : Refusal) (f g : Figures) → IsErrAnd x (λ y. y ≡ record { refusal = r; position = from }) → refusal_figures r ≡ f
+      → step_figures x ≡ step_after (and_then f g) b from.layer from.state w
+  stops x r f g h e = let p = err_from_is_err_and x h in ap step_figures (p.1 ∙ ap Err p.2) ∙ hands_back r f g e
 
   -- after a stage that accepts, what comes after it answers
   pub goes_on : (f g : Figures) (p : ℕ) (y : StepFigures) → answer 0 p ≡ f → y ≡ step_after g b from.layer from.state w
